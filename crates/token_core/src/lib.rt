@@ -6,6 +6,8 @@
 mod clone;
 mod ident;
 mod span;
+#[cfg(test)]
+mod tests;
 mod tree;
 
 pub use base_core::{Boxed, Items, Mem, Text, TryClone};
