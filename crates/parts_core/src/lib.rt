@@ -1,0 +1,106 @@
+// The division of an input into its parts.
+#![tactic(auto)]
+
+ghost use Rattle.std.specs.Prelude.{◌≡◌, ◌≢◌, ◌≤◌, ◌⊎◌, ◌↔◌, List, ℕ, length, IsTrue, IsSome, IfSome, IfNone, IsOk, IfOk, IfErr};
+ghost use Rattle.std.specs.List.{All};
+ghost use Rattle.std.specs.Str.{IsUtf8};
+ghost use Rattle.std.specs.Str.Lossy.{utf8_valid_len};
+ghost use Rattle.parts_core.specs.Parts.{HasDivider, IsDividedAt, IsDivision, is_divider, divider_count, parts_of, texts_of};
+
+/// The parts of an input, which the lines `%%` divide.
+#[derive(Clone, Copy, Debug, PartialEq, Eq)]
+pub struct Parts<'a> {
+    pub declarations: &'a str,
+    pub subjects: &'a str,
+    pub table: Option<&'a str>,
+}
+
+/// Bytes that are not UTF-8.
+#[derive(Clone, Copy, Debug, PartialEq, Eq)]
+pub struct NotText {
+    /// How many bytes stand before the first that is at fault.
+    pub at: usize,
+}
+
+/// The bytes as a text.
+pub fn as_text(bytes: &[u8]) -> Result<&str, NotText>
+    ensures same { IfOk result (λ text. text.now ≡ bytes.now) }
+    ensures ok { IsOk result ↔ IsUtf8 bytes.now }
+    ensures at { IfErr result (λ fault. fault.at ≡ utf8_valid_len bytes.now) }
+{
+    str::from_utf8(bytes).map_err(|fault| NotText {
+        at: fault.valid_up_to(),
+    })
+}
+
+/// Divides a text into its parts. `None` where it has no divider, or more than two.
+pub fn divide(text: &str) -> Option<Parts<'_>>
+    ensures some { IsSome result ↔ ((divider_count text.now ≡ 1) ⊎ (divider_count text.now ≡ 2)) }
+
+    ensures division { IfSome result (λ parts. IsDivision text.now (texts_of parts)) }
+    ensures only { IfSome result (λ parts. (others : List (List ℕ)) → IsDivision text.now others → others ≡ texts_of parts) }
+    ensures value { IfSome result (λ parts. texts_of parts ≡ parts_of text.now) }
+    ensures none { IfNone result ((others : List (List ℕ)) → IsDivision text.now others → (length others ≢ 2) × (length others ≢ 3)) }
+
+    ensures within { IfSome result (λ parts. All (λ part. length part ≤ length text.now) (texts_of parts)) }
+    ensures utf8 { IfSome result (λ parts. All IsUtf8 (texts_of parts)) }
+{
+    let (declarations, rest) = split_at_divider(text)?;
+    let Some((subjects, table)) = split_at_divider(rest) else {
+        return Some(Parts {
+            declarations,
+            subjects: rest,
+            table: None,
+        });
+    };
+    match split_at_divider(table) {
+        None => Some(Parts {
+            declarations,
+            subjects,
+            table: Some(table),
+        }),
+        Some(_) => None,
+    }
+}
+
+// What stands before the first divider of the text, and what stands behind it.
+fn split_at_divider(text: &str) -> Option<(&str, &str)>
+    ensures none { IfNone result (¬ HasDivider text.now) }
+    ensures divided { IfSome result (λ parts. (divider : List ℕ) × IsDividedAt text.now parts.0.now divider parts.1.now) }
+    ensures first { IfSome result (λ parts. ¬ HasDivider parts.0.now) }
+{
+    let mut start = 0;
+    for line in text.split_inclusive('\n') {
+        let end = start + line.len();
+        if is_divider(line) {
+            return Some((&text[..start], &text[end..]));
+        }
+        start = end;
+    }
+    None
+}
+
+fn is_divider(line: &str) -> bool
+    ensures { result ≡ is_divider line.now }
+{
+    matches!(line, "%%\n" | "%%")
+}
+
+#[cfg(test)]
+mod tests {
+    use super::*;
+
+    // Texts, and their parts with `|` between them, or `-` where there are none.
+    const DIVISIONS: [(&str, Option<(&str, &str, Option<&str>)>); 2] = [
+        ("", None),
+        ("%%", Some(("", "", None))),
+    ];
+
+    #[test]
+    fn divides(rt: HostRuntime) {
+        for (text, parts) in DIVISIONS {
+            let divided = divide(text).map(|p| (p.declarations, p.subjects, p.table));
+            assert_eq!(rt; divided, parts);
+        }
+    }
+}
