@@ -1,15 +1,15 @@
 -- A text has one division into parts, and `parts_of` gives it.
-use Rattle.std.proofs.Common.{◌≡◌, ℕ, ◌+◌, ◌<◌, Bool, true, false, ◌||◌, eqb, ◌⊎◌, inl, inr, List, [], ◌∷◌, ◌++◌, length, map, count_by, codes, refl, sym, ap, ◌∙◌, subst, arith}
+use Rattle.std.proofs.Common.{◌≡◌, ℕ, zero, suc, ◌+◌, ◌<◌, ◌≤◌, Bool, true, false, ◌||◌, eqb, ◌⊎◌, inl, inr, List, [], ◌∷◌, ◌++◌, length, map, count_by, codes, refl, sym, ap, ◌∙◌, subst, arith}
 use Rattle.std.specs.List.{All, concat, list_any, slice_split}
 use Rattle.std.specs.Str.{bytes_eq}
 use Rattle.std.proofs.lemmas.Bool.{false≢true}
-use Rattle.std.proofs.lemmas.List.{append-nil, append_assoc, length-map}
-use Rattle.std.proofs.lemmas.List.Elements.{All-nil, All-cons, All-head, All-tail, All-append}
+use Rattle.std.proofs.lemmas.List.{append-nil, append_assoc, length-map, length-append}
+use Rattle.std.proofs.lemmas.List.Elements.{All-nil, All-cons, All-head, All-tail, All-weaker}
 use Rattle.std.proofs.lemmas.List.Splits.{slice_split_at, slice_split_none, length-slice_split}
 use Rattle.std.proofs.lemmas.List.Sums.{sum_by-append, sum_by-cons}
 use Rattle.std.proofs.lemmas.Slice.Eq.{bytes_eq-Decides}
 use Rattle.parts_core.specs.Parts.{line_feed, EndsLine, IsDividerBefore, IsDividedAt, HasDivider, IsDivision, undivided, divided, lines_of, is_divider, divider_count, parts_of}
-use Rattle.parts_core.proofs.Lines.{LacksLineFeed, IsLines, none, last, more, IsLines-lines_of, lines_of-append, concat-lines_of, EndsLine-append}
+use Rattle.parts_core.proofs.Lines.{LacksLineFeed, IsLines, none, last, more, IsLines-lines_of, lines_of-append, lines_of-push, concat-lines_of, EndsLine-append}
 
 -- no line of the text is a divider
 abbrev pub LacksDivider : List ℕ → Type 0
@@ -53,7 +53,7 @@ not_HasDivider text lacks (before, divider, after, at) =
     let not_divider = All-head P divider (lines_of after) (All-append_right P (lines_of before) (divider ∷ lines_of after) all) in
     false≢true (sym not_divider ∙ is_divider_true divider after at.divides)
 
--- ---- where no divider stands in the text, no line is one
+-- ---- the first divider of a text
 
 lacks_line_feed_end : (xs : List ℕ) → LacksLineFeed (xs ++ line_feed ∷ []) → ⊥
 lacks_line_feed_end [] h = false≢true (sym h.0)
@@ -63,49 +63,56 @@ lacks_line_feed_end (b ∷ xs) h = lacks_line_feed_end xs h.1
 pub bare_divider_has_no_end : (xs : List ℕ) → xs ++ line_feed ∷ [] ≡ codes "%%" → ⊥
 bare_divider_has_no_end xs e = lacks_line_feed_end xs (subst LacksLineFeed (sym e) (refl, (refl, tt)))
 
--- a line behind whole lines
-IsDividedAt-behind : (line rest before divider after : List ℕ) → EndsLine line → IsDividedAt rest before divider after → IsDividedAt (line ++ rest) (line ++ before) divider after
-IsDividedAt-behind line rest before divider after ends at = record {
-  whole = ap (λ z. line ++ z) at.whole ∙ sym (append_assoc line before (divider ++ after));
-  begins_line = EndsLine-append line before ends at.begins_line;
-  divides = at.divides;
-}
+-- the text has a divider, and none in front of that
+abbrev pub HasFirstDivider : List ℕ → Type 0
+HasFirstDivider text = (before divider after : List ℕ) × IsDividedAt text before divider after × LacksDivider before
 
 or_false : (a : Bool) → (a || false) ≡ true → a ≡ true
 or_false true h = refl
 or_false false h = h
 
-HasDivider-last : (line : List ℕ) → LacksLineFeed line → (line ≡ codes "%%\n") ⊎ (line ≡ codes "%%") → HasDivider line
-HasDivider-last line lacks (inl e) = absurd (lacks_line_feed_end (codes "%%") (subst LacksLineFeed e lacks))
-HasDivider-last line lacks (inr e) = ([], line, [], record { whole = sym (append-nil line); begins_line = inl refl; divides = inr (e, refl) })
-
-push-append : (line rest : List ℕ) → line ++ line_feed ∷ rest ≡ (line ++ line_feed ∷ []) ++ rest
-push-append line rest = sym (append_assoc line (line_feed ∷ []) rest)
-
-HasDivider-first : (line rest : List ℕ) → (line ++ line_feed ∷ [] ≡ codes "%%\n") ⊎ (line ++ line_feed ∷ [] ≡ codes "%%") → HasDivider (line ++ line_feed ∷ rest)
-HasDivider-first line rest (inl e) = ([], line ++ line_feed ∷ [], rest, record { whole = push-append line rest; begins_line = inl refl; divides = inl e })
-HasDivider-first line rest (inr e) = absurd (bare_divider_has_no_end line e)
-
-HasDivider-behind : (line rest : List ℕ) → HasDivider rest → HasDivider (line ++ line_feed ∷ rest)
-HasDivider-behind line rest (before, divider, after, at) =
-    let whole_line = line ++ line_feed ∷ [] in
-    let behind = IsDividedAt-behind whole_line rest before divider after (inr (line, refl)) at in
-    (whole_line ++ before, divider, after, subst (λ z. IsDividedAt z (whole_line ++ before) divider after) (sym (push-append line rest)) behind)
-
--- the first of the lines, or one behind it, is a divider
-HasDivider-from_lines : (text : List ℕ) (lines : List (List ℕ)) → IsLines text lines → list_any is_divider lines ≡ true → HasDivider text
-HasDivider-from_lines text lines none h = absurd (false≢true h)
-HasDivider-from_lines text lines (last b bs lacks) h = HasDivider-last (b ∷ bs) lacks (is_divider_cases (b ∷ bs) (or_false (is_divider (b ∷ bs)) h))
-HasDivider-from_lines text lines (more line rest others lacks r) h =
-    elim (or_true (is_divider (line ++ line_feed ∷ [])) (list_any is_divider others) h)
-    [ inl e ↦ HasDivider-first line rest (is_divider_cases (line ++ line_feed ∷ []) e)
-    | inr e ↦ HasDivider-behind line rest (HasDivider-from_lines rest others r e) ]
-
 bool_cases : (b : Bool) → (b ≡ true) ⊎ (b ≡ false)
 bool_cases true = inl refl
 bool_cases false = inr refl
 
--- the lines are none of them dividers, or some line is one
+HasFirstDivider-last : (line : List ℕ) → LacksLineFeed line → (line ≡ codes "%%\n") ⊎ (line ≡ codes "%%") → HasFirstDivider line
+HasFirstDivider-last line lacks (inl e) = absurd (lacks_line_feed_end (codes "%%") (subst LacksLineFeed e lacks))
+HasFirstDivider-last line lacks (inr e) =
+    ([], line, [], record { whole = sym (append-nil line); begins_line = inl refl; divides = inr (e, refl) }, All-nil (λ line. is_divider line ≡ false))
+
+push-append : (line rest : List ℕ) → line ++ line_feed ∷ rest ≡ (line ++ line_feed ∷ []) ++ rest
+push-append line rest = sym (append_assoc line (line_feed ∷ []) rest)
+
+HasFirstDivider-first : (line rest : List ℕ) → (line ++ line_feed ∷ [] ≡ codes "%%\n") ⊎ (line ++ line_feed ∷ [] ≡ codes "%%") → HasFirstDivider (line ++ line_feed ∷ rest)
+HasFirstDivider-first line rest (inl e) =
+    ([], line ++ line_feed ∷ [], rest, record { whole = push-append line rest; begins_line = inl refl; divides = inl e }, All-nil (λ line. is_divider line ≡ false))
+HasFirstDivider-first line rest (inr e) = absurd (bare_divider_has_no_end line e)
+
+-- a line behind which the text has its first divider
+HasFirstDivider-behind : (line rest : List ℕ) → LacksLineFeed line → is_divider (line ++ line_feed ∷ []) ≡ false → HasFirstDivider rest → HasFirstDivider (line ++ line_feed ∷ rest)
+HasFirstDivider-behind line rest feedless other (before, divider, after, at, lacks) =
+    let P : List ℕ → Type 0 = λ line. is_divider line ≡ false in
+    let whole_line = line ++ line_feed ∷ [] in
+    let ends : EndsLine whole_line = inr (line, refl) in
+    let lines : lines_of (whole_line ++ before) ≡ whole_line ∷ lines_of before =
+        lines_of-append whole_line before ends ∙ ap (λ z. z ++ lines_of before) (lines_of-push line feedless) in
+    (whole_line ++ before, divider, after,
+     record {
+       whole = push-append line rest ∙ (ap (λ z. whole_line ++ z) at.whole ∙ sym (append_assoc whole_line before (divider ++ after)));
+       begins_line = EndsLine-append whole_line before ends at.begins_line;
+       divides = at.divides;
+     },
+     subst (All P) (sym lines) (All-cons P whole_line (lines_of before) other lacks))
+
+HasFirstDivider-from_lines : (text : List ℕ) (lines : List (List ℕ)) → IsLines text lines → list_any is_divider lines ≡ true → HasFirstDivider text
+HasFirstDivider-from_lines text lines none h = absurd (false≢true h)
+HasFirstDivider-from_lines text lines (last b bs feedless) h = HasFirstDivider-last (b ∷ bs) feedless (is_divider_cases (b ∷ bs) (or_false (is_divider (b ∷ bs)) h))
+HasFirstDivider-from_lines text lines (more line rest others feedless r) h =
+    elim (bool_cases (is_divider (line ++ line_feed ∷ [])))
+    [ inl e ↦ HasFirstDivider-first line rest (is_divider_cases (line ++ line_feed ∷ []) e)
+    | inr e ↦ HasFirstDivider-behind line rest feedless e (HasFirstDivider-from_lines rest others r (sym (ap (λ t. t || list_any is_divider others) e) ∙ h)) ]
+
+-- no line is a divider, or some line is
 all_or_any : (lines : List (List ℕ)) → All (λ line. is_divider line ≡ false) lines ⊎ (list_any is_divider lines ≡ true)
 all_or_any [] = inl (All-nil (λ line. is_divider line ≡ false))
 all_or_any (line ∷ lines) =
@@ -115,10 +122,15 @@ all_or_any (line ∷ lines) =
       [ inl all ↦ inl (All-cons (λ line. is_divider line ≡ false) line lines e all)
       | inr any ↦ inr (ap (λ t. t || list_any is_divider lines) e ∙ any) ] ]
 
+LacksDivider_or_HasFirstDivider : (text : List ℕ) → LacksDivider text ⊎ HasFirstDivider text
+LacksDivider_or_HasFirstDivider text =
+    elim (all_or_any (lines_of text))
+    [ inl lacks ↦ inl lacks | inr any ↦ inr (HasFirstDivider-from_lines text (lines_of text) (IsLines-lines_of text) any) ]
+
 pub LacksDivider-from_not : (text : List ℕ) → ¬ HasDivider text → LacksDivider text
 LacksDivider-from_not text not_has =
-    elim (all_or_any (lines_of text))
-    [ inl lacks ↦ lacks | inr any ↦ absurd (not_has (HasDivider-from_lines text (lines_of text) (IsLines-lines_of text) any)) ]
+    elim (LacksDivider_or_HasFirstDivider text)
+    [ inl lacks ↦ lacks | inr (before, divider, after, at, _) ↦ absurd (not_has (before, divider, after, at)) ]
 
 -- ---- the parts
 
@@ -146,3 +158,74 @@ IsDivision-unique text xs ys h k = parts_of-IsDivision text xs h ∙ sym (parts_
 -- a text has one part more than dividers
 pub length-parts_of : (text : List ℕ) → length (parts_of text) ≡ divider_count text + 1
 length-parts_of text = length-map (slice_split is_divider (lines_of text)) concat ∙ length-slice_split is_divider (lines_of text)
+
+divider_count_undivided : (text : List ℕ) → LacksDivider text → divider_count text ≡ 0
+divider_count_undivided text lacks = omega (arith, length-parts_of text, ap length (parts_of_undivided text lacks))
+
+pub divider_count_divided : (text first divider rest : List ℕ) → IsDividedAt text first divider rest → ¬ HasDivider first → divider_count text ≡ divider_count rest + 1
+divider_count_divided text first divider rest at not_has =
+    omega (arith, length-parts_of text, length-parts_of rest, ap length (parts_of_divided text first divider rest at not_has))
+
+IsDivision-parts_of_below : (n : ℕ) (text : List ℕ) → divider_count text < n → IsDivision text (parts_of text)
+IsDivision-parts_of_below zero text few = absurd (omega arith)
+IsDivision-parts_of_below (suc n) text few =
+    elim (LacksDivider_or_HasFirstDivider text)
+    [ inl lacks ↦ subst (IsDivision text) (sym (parts_of_undivided text lacks)) (undivided (not_HasDivider text lacks))
+    | inr (before, divider, after, at, lacks) ↦
+      let not_has = not_HasDivider before lacks in
+      let fewer : divider_count after < n = omega (arith, divider_count_divided text before divider after at not_has) in
+      subst (IsDivision text) (sym (parts_of_divided text before divider after at not_has)) (divided at not_has (IsDivision-parts_of_below n after fewer)) ]
+
+-- each text has a division
+pub IsDivision-parts_of : (text : List ℕ) → IsDivision text (parts_of text)
+IsDivision-parts_of text = IsDivision-parts_of_below (suc (divider_count text)) text (omega arith)
+
+-- no part is longer than the text
+pub length-part-le : (text : List ℕ) (parts : List (List ℕ)) → IsDivision text parts → All (λ part. length part ≤ length text) parts
+length-part-le text parts (undivided not_has) = All-cons (λ part. length part ≤ length text) text [] (omega arith) (All-nil (λ part. length part ≤ length text))
+length-part-le text parts (divided {first = first} {divider = divider} {rest = rest} {parts = others} at not_has r) =
+    let sizes : length text ≡ length first + (length divider + length rest) =
+        ap length at.whole ∙ (length-append first (divider ++ rest) ∙ ap (λ n. length first + n) (length-append divider rest)) in
+    All-cons (λ part. length part ≤ length text) first others (omega arith)
+      (All-weaker (λ part. length part ≤ length rest) (λ part. length part ≤ length text) (λ part h. omega arith) others (length-part-le rest others r))
+
+-- ---- what `divide` says of each text
+
+pub ruleset one_division = (IsDivision-parts_of, parts_of-IsDivision)
+
+-- a division has one part more than the text has dividers
+pub length-IsDivision : (text : List ℕ) (parts : List (List ℕ)) → IsDivision text parts → length parts ≡ divider_count text + 1
+length-IsDivision text parts h = ap length (parts_of-IsDivision text parts h) ∙ length-parts_of text
+
+-- with no divider, or three and more, the text has no division into two or three parts
+pub length-IsDivision-other : (text : List ℕ) → ¬ ((divider_count text ≡ 1) ⊎ (divider_count text ≡ 2)) → (parts : List (List ℕ)) → IsDivision text parts → (length parts ≡ 2 → ⊥) × (length parts ≡ 3 → ⊥)
+length-IsDivision-other text other parts h =
+    let size = length-IsDivision text parts h in
+    (λ two. other (inl (omega arith)), λ three. other (inr (omega arith)))
+
+pub All-two : {X : Type 0} (P : X → Type 0) (x y : X) → P x → P y → All P (x ∷ y ∷ [])
+All-two P x y h k = All-cons P x (y ∷ []) h (All-cons P y [] k (All-nil P))
+
+pub All-three : {X : Type 0} (P : X → Type 0) (x y z : X) → P x → P y → P z → All P (x ∷ y ∷ z ∷ [])
+All-three P x y z h k l = All-cons P x (y ∷ z ∷ []) h (All-two P y z k l)
+
+-- the three outcomes, by the dividers that the text has in turn
+pub divider_count_none : (text : List ℕ) → ¬ HasDivider text → ¬ ((divider_count text ≡ 1) ⊎ (divider_count text ≡ 2))
+divider_count_none text not_has some =
+    let zero_is = divider_count_undivided text (LacksDivider-from_not text not_has) in
+    elim some [ inl one ↦ absurd (omega arith) | inr two ↦ absurd (omega arith) ]
+
+pub IsDivision-two : (text first divider rest : List ℕ) → IsDividedAt text first divider rest → ¬ HasDivider first → ¬ HasDivider rest → IsDivision text (first ∷ rest ∷ [])
+IsDivision-two text first divider rest at not_first not_rest = divided at not_first (undivided not_rest)
+
+pub IsDivision-three : (text first one behind second two third : List ℕ) → IsDividedAt text first one behind → ¬ HasDivider first → IsDividedAt behind second two third → ¬ HasDivider second → ¬ HasDivider third → IsDivision text (first ∷ second ∷ third ∷ [])
+IsDivision-three text first one behind second two third at_one not_first at_two not_second not_third =
+    divided at_one not_first (divided at_two not_second (undivided not_third))
+
+pub divider_count_more : (text first one behind second two after third three rest : List ℕ) → IsDividedAt text first one behind → ¬ HasDivider first → IsDividedAt behind second two after → ¬ HasDivider second → IsDividedAt after third three rest → ¬ HasDivider third
+    → ¬ ((divider_count text ≡ 1) ⊎ (divider_count text ≡ 2))
+divider_count_more text first one behind second two after third three rest at_one not_first at_two not_second at_three not_third some =
+    let a = divider_count_divided text first one behind at_one not_first in
+    let b = divider_count_divided behind second two after at_two not_second in
+    let c = divider_count_divided after third three rest at_three not_third in
+    elim some [ inl one ↦ absurd (omega arith) | inr two ↦ absurd (omega arith) ]

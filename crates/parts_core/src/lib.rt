@@ -34,13 +34,16 @@ pub fn as_text(bytes: &[u8]) -> Result<&str, NotText>
 }
 
 /// Divides a text into its parts. `None` where it has no divider, or more than two.
+#[tactic(auto, using(crate::proofs::Division::one_division))]
 pub fn divide(text: &str) -> Option<Parts<'_>>
     ensures some { IsSome result ↔ ((divider_count text.now ≡ 1) ⊎ (divider_count text.now ≡ 2)) }
-
     ensures division { IfSome result (λ parts. IsDivision text.now (texts_of parts)) }
-    ensures only { IfSome result (λ parts. (others : List (List ℕ)) → IsDivision text.now others → others ≡ texts_of parts) }
-    ensures value { IfSome result (λ parts. texts_of parts ≡ parts_of text.now) }
     ensures none { IfNone result ((others : List (List ℕ)) → IsDivision text.now others → (length others ≢ 2) × (length others ≢ 3)) }
+
+    // Each text has a division, into as many parts as it has, and only one.
+    ensures value { IfSome result (λ parts. texts_of parts ≡ parts_of text.now) }
+    ensures has_division { IsDivision text.now (parts_of text.now) }
+    ensures only { (others : List (List ℕ)) → IsDivision text.now others → others ≡ parts_of text.now }
 
     ensures within { IfSome result (λ parts. All (λ part. length part ≤ length text.now) (texts_of parts)) }
     ensures utf8 { IfSome result (λ parts. All IsUtf8 (texts_of parts)) }
@@ -68,6 +71,7 @@ fn split_at_divider(text: &str) -> Option<(&str, &str)>
     ensures none { IfNone result (¬ HasDivider text.now) }
     ensures divided { IfSome result (λ parts. (divider : List ℕ) × IsDividedAt text.now parts.0.now divider parts.1.now) }
     ensures first { IfSome result (λ parts. ¬ HasDivider parts.0.now) }
+    ensures utf8 { IfSome result (λ parts. IsUtf8 parts.0.now × IsUtf8 parts.1.now) }
 {
     let mut start = 0;
     for line in text.split_inclusive('\n') {
