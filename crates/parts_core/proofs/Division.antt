@@ -1,12 +1,11 @@
 -- A text has one division into parts, and `parts_of` gives it.
-use Rattle.std.proofs.Common.{◌≡◌, ℕ, zero, suc, ◌+◌, ◌<◌, ◌≤◌, Bool, true, false, ◌||◌, eqb, ◌⊎◌, inl, inr, List, [], ◌∷◌, ◌++◌, length, map, count_by, codes, refl, sym, ap, ◌∙◌, subst, arith}
+use Rattle.std.proofs.Common.{◌≡◌, ℕ, zero, suc, ◌+◌, ◌<◌, ◌≤◌, Bool, true, false, ◌||◌, ◌⊎◌, inl, inr, List, [], ◌∷◌, ◌++◌, length, map, codes, refl, sym, ap, ◌∙◌, subst, arith}
 use Rattle.std.specs.List.{All, concat, list_any, slice_split}
 use Rattle.std.specs.Str.{bytes_eq}
 use Rattle.std.proofs.lemmas.Bool.{false≢true}
 use Rattle.std.proofs.lemmas.List.{append-nil, append_assoc, length-map, length-append}
 use Rattle.std.proofs.lemmas.List.Elements.{All-nil, All-cons, All-head, All-tail, All-weaker}
 use Rattle.std.proofs.lemmas.List.Splits.{slice_split_at, slice_split_none, length-slice_split}
-use Rattle.std.proofs.lemmas.List.Sums.{sum_by-append, sum_by-cons}
 use Rattle.std.proofs.lemmas.Slice.Eq.{bytes_eq-Decides}
 use Rattle.parts_core.specs.Parts.{line_feed, EndsLine, IsDividerBefore, IsDividedAt, HasDivider, IsDivision, undivided, divided, lines_of, is_divider, divider_count, parts_of}
 use Rattle.parts_core.proofs.Lines.{LacksLineFeed, IsLines, none, last, more, IsLines-lines_of, lines_of-append, lines_of-push, concat-lines_of, EndsLine-append}
@@ -95,32 +94,38 @@ HasFirstDivider-behind line rest feedless other (before, divider, after, at, lac
     let whole_line = line ++ line_feed ∷ [] in
     let ends : EndsLine whole_line = inr (line, refl) in
     let lines : lines_of (whole_line ++ before) ≡ whole_line ∷ lines_of before =
-        lines_of-append whole_line before ends ∙ ap (λ z. z ++ lines_of before) (lines_of-push line feedless) in
-    (whole_line ++ before, divider, after,
-     record {
-       whole = push-append line rest ∙ (ap (λ z. whole_line ++ z) at.whole ∙ sym (append_assoc whole_line before (divider ++ after)));
-       begins_line = EndsLine-append whole_line before ends at.begins_line;
-       divides = at.divides;
-     },
-     subst (All P) (sym lines) (All-cons P whole_line (lines_of before) other lacks))
+    lines_of-append whole_line before ends ∙ ap (λ z. z ++ lines_of before) (lines_of-push line feedless) in (
+      whole_line ++ before,
+      divider,
+      after,
+      record {
+        whole = push-append line rest ∙ (ap (λ z. whole_line ++ z) at.whole ∙ sym (append_assoc whole_line before (divider ++ after)));
+        begins_line = EndsLine-append whole_line before ends at.begins_line;
+        divides = at.divides;
+      },
+      subst (All P) (sym lines) (All-cons P whole_line (lines_of before) other lacks),
+    )
 
 HasFirstDivider-from_lines : (text : List ℕ) (lines : List (List ℕ)) → IsLines text lines → list_any is_divider lines ≡ true → HasFirstDivider text
 HasFirstDivider-from_lines text lines none h = absurd (false≢true h)
 HasFirstDivider-from_lines text lines (last b bs feedless) h = HasFirstDivider-last (b ∷ bs) feedless (is_divider_cases (b ∷ bs) (or_false (is_divider (b ∷ bs)) h))
 HasFirstDivider-from_lines text lines (more line rest others feedless r) h =
-    elim (bool_cases (is_divider (line ++ line_feed ∷ [])))
-    [ inl e ↦ HasFirstDivider-first line rest (is_divider_cases (line ++ line_feed ∷ []) e)
-    | inr e ↦ HasFirstDivider-behind line rest feedless e (HasFirstDivider-from_lines rest others r (sym (ap (λ t. t || list_any is_divider others) e) ∙ h)) ]
+    elim (bool_cases (is_divider (line ++ line_feed ∷ []))) [
+      | inl e ↦ HasFirstDivider-first line rest (is_divider_cases (line ++ line_feed ∷ []) e)
+      | inr e ↦ HasFirstDivider-behind line rest feedless e (HasFirstDivider-from_lines rest others r (sym (ap (λ t. t || list_any is_divider others) e) ∙ h))
+    ]
 
 -- no line is a divider, or some line is
 all_or_any : (lines : List (List ℕ)) → All (λ line. is_divider line ≡ false) lines ⊎ (list_any is_divider lines ≡ true)
 all_or_any [] = inl (All-nil (λ line. is_divider line ≡ false))
 all_or_any (line ∷ lines) =
-    elim (bool_cases (is_divider line))
-    [ inl e ↦ inr (ap (λ t. t || list_any is_divider lines) e)
-    | inr e ↦ elim (all_or_any lines)
-      [ inl all ↦ inl (All-cons (λ line. is_divider line ≡ false) line lines e all)
-      | inr any ↦ inr (ap (λ t. t || list_any is_divider lines) e ∙ any) ] ]
+    elim (bool_cases (is_divider line)) [
+      | inl e ↦ inr (ap (λ t. t || list_any is_divider lines) e)
+      | inr e ↦ elim (all_or_any lines) [
+        | inl all ↦ inl (All-cons (λ line. is_divider line ≡ false) line lines e all)
+        | inr any ↦ inr (ap (λ t. t || list_any is_divider lines) e ∙ any)
+      ]
+    ]
 
 LacksDivider_or_HasFirstDivider : (text : List ℕ) → LacksDivider text ⊎ HasFirstDivider text
 LacksDivider_or_HasFirstDivider text =
@@ -169,12 +174,13 @@ divider_count_divided text first divider rest at not_has =
 IsDivision-parts_of_below : (n : ℕ) (text : List ℕ) → divider_count text < n → IsDivision text (parts_of text)
 IsDivision-parts_of_below zero text few = absurd (omega arith)
 IsDivision-parts_of_below (suc n) text few =
-    elim (LacksDivider_or_HasFirstDivider text)
-    [ inl lacks ↦ subst (IsDivision text) (sym (parts_of_undivided text lacks)) (undivided (not_HasDivider text lacks))
-    | inr (before, divider, after, at, lacks) ↦
-      let not_has = not_HasDivider before lacks in
-      let fewer : divider_count after < n = omega (arith, divider_count_divided text before divider after at not_has) in
-      subst (IsDivision text) (sym (parts_of_divided text before divider after at not_has)) (divided at not_has (IsDivision-parts_of_below n after fewer)) ]
+    elim (LacksDivider_or_HasFirstDivider text) [
+      | inl lacks ↦ subst (IsDivision text) (sym (parts_of_undivided text lacks)) (undivided (not_HasDivider text lacks))
+      | inr (before, divider, after, at, lacks) ↦
+          let not_has = not_HasDivider before lacks in
+          let fewer : divider_count after < n = omega (arith, divider_count_divided text before divider after at not_has) in
+          subst (IsDivision text) (sym (parts_of_divided text before divider after at not_has)) (divided at not_has (IsDivision-parts_of_below n after fewer))
+    ]
 
 -- each text has a division
 pub IsDivision-parts_of : (text : List ℕ) → IsDivision text (parts_of text)
@@ -185,9 +191,9 @@ pub length-part-le : (text : List ℕ) (parts : List (List ℕ)) → IsDivision 
 length-part-le text parts (undivided not_has) = All-cons (λ part. length part ≤ length text) text [] (omega arith) (All-nil (λ part. length part ≤ length text))
 length-part-le text parts (divided {first = first} {divider = divider} {rest = rest} {parts = others} at not_has r) =
     let sizes : length text ≡ length first + (length divider + length rest) =
-        ap length at.whole ∙ (length-append first (divider ++ rest) ∙ ap (λ n. length first + n) (length-append divider rest)) in
+    ap length at.whole ∙ (length-append first (divider ++ rest) ∙ ap (λ n. length first + n) (length-append divider rest)) in
     All-cons (λ part. length part ≤ length text) first others (omega arith)
-      (All-weaker (λ part. length part ≤ length rest) (λ part. length part ≤ length text) (λ part h. omega arith) others (length-part-le rest others r))
+    (All-weaker (λ part. length part ≤ length rest) (λ part. length part ≤ length text) (λ part h. omega arith) others (length-part-le rest others r))
 
 -- ---- what `divide` says of each text
 

@@ -1,8 +1,8 @@
 -- A scan of a text for its first divider, a line at a time.
-use Rattle.std.proofs.Common.{◌≡◌, ℕ, suc, ◌+◌, lit<, ◌<◌, ◌≤◌, Bool, true, false, eqb, ◌⊎◌, inl, inr, Option, Some, None, MatchOption, List, [], ◌∷◌, ◌++◌, length, get_or, take, drop, slice_range, codes, refl, sym, ap, ◌∙◌, subst, arith, add-one}
+use Rattle.std.proofs.Common.{◌≡◌, ℕ, suc, ◌+◌, lit<, ◌<◌, true, false, eqb, ◌⊎◌, inl, inr, Some, None, List, [], ◌∷◌, ◌++◌, length, get_or, take, drop, slice_range, refl, sym, ap, ◌∙◌, subst, arith}
 use Rattle.std.specs.List.{All}
 use Rattle.std.specs.Str.{IsUtf8, IsCharBoundary, NoCharPasses}
-use Rattle.std.specs.Str.Pattern.{FindsChar, EndsAtFirstMatch, HasCharAt}
+use Rattle.std.specs.Str.Pattern.{FindsChar, EndsAtFirstMatch}
 use Rattle.std.proofs.lemmas.Bool.{eqb-true, false_from_ne_true}
 use Rattle.std.proofs.lemmas.List.{append-nil, append_assoc, length-append, length-drop, nil_from_length}
 use Rattle.std.proofs.lemmas.List.Elements.{All-nil, All-push}
@@ -20,9 +20,10 @@ IsLineBefore line rest = ((front : List ℕ) × LacksLineFeed front × (line ≡
 
 LacksLineFeed-from_bytes : (bs : List ℕ) → ((i : ℕ) → i < length bs → get_or bs i 0 ≡ line_feed → ⊥) → LacksLineFeed bs
 LacksLineFeed-from_bytes [] h = tt
-LacksLineFeed-from_bytes (b ∷ bs) h =
-    (false_from_ne_true (eqb b line_feed) (λ e. h 0 (omega arith) (eqb-true b line_feed e)),
-     LacksLineFeed-from_bytes bs (λ i l e. h (suc i) (omega arith) e))
+LacksLineFeed-from_bytes (b ∷ bs) h = (
+  false_from_ne_true (eqb b line_feed) (λ e. h 0 (omega arith) (eqb-true b line_feed e)),
+  LacksLineFeed-from_bytes bs (λ i l e. h (suc i) (omega arith) e),
+)
 
 LacksLineFeed-from_chars : (bs : List ℕ) → NoCharPasses (λ d. eqb d line_feed) bs → LacksLineFeed bs
 LacksLineFeed-from_chars bs h = LacksLineFeed-from_bytes bs (λ i l e. NoCharPasses-char line_feed bs i h (lit< tt) l e)
@@ -36,7 +37,7 @@ IsLineBefore-from_match text line rest e (Some (i, j), (lacks, at), ends) =
     let last : j ≡ suc i = omega (arith, at.ends) in
     let inside : i < length text = omega (arith, ap length (drop_at_char line_feed text i j at (lit< tt)), length-drop i text) in
     let through : take j text ≡ take i text ++ line_feed ∷ [] =
-        ap (λ k. take k text) last ∙ (take-suc text i 0 inside ∙ ap (λ b. take i text ++ b ∷ []) (at.byte (lit< tt))) in
+    ap (λ k. take k text) last ∙ (take-suc text i 0 inside ∙ ap (λ b. take i text ++ b ∷ []) (at.byte (lit< tt))) in
     inl (take i text, LacksLineFeed-from_chars (take i text) lacks, ends (omega arith) ∙ through)
 
 pub lines_of_line : (line rest : List ℕ) → IsLineBefore line rest → lines_of line ≡ line ∷ []
@@ -51,11 +52,13 @@ length-line_pos line rest (inr (lacks, some, nothing)) = some
 -- a line that is a divider divides the text
 pub IsDividerBefore-line : (line rest : List ℕ) → IsLineBefore line rest → is_divider line ≡ true → IsDividerBefore line rest
 IsDividerBefore-line line rest is h =
-    elim (is_divider_cases line h)
-    [ inl e ↦ inl e
-    | inr e ↦ elim is
-      [ inl (front, lacks, ends) ↦ absurd (bare_divider_has_no_end front (sym ends ∙ e))
-      | inr (lacks, some, nothing) ↦ inr (e, nothing) ] ]
+    elim (is_divider_cases line h) [
+      | inl e ↦ inl e
+      | inr e ↦ elim is [
+        | inl (front, lacks, ends) ↦ absurd (bare_divider_has_no_end front (sym ends ∙ e))
+        | inr (lacks, some, nothing) ↦ inr (e, nothing)
+      ]
+    ]
 
 -- `rest` is what the text has from `start` on, and a line begins there, or it is empty
 pub record IsAtLine (text : List ℕ) (start : ℕ) (rest : List ℕ) : Type 0 where
@@ -66,9 +69,10 @@ pub record IsAtLine (text : List ℕ) (start : ℕ) (rest : List ℕ) : Type 0 w
 
 pub IsAtLine-begins : (text : List ℕ) (start : ℕ) (line rest : List ℕ) (at : IsAtLine text start (line ++ rest)) → IsLineBefore line rest → EndsLine at.front
 IsAtLine-begins text start line rest at is =
-    elim at.at_line
-    [ inl ends ↦ ends
-    | inr nothing ↦ absurd (omega (arith, ap length nothing, length-append line rest, length-line_pos line rest is)) ]
+    elim at.at_line [
+      | inl ends ↦ ends
+      | inr nothing ↦ absurd (omega (arith, ap length nothing, length-append line rest, length-line_pos line rest is))
+    ]
 
 EndsLine-behind : (front line rest : List ℕ) → IsLineBefore line rest → EndsLine (front ++ line) ⊎ (rest ≡ [])
 EndsLine-behind front line rest (inl (begin, lacks, e)) = inl (inr (front ++ begin, ap (λ z. front ++ z) e ∙ sym (append_assoc front begin (line_feed ∷ []))))
@@ -95,11 +99,12 @@ IsCharBoundary-EndsLine text front rest utf8 e (inr (begin, ends)) =
 
 pub IsAtLine-boundary : (text : List ℕ) (start : ℕ) (rest : List ℕ) → IsUtf8 text → IsAtLine text start rest → IsCharBoundary text start
 IsAtLine-boundary text start rest utf8 at =
-    elim at.at_line
-    [ inl ends ↦ rw at.starts (IsCharBoundary-EndsLine text at.front rest utf8 at.whole ends)
-    | inr nothing ↦
-      let all : start ≡ length text = omega (arith, at.starts, ap length at.whole, ap length nothing, length-append at.front rest) in
-      rw all (IsCharBoundary-end text) ]
+    elim at.at_line [
+      | inl ends ↦ rw at.starts (IsCharBoundary-EndsLine text at.front rest utf8 at.whole ends)
+      | inr nothing ↦
+          let all : start ≡ length text = omega (arith, at.starts, ap length at.whole, ap length nothing, length-append at.front rest) in
+          rw all (IsCharBoundary-end text)
+    ]
 
 -- what stands in front of the place, and behind it
 pub slice_range-IsAtLine : (text : List ℕ) (start : ℕ) (rest : List ℕ) (at : IsAtLine text start rest) → slice_range text 0 start ≡ at.front
@@ -124,7 +129,7 @@ unfolding IsAtLine-behind
 HasPassed-behind text start line rest h is other =
     let P : List ℕ → Type 0 = λ line. is_divider line ≡ false in
     let lines : lines_of (h.place.front ++ line) ≡ lines_of h.place.front ++ line ∷ [] =
-        lines_of-append h.place.front line (IsAtLine-begins text start line rest h.place is) ∙ ap (λ z. lines_of h.place.front ++ z) (lines_of_line line rest is) in
+    lines_of-append h.place.front line (IsAtLine-begins text start line rest h.place is) ∙ ap (λ z. lines_of h.place.front ++ z) (lines_of_line line rest is) in
     record {
       place = IsAtLine-behind text start line rest h.place is;
       no_divider = subst (All P) (sym lines) (All-push P (lines_of h.place.front) line h.no_divider other);

@@ -1,5 +1,5 @@
 -- How an input falls into parts: its lines that are exactly `%%` divide it, wherever they stand.
-use Rattle.std.specs.Prelude.{◌≡◌, ℕ, ◌+◌, Bool, ◌||◌, ◌==◌, ◌⊎◌, List, [], ◌∷◌, ◌++◌, map, count_by, codes, if◌then◌else◌}
+use Rattle.std.specs.Prelude.{◌≡◌, ℕ, Bool, ◌||◌, ◌==◌, ◌⊎◌, List, [], ◌∷◌, ◌++◌, map, count_by, codes, if◌then◌else◌}
 use Rattle.std.specs.List.{concat, slice_split, onto_first}
 use Rattle.std.specs.Option.{option_copied, option_to_list}
 use Rattle.std.specs.Str.{bytes_eq}

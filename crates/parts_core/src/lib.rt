@@ -3,7 +3,7 @@
 
 ghost use Rattle.std.specs.Prelude.{◌≡◌, ◌≢◌, ◌≤◌, ◌⊎◌, ◌↔◌, List, ℕ, length, IsTrue, IsSome, IfSome, IfNone, IsOk, IfOk, IfErr};
 ghost use Rattle.std.specs.List.{All};
-ghost use Rattle.std.specs.Str.{IsUtf8};
+ghost use Rattle.std.specs.Str.{IsUtf8, IsValidUpTo};
 ghost use Rattle.std.specs.Str.Lossy.{utf8_valid_len};
 ghost use Rattle.parts_core.specs.Parts.{HasDivider, IsDividedAt, IsDivision, is_divider, divider_count, parts_of, texts_of};
 
@@ -27,6 +27,7 @@ pub fn as_text(bytes: &[u8]) -> Result<&str, NotText>
     ensures same { IfOk result (λ text. text.now ≡ bytes.now) }
     ensures ok { IsOk result ↔ IsUtf8 bytes.now }
     ensures at { IfErr result (λ fault. fault.at ≡ utf8_valid_len bytes.now) }
+    ensures longest { IfErr result (λ fault. IsValidUpTo bytes.now fault.at) }
 {
     str::from_utf8(bytes).map_err(|fault| NotText {
         at: fault.valid_up_to(),
@@ -94,17 +95,36 @@ fn is_divider(line: &str) -> bool
 mod tests {
     use super::*;
 
-    // Texts, and their parts with `|` between them, or `-` where there are none.
-    const DIVISIONS: [(&str, Option<(&str, &str, Option<&str>)>); 2] = [
+    // Texts with their declarations, subjects and table.
+    const DIVISIONS: [(&str, Option<(&str, &str, Option<&str>)>); 14] = [
         ("", None),
+        ("a\nb\n", None),
+        ("a\n %%\nb", None),
+        ("a\n%%%\nb", None),
+        ("a\n%%\r\nb", None),
+        ("a%%\nb", None),
         ("%%", Some(("", "", None))),
+        ("%%\nb", Some(("", "b", None))),
+        ("a\n%%", Some(("a\n", "", None))),
+        ("a\n%%\nb\n", Some(("a\n", "b\n", None))),
+        ("a\n%%\nb\n%%\nc", Some(("a\n", "b\n", Some("c")))),
+        ("%%\n%%", Some(("", "", Some("")))),
+        ("\"é\n%%\n\" /* b", Some(("\"é\n", "\" /* b", None))),
+        ("%%\n%%\n%%\n", None),
     ];
 
     #[test]
     fn divides(rt: HostRuntime) {
         for (text, parts) in DIVISIONS {
             let divided = divide(text).map(|p| (p.declarations, p.subjects, p.table));
-            assert_eq!(rt; divided, parts);
+            assert_eq!(rt; divided, parts, "of {text:?}");
         }
+    }
+
+    #[test]
+    fn finds_what_is_no_text(rt: HostRuntime) {
+        assert_eq!(rt; as_text(b"%%\n\xFF"), Err(NotText { at: 3 }));
+        assert_eq!(rt; as_text(b"\xE2\x82"), Err(NotText { at: 0 }));
+        assert_eq!(rt; as_text("é%%".as_bytes()), Ok("é%%"));
     }
 }

@@ -1,4 +1,4 @@
-use Rattle.std.proofs.Common.{◌≡◌, ◌++◌, length, refl, sym, ap, ◌∙◌, subst}
+use Rattle.std.proofs.Common.{sym, ap, ◌∙◌, subst}
 use Rattle.std.specs.Str.Iter.{split_inclusive_text, split_inclusive_pattern}
 use Rattle.parts_core.proofs.Division.{not_HasDivider}
 use Rattle.parts_core.proofs.Scan.{HasPassed, HasPassed-start, HasPassed-behind, HasPassed-end, IsAtLine-behind, IsAtLine-boundary, IsDividedAt-found, not_HasDivider-before, line_of_turn}
@@ -6,9 +6,10 @@ use Rattle.parts_core.proofs.split_at_divider.Goals as goal
 
 pub loop-line-init : goal.loop-line-init
 loop-line-init c =
-    let same = c.into_iter-line-iterator.ensures.into_iter_gives in
-    (ap split_inclusive_pattern same ∙ c.split_inclusive-line-items.ensures.pattern,
-     subst (HasPassed _ 0) (sym (ap split_inclusive_text same ∙ c.split_inclusive-line-items.ensures.text)) (HasPassed-start c.args.text.now))
+    let same = c.into_iter-line-iterator.ensures.into_iter_gives in (
+      ap split_inclusive_pattern same ∙ c.split_inclusive-line-items.ensures.pattern,
+      subst (HasPassed _ 0) (sym (ap split_inclusive_text same ∙ c.split_inclusive-line-items.ensures.text)) (HasPassed-start c.args.text.now),
+    )
 
 pub range_from-requires : goal.range_from-requires
 range_from-requires c =
