@@ -1,10 +1,10 @@
 -- A text has one division into parts, and `parts_of` gives it.
-use Rattle.std.proofs.Common.{◌≡◌, ℕ, zero, suc, ◌+◌, ◌<◌, ◌≤◌, Bool, true, false, ◌||◌, ◌⊎◌, inl, inr, List, [], ◌∷◌, ◌++◌, length, map, codes, refl, sym, ap, ◌∙◌, subst, arith}
+use Rattle.std.proofs.Common.{◌≡◌, ℕ, zero, suc, ◌+◌, ◌<◌, Bool, true, false, ◌||◌, ◌⊎◌, inl, inr, List, [], ◌∷◌, ◌++◌, length, map, codes, refl, sym, ap, ◌∙◌, subst, arith}
 use Rattle.std.specs.List.{All, concat, list_any, slice_split}
 use Rattle.std.specs.Str.{bytes_eq}
 use Rattle.std.proofs.lemmas.Bool.{false≢true}
-use Rattle.std.proofs.lemmas.List.{append-nil, append_assoc, length-map, length-append}
-use Rattle.std.proofs.lemmas.List.Elements.{All-nil, All-cons, All-head, All-tail, All-weaker}
+use Rattle.std.proofs.lemmas.List.{append-nil, append_assoc, length-map}
+use Rattle.std.proofs.lemmas.List.Elements.{All-nil, All-cons, All-head, All-tail}
 use Rattle.std.proofs.lemmas.List.Splits.{slice_split_at, slice_split_none, length-slice_split}
 use Rattle.std.proofs.lemmas.Slice.Eq.{bytes_eq-Decides}
 use Rattle.parts_core.specs.Parts.{line_feed, EndsLine, IsDividerBefore, IsDividedAt, HasDivider, IsDivision, undivided, divided, lines_of, is_divider, divider_count, parts_of}
@@ -185,15 +185,6 @@ IsDivision-parts_of_below (suc n) text few =
 -- each text has a division
 pub IsDivision-parts_of : (text : List ℕ) → IsDivision text (parts_of text)
 IsDivision-parts_of text = IsDivision-parts_of_below (suc (divider_count text)) text (omega arith)
-
--- no part is longer than the text
-pub length-part-le : (text : List ℕ) (parts : List (List ℕ)) → IsDivision text parts → All (λ part. length part ≤ length text) parts
-length-part-le text parts (undivided not_has) = All-cons (λ part. length part ≤ length text) text [] (omega arith) (All-nil (λ part. length part ≤ length text))
-length-part-le text parts (divided {first = first} {divider = divider} {rest = rest} {parts = others} at not_has r) =
-    let sizes : length text ≡ length first + (length divider + length rest) =
-    ap length at.whole ∙ (length-append first (divider ++ rest) ∙ ap (λ n. length first + n) (length-append divider rest)) in
-    All-cons (λ part. length part ≤ length text) first others (omega arith)
-    (All-weaker (λ part. length part ≤ length rest) (λ part. length part ≤ length text) (λ part h. omega arith) others (length-part-le rest others r))
 
 -- ---- what `divide` says of each text
 

@@ -30,7 +30,8 @@ HasDivider text = (before divider after : List ℕ) × IsDividedAt text before d
 -- the text consists of these parts and of one divider between each two; no part has a divider
 pub data IsDivision : List ℕ → List (List ℕ) → Type 0 where
   undivided : {text : List ℕ} → ¬ HasDivider text → IsDivision text (text ∷ [])
-  divided : {text first divider rest : List ℕ} {parts : List (List ℕ)} → IsDividedAt text first divider rest → ¬ HasDivider first → IsDivision rest parts → IsDivision text (first ∷ parts)
+  divided : {text first divider rest : List ℕ} {parts : List (List ℕ)}
+      → IsDividedAt text first divider rest → ¬ HasDivider first → IsDivision rest parts → IsDivision text (first ∷ parts)
 
 -- the lines of a text, each with the line feed that ends it
 abbrev pub lines_of : List ℕ → List (List ℕ)
