@@ -1,4 +1,8 @@
-use base_core::Text;
+ghost use Rattle.std.specs.Prelude.{◌≡◌, IfOk};
+
+use crate::names::add_names;
+use base_core::{Mem, Text};
+use std::alloc::Global;
 use std::collections::BTreeSet;
 
 /// What is wrong.
@@ -27,4 +31,22 @@ pub enum FaultKind {
     TooFewItems(usize),
     /// More items than the count, which is the most that is taken.
     TooManyItems(usize),
+}
+
+impl FaultKind {
+    ghost use Rattle.fault_core.specs.Kind.{with_alternatives};
+
+    /// An unknown field with these alternatives too; every other kind as it is. Want of memory drops
+    /// the kind.
+    pub fn with_alternatives(self, alloc: Global, names: &[Text]) -> Mem<FaultKind>
+        ensures { IfOk result (λ kind. kind ≡ with_alternatives self names.now) }
+    {
+        match self {
+            FaultKind::UnknownField { name, alts } => {
+                let alts = add_names(alloc, alts, names)?;
+                Ok(FaultKind::UnknownField { name, alts })
+            }
+            other => Ok(other),
+        }
+    }
 }

@@ -7,6 +7,7 @@
 mod clone;
 mod fault;
 mod kind;
+mod names;
 mod text;
 
 pub use base_core::{Items, Mem, Text, TryClone};
