@@ -66,11 +66,7 @@ impl Fault {
     {
         let name = Text::from_str(alloc, name)?;
         let alts = add_names(alloc, BTreeSet::new(alloc), alts)?;
-        Ok(Fault::at_span(
-            alloc,
-            FaultKind::UnknownField { name, alts },
-            span,
-        ))
+        Ok(Fault::at_span(alloc, FaultKind::UnknownField { name, alts }, span))
     }
 
     pub fn custom(alloc: Global, message: &str, span: Span) -> Mem<Fault>
@@ -84,11 +80,7 @@ impl Fault {
         ensures { IfOk result (λ fault. fault ≡ at_span (FaultKind.UnexpectedFormat format.now) span) }
     {
         let format = Text::from_str(alloc, format)?;
-        Ok(Fault::at_span(
-            alloc,
-            FaultKind::UnexpectedFormat(format),
-            span,
-        ))
+        Ok(Fault::at_span(alloc, FaultKind::UnexpectedFormat(format), span))
     }
 
     /// The fault one field further in. Want of memory drops it.

@@ -20,13 +20,19 @@ pub enum FaultKind {
         expected: Option<Text>,
     },
     /// A field that is not known; `alts` are those that are.
-    UnknownField { name: Text, alts: BTreeSet<Text> },
+    UnknownField {
+        name: Text,
+        alts: BTreeSet<Text>,
+    },
     /// An item of another format than is read, as a word in the place of a list.
     UnexpectedFormat(Text),
     /// A literal of another type than is read.
     UnexpectedType(Text),
     /// A value that is not known; `alts` are those that are.
-    UnknownValue { name: Text, alts: BTreeSet<Text> },
+    UnknownValue {
+        name: Text,
+        alts: BTreeSet<Text>,
+    },
     /// Fewer items than the count, which is the least that is taken.
     TooFewItems(usize),
     /// More items than the count, which is the most that is taken.

@@ -8,6 +8,8 @@ mod clone;
 mod fault;
 mod kind;
 mod names;
+#[cfg(test)]
+mod tests;
 mod text;
 
 pub use base_core::{Items, Mem, Text, TryClone};

@@ -17,11 +17,7 @@ pub(crate) fn clone_names(alloc: Global, names: &BTreeSet<Text>) -> Mem<BTreeSet
 }
 
 /// The set with copies of `more` too.
-pub(crate) fn add_names(
-    alloc: Global,
-    names: BTreeSet<Text>,
-    more: &[Text],
-) -> Mem<BTreeSet<Text>>
+pub(crate) fn add_names(alloc: Global, names: BTreeSet<Text>, more: &[Text]) -> Mem<BTreeSet<Text>>
     ensures { IfOk result (λ all. all ≡ with_names names more.now) }
 {
     let mut names = names;
