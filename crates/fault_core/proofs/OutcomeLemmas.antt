@@ -1,10 +1,9 @@
 -- What the operations on outcomes do to the faults and the value.
-use Rattle.std.proofs.Common.{◌≡◌, List, [], ◌∷◌, ◌++◌, map, Option, Some, None, option_map, refl}
+use Rattle.std.proofs.Common.{◌≡◌, List, [], ◌∷◌, refl}
 use Rattle.base_core.specs.declared.text.Text.{Text}
 use Rattle.token_core.specs.declared.span.Span.{Span}
-use Rattle.fault_core.specs.declared.fault.Fault.{Fault}
 use Rattle.fault_core.specs.Faults.{span_one, at, siblings}
-use Rattle.fault_core.specs.Outcome.{Outcome, Value, Faults, faults_of, value_of, on_value, with_span, under, with_siblings}
+use Rattle.fault_core.specs.Outcome.{Outcome, Value, Faults, faults_of, value_of, with_span, under, with_siblings}
 
 module _ {A : Type 0} where
   pub faults_of-with_span : (span : Span) (o : Outcome A) → faults_of (with_span span o) ≡ span_one (faults_of o) span

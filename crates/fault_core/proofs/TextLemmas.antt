@@ -1,5 +1,5 @@
 -- Texts that grow at their end, and the text of the alternatives.
-use Rattle.std.proofs.Common.{◌≡◌, ◌<◌, ℕ, List, ◌++◌, length, codes, refl, sym, ap, ◌∙◌, Result, Ok, Err, OnOk, append_assoc}
+use Rattle.std.proofs.Common.{◌≡◌, ◌<◌, ℕ, List, ◌++◌, length, codes, refl, ap, ◌∙◌, Result, Ok, Err, OnOk, append_assoc}
 use Rattle.std.proofs.lemmas.Bool.{lt-ltb}
 use Rattle.std.specs.List.{join_by}
 use Rattle.fault_core.specs.FaultText.{quoted, alternatives_text}
