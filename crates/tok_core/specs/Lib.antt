@@ -1,0 +1,4 @@
+pub mod Endings
+pub mod Flat
+pub mod Nests
+pub mod Spells

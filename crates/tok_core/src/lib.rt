@@ -1,0 +1,20 @@
+//! Reads a text into tokens.
+//!
+//! A text is cut into pieces, each the longest that starts at its byte. The tokens of the pieces
+//! are the text's; what stands between two matched delimiters is a group. [`lex`] answers with
+//! exactly that stream, or with the byte at which the text stops being one.
+#![tactic(auto)]
+
+mod error;
+mod nest;
+mod reading;
+#[cfg(test)]
+mod tests;
+mod token;
+
+pub use error::LexError;
+pub use reading::lex;
+pub use token_core::{
+    Boxed, Delimiter, Group, Ident, Items, Lifetime, Literal, Mem, Punct, Span, Text, TokenStream,
+    TokenTree, TryClone,
+};
