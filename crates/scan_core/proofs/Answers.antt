@@ -1,5 +1,5 @@
 -- What an answer is: a kind and a length, and what makes it a right one.
-use Rattle.std.proofs.Common.{◌≡◌, ℕ, ◌≤◌, true, List, [], ◌∷◌, ◌++◌, length, take, drop, Option, Some, None, ap, sym, ◌∙◌, subst, arith}
+use Rattle.std.proofs.Common.{◌≡◌, ℕ, ◌≤◌, true, [], ◌∷◌, ◌++◌, length, take, drop, Some, ap, sym, ◌∙◌, subst, arith}
 use Rattle.scan_core.specs.Characters.{Characters}
 use Rattle.scan_core.specs.Pieces.{IsPiece, may_precede}
 use Rattle.scan_core.specs.Scan.{found, head_of, headed, piece}

@@ -1,8 +1,7 @@
 -- Delimiters are found, and what is found as such is.
-use Rattle.std.proofs.Common.{◌≡◌, ◌<◌, ℕ, ◌+◌, List, [], ◌∷◌, length, refl, ap, arith}
+use Rattle.std.proofs.Common.{◌≡◌, ℕ, [], ◌∷◌, length, refl, ap, arith}
 use Rattle.scan_core.specs.Characters.{Characters, opening, closing}
 use Rattle.scan_core.specs.Pieces.{IsPiece}
-use Rattle.scan_core.specs.Scan.{found, piece}
 use Rattle.scan_core.proofs.Answers.{Finds, Finds-one, Sound, piece-head}
 use Rattle.scan_core.specs.declared.kind.Delimiter.{Delimiter}
 use Rattle.scan_core.specs.declared.kind.Delimiter.TheVariants as delimiter

@@ -1,7 +1,7 @@
 -- How a piece begins.
-use Rattle.std.proofs.Common.{◌≡◌, ℕ, Bool, true, false, cond, ◌||◌, eqb, List, [], ◌∷◌, refl, ap}
+use Rattle.std.proofs.Common.{◌≡◌, ℕ, Bool, true, false, cond, eqb, [], ◌∷◌, refl, ap}
 use Rattle.std.proofs.lemmas.Bool.{eqb-true}
-use Rattle.scan_core.specs.Characters.{Characters, is_white, whites, is_mark, marks, starts_name, continues_name, opening, closing}
+use Rattle.scan_core.specs.Characters.{is_white, whites, is_mark, marks, starts_name, continues_name, opening, closing}
 use Rattle.scan_core.specs.Scan.{head_of, delimiter_head}
 use Rattle.scan_core.proofs.Lists.{any_has}
 use Rattle.scan_core.specs.declared.kind.Delimiter.TheVariants as delimiter

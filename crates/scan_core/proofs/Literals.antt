@@ -1,10 +1,10 @@
 -- Literals are found, and what is found as such is.
-use Rattle.std.proofs.Common.{◌≡◌, ℕ, zero, suc, ◌+◌, ◌≤◌, Bool, true, false, not, cond, eqb, List, [], ◌∷◌, ◌++◌, length, take, drop, Option, Some, None, refl, sym, ap, ◌∙◌, subst, arith, length-append, append_assoc}
+use Rattle.std.proofs.Common.{◌≡◌, ℕ, ◌+◌, ◌≤◌, Bool, true, false, not, cond, eqb, List, [], ◌∷◌, ◌++◌, length, take, drop, Option, Some, None, refl, sym, ap, ◌∙◌, subst, arith, length-append, append_assoc}
 use Rattle.std.proofs.Math.Seq.{take-append_seam, drop-append_seam}
 use Rattle.std.proofs.lemmas.Bool.{eqb-true, true≢false}
 use Rattle.std.specs.List.{concat, AllByRecursion}
 use Rattle.scan_core.specs.Characters.{Characters, is_plain, continues}
-use Rattle.scan_core.specs.Pieces.{IsPiece, IsString, IsItem}
+use Rattle.scan_core.specs.Pieces.{IsString, IsItem}
 use Rattle.scan_core.specs.Scan.{found, literal, quoted, string_end, piece}
 use Rattle.scan_core.proofs.Answers.{Finds, Sound, Sound-same, found-length, piece-head}
 use Rattle.scan_core.specs.declared.kind.Found.{Found}
@@ -44,7 +44,7 @@ quoted-string front after h =
     let whole : Characters = 34 ∷ (content ++ 34 ∷ []) in
     let size : 1 + length content + 1 ≡ length whole = omega (arith, length-append content (34 ∷ [])) in
     let end : string_end 1 ((content ++ 34 ∷ []) ++ after) ≡ Some (length whole) =
-        ap (string_end 1) (append_assoc content (34 ∷ []) after) ∙ string_end-items h.0 after 1 h.2 ∙ ap Some size in
+    ap (string_end 1) (append_assoc content (34 ∷ []) after) ∙ string_end-items h.0 after 1 h.2 ∙ ap Some size in
     subst (λ (f : Characters). piece (f ++ after) ≡ literal (f ++ after) (Some (length f))) (sym h.1)
     (piece-head 34 ((content ++ 34 ∷ []) ++ after) head.Quote refl ∙ ap (literal (whole ++ after)) end)
 

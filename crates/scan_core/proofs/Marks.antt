@@ -1,5 +1,5 @@
 -- Marks are found, and what is found as such is.
-use Rattle.std.proofs.Common.{◌≡◌, ℕ, ◌+◌, Bool, true, List, [], ◌∷◌, refl, sym, ap, ◌∙◌, arith}
+use Rattle.std.proofs.Common.{◌≡◌, ℕ, Bool, true, ◌∷◌, refl, sym, ap, ◌∙◌, arith}
 use Rattle.scan_core.specs.Characters.{Characters, begins_mark}
 use Rattle.scan_core.specs.Pieces.{IsPiece}
 use Rattle.scan_core.specs.Scan.{found, piece}

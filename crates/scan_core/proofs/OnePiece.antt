@@ -1,9 +1,9 @@
 -- A text begins with one piece at most.
-use Rattle.std.proofs.Common.{◌≡◌, ℕ, ◌+◌, ◌<◌, ◌≤◌, List, [], ◌∷◌, ◌++◌, length, take, drop, sym, ap, ◌∙◌, subst, arith, length-append}
+use Rattle.std.proofs.Common.{◌≡◌, ◌≤◌, [], ◌++◌, length, take, drop, sym, ap, ◌∙◌, subst, arith, length-append}
 use Rattle.std.proofs.Math.Seq.{take-append_seam, drop-append_seam}
 use Rattle.scan_core.specs.Characters.{Characters}
 use Rattle.scan_core.specs.Pieces.{IsPieceAt}
-use Rattle.scan_core.specs.Scan.{found, piece}
+use Rattle.scan_core.specs.Scan.{found}
 use Rattle.scan_core.proofs.Answers.{Finds, found-kind, found-length}
 use Rattle.scan_core.proofs.Pieces.{piece-complete, piece-sound, piece-found}
 use Rattle.scan_core.specs.declared.kind.Kind.{Kind}

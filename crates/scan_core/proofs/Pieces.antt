@@ -1,11 +1,11 @@
 -- The piece of a text is what is found there, and nothing else is.
-use Rattle.std.proofs.Common.{◌≡◌, ℕ, ◌+◌, ◌≤◌, true, List, [], ◌∷◌, ◌++◌, length, take, drop, Option, Some, None, IfSome, IfNone, refl, sym, ap, ◌∙◌, subst, arith}
+use Rattle.std.proofs.Common.{◌≡◌, ℕ, ◌≤◌, true, [], ◌∷◌, ◌++◌, length, take, drop, Option, Some, None, IfSome, IfNone, sym, ap, ◌∙◌, subst, arith}
 use Rattle.std.proofs.lemmas.List.{take-append-drop, length-take-le}
 use Rattle.std.proofs.lemmas.Bool.{not-true}
 use Rattle.scan_core.specs.Characters.{Characters}
 use Rattle.scan_core.specs.Pieces.{IsPiece, IsPieceAt, may_precede}
 use Rattle.scan_core.specs.Scan.{found, head_of, headed, quoted, piece}
-use Rattle.scan_core.proofs.Answers.{Finds, Finds-longest, Sound, Sound-same, piece-head}
+use Rattle.scan_core.proofs.Answers.{Finds, Finds-longest, Sound, Sound-same}
 use Rattle.scan_core.proofs.Delimiters.{Finds-open, Finds-close, Sound-open, Sound-close}
 use Rattle.scan_core.proofs.Heads.{Says, head_of-says}
 use Rattle.scan_core.proofs.Literals.{Finds-string, reach-string, Sound-string}

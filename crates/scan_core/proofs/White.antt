@@ -1,5 +1,5 @@
 -- White space is found, and what is found as such is.
-use Rattle.std.proofs.Common.{◌≡◌, ℕ, ◌+◌, true, List, [], ◌∷◌, refl, arith}
+use Rattle.std.proofs.Common.{◌≡◌, ℕ, true, ◌∷◌, refl, arith}
 use Rattle.scan_core.specs.Characters.{Characters, is_white}
 use Rattle.scan_core.specs.Pieces.{IsPiece}
 use Rattle.scan_core.specs.Scan.{found, piece}

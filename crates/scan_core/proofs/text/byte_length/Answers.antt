@@ -1,4 +1,4 @@
-use Rattle.std.proofs.Common.{◌≡◌, ◌+◌, ◌≤◌, length, take, arith}
+use Rattle.std.proofs.Common.{take, arith}
 use Rattle.std.proofs.lemmas.List.{length-take-le}
 use Rattle.scan_core.proofs.Bytes.{length-encode_utf8_all-take_more, length-encode_utf8_all-le}
 use Rattle.scan_core.proofs.text.byte_length.Goals as goal

@@ -1,4 +1,4 @@
-use Rattle.std.proofs.Common.{◌≡◌, ◌++◌, arith}
+use Rattle.std.proofs.Common.{arith}
 use Rattle.scan_core.proofs.Bytes.{encode_utf8_all-take_more}
 use Rattle.scan_core.proofs.text.text_of.Goals as goal
 
