@@ -1,5 +1,5 @@
 -- The piece at the front of a text, computed.
-use Rattle.std.specs.Prelude.{ℕ, ◌+◌, if◌then◌else◌, ◌==◌, List, [], ◌∷◌, drop, slice_index, Option, Some, None}
+use Rattle.std.specs.Prelude.{ℕ, ◌+◌, if◌then◌else◌, ◌==◌, [], ◌∷◌, drop, slice_index, Option, Some, None}
 use Rattle.std.specs.List.{prefix_len}
 use Rattle.scan_core.specs.Characters.{Characters, is_white, starts_name, continues_name, is_mark, is_plain, begins_mark, continues}
 use Rattle.token_core.specs.declared.tree.Delimiter.TheVariants as delimiter

@@ -4,6 +4,8 @@
 mod class;
 mod kind;
 mod scan;
+#[cfg(test)]
+mod tests;
 mod text;
 
 pub use kind::{Found, Kind};
