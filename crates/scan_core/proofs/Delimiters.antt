@@ -3,8 +3,8 @@ use Rattle.std.proofs.Common.{◌≡◌, ℕ, [], ◌∷◌, length, refl, ap, a
 use Rattle.scan_core.specs.Characters.{Characters, opening, closing}
 use Rattle.scan_core.specs.Pieces.{IsPiece}
 use Rattle.scan_core.proofs.Answers.{Finds, Finds-one, Sound, piece-head}
-use Rattle.scan_core.specs.declared.kind.Delimiter.{Delimiter}
-use Rattle.scan_core.specs.declared.kind.Delimiter.TheVariants as delimiter
+use Rattle.token_core.specs.declared.tree.Delimiter.{Delimiter}
+use Rattle.token_core.specs.declared.tree.Delimiter.TheVariants as delimiter
 use Rattle.scan_core.specs.declared.kind.Kind.TheVariants as kind
 use Rattle.scan_core.specs.declared.scan.Head.TheVariants as head
 

@@ -4,7 +4,7 @@ use Rattle.std.proofs.lemmas.Bool.{eqb-true}
 use Rattle.scan_core.specs.Characters.{is_white, whites, is_mark, marks, starts_name, continues_name, opening, closing}
 use Rattle.scan_core.specs.Scan.{head_of, delimiter_head}
 use Rattle.scan_core.proofs.Lists.{any_has}
-use Rattle.scan_core.specs.declared.kind.Delimiter.TheVariants as delimiter
+use Rattle.token_core.specs.declared.tree.Delimiter.TheVariants as delimiter
 use Rattle.scan_core.specs.declared.scan.Head.{Head}
 use Rattle.scan_core.specs.declared.scan.Head.TheVariants as head
 

@@ -2,12 +2,14 @@
 #![tactic(auto)]
 
 mod class;
+mod delimiter;
 mod kind;
 mod scan;
 #[cfg(test)]
 mod tests;
 mod text;
 
+pub use delimiter::{closing, opening};
 pub use kind::{Found, Kind};
 pub use scan::piece;
 pub use text::{byte_length, characters, text_of};
