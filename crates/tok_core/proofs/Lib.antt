@@ -1,1 +1,6 @@
-
+pub mod Nesting
+pub mod Before
+pub mod Depth
+pub mod OneReading
+pub mod Trees
+pub mod Outcomes

@@ -1,5 +1,5 @@
 //! The trees of single pieces, and of a group.
-ghost use Rattle.std.specs.Prelude.{◌≡◌, ◌++◌, [], ◌∷◌, slice_index, IfOk};
+ghost use Rattle.std.specs.Prelude.{◌≡◌, ◌++◌, [], ◌∷◌, slice_index, false, IfOk};
 ghost use Rattle.std.specs.Str.{encode_utf8_all};
 ghost use Rattle.tok_core.specs.Flat as flat;
 ghost use Rattle.tok_core.specs.Flat.{flat_tree, flat_trees, start_of, end_of};
