@@ -88,11 +88,10 @@ Refused-none source at text rest nest b l none =
 pub Refused-step : (source at : ℕ) (text rest front after : Characters) (k : Kind) (nest : Nest) (e : LexError) → Before source text rest at nest → IsPieceAt k rest front after
     → Cause e at (IsFull k (open_in nest)) (IsAmiss k (open_in nest)) → Refused source text e
 Refused-step source at text rest front after k nest (TooDeep n) b i c =
-    let P : Kind → Type 0 = λ k. IsPieceAt k rest front after in
     let Q : ℕ → Type 0 = λ n. EndsAt source text n deep in
     subst Q (sym c.0) (record {
         pieces = b.pieces; rest = rest; stack = open_in nest; stand = b.stand; matched = b.matched;
-        stops = (c.1.0, front, after, subst P c.1.1 i, c.1.2);
+        stops = (k, front, after, i, c.1.0, c.1.1);
       })
 Refused-step source at text rest front after k nest (Syntax n) b i c =
     let P : Kind → Type 0 = λ k. IsPieceAt k rest front after in

@@ -8,7 +8,7 @@ use Rattle.scan_core.specs.declared.kind.Kind.{Kind}
 use Rattle.scan_core.specs.declared.kind.Kind.TheVariants as kind
 use Rattle.token_core.specs.declared.tree.Delimiter.{Delimiter}
 use Rattle.token_core.specs.declared.tree.TokenStream.{TokenStream}
-use Rattle.tok_core.specs.Endings.{limit, is_top, open_after, Ending, done, deep, wrong, Stops, EndsAt}
+use Rattle.tok_core.specs.Endings.{limit, is_top, open_after, starts_group, Ending, done, deep, wrong, Stops, EndsAt}
 use Rattle.tok_core.specs.Flat.{Flat}
 use Rattle.tok_core.specs.Spells.{Piece, Stand, token_of, tokens_of, Spells}
 use Rattle.tok_core.proofs.Before.{open_after-append}
@@ -19,11 +19,11 @@ not_at_end k text front after e i = let P : Characters → Type 0 = λ text. IsP
 
 -- ---- one ending at one place
 
-opposite : (d e : Delimiter) → kind.Open d ≡ kind.Close e → ⊥
-opposite d e h = cc
+close_starts_none : (k : Kind) (d : Delimiter) → starts_group k ≡ true → k ≡ kind.Close d → ⊥
+close_starts_none k d h e = let e : starts_group (kind.Close d) ≡ true = subst (λ k. starts_group k ≡ true) e h in cc
 
 done_deep : (s : List Delimiter) (r : Characters) → Stops s r done → Stops s r deep → ⊥
-done_deep s r h k = not_at_end (kind.Open k.0) r k.1 k.2 h.0 k.3
+done_deep s r h k = not_at_end k.0 r k.1 k.2 h.0 k.3
 
 done_wrong : (s : List Delimiter) (r : Characters) → Stops s r done → Stops s r wrong → ⊥
 done_wrong s r h k = ⊎_elim
@@ -33,10 +33,10 @@ done_wrong s r h k = ⊎_elim
 
 deep_wrong : (s : List Delimiter) (r : Characters) → Stops s r deep → Stops s r wrong → ⊥
 deep_wrong s r h k = ⊎_elim
-    (λ w. not_at_end (kind.Open h.0) r h.1 h.2 w.0 h.3)
+    (λ w. not_at_end h.0 r h.1 h.2 w.0 h.3)
     (⊎_elim
-    (λ w. w.1 (kind.Open h.0) h.1 h.2 h.3)
-    (λ w. opposite h.0 w.0 (same-kind (kind.Open h.0) (kind.Close w.0) r h.1 h.2 w.1 w.2 h.3 w.3)))
+    (λ w. w.1 h.0 h.1 h.2 h.3)
+    (λ w. close_starts_none h.0 w.0 h.4 (same-kind h.0 (kind.Close w.0) r h.1 h.2 w.1 w.2 h.3 w.3)))
     k
 
 same_ending : (s : List Delimiter) (r : Characters) (e f : Ending) → Stops s r e → Stops s r f → e ≡ f
@@ -52,11 +52,10 @@ same_ending s r wrong wrong h k = refl
 
 -- ---- no piece goes on where a reading ends
 
-fails_open : (source : ℕ) (d : Delimiter) (k : Kind) (front : Characters) (start end : ℕ) (s : List Delimiter) → k ≡ kind.Open d → nat_lt (length s) limit ≡ false
+fails_open : (source : ℕ) (k : Kind) (front : Characters) (start end : ℕ) (s : List Delimiter) → starts_group k ≡ true → nat_lt (length s) limit ≡ false
     → open_after (token_of source k front start end) s ≡ None
-fails_open source d k front start end s e h =
-    let P : Kind → Type 0 = λ k. open_after (token_of source k front start end) s ≡ None in
-    subst P (sym e) (rw h refl)
+fails_open source (kind.Open d) front start end s e h = rw h refl
+fails_open source k front start end s e h = absurd (cc)
 
 fails_close : (source : ℕ) (d : Delimiter) (k : Kind) (front : Characters) (start end : ℕ) (s : List Delimiter) → k ≡ kind.Close d → is_top d s ≡ false
     → open_after (token_of source k front start end) s ≡ None
@@ -71,8 +70,8 @@ stuck : (source : ℕ) (s t : List Delimiter) (text front after : Characters) (k
     → open_after (token_of source k front start end ++ more) s ≡ Some t → ⊥
 stuck source s t text front after k start end more done h i o = not_at_end k text front after h.0 i
 stuck source s t text front after k start end more deep h i o =
-    let same = same-kind k (kind.Open h.0) text front after h.1 h.2 i h.3 in
-    stays_failed (token_of source k front start end) more s t (fails_open source h.0 k front start end s same h.4) o
+    let same = same-kind h.0 k text h.1 h.2 front after h.3 i in
+    stays_failed (token_of source k front start end) more s t (fails_open source k front start end s (subst (λ k. starts_group k ≡ true) same h.4) h.5) o
 stuck source s t text front after k start end more wrong h i o = ⊎_elim
     (λ w. not_at_end k text front after w.0 i)
     (⊎_elim

@@ -58,10 +58,15 @@ pub data Ending : Type 0 where
 abbrev pub IsNoPiece : Characters → Type 0
 IsNoPiece rest = (0 < length rest) × ((k : Kind) (text after : Characters) → IsPieceAt k rest text after → ⊥)
 
--- A delimiter stands here that opens one group too many.
+-- whether a group starts with a piece of this kind
+abbrev pub starts_group : Kind → Bool
+starts_group (kind.Open d) = true
+starts_group _ = false
+
+-- A group starts here that is one too many.
 abbrev pub OpensTooMany : List Delimiter → Characters → Type 0
 OpensTooMany stack rest =
-    (d : Delimiter) × (text : Characters) × (after : Characters) × IsPieceAt (kind.Open d) rest text after × (nat_lt (length stack) limit ≡ false)
+    (k : Kind) × (text : Characters) × (after : Characters) × IsPieceAt k rest text after × (starts_group k ≡ true) × (nat_lt (length stack) limit ≡ false)
 
 -- A delimiter stands here that does not close the innermost open one.
 abbrev pub ClosesAnother : List Delimiter → Characters → Type 0

@@ -1,9 +1,9 @@
 -- The flat tokens of a text that is read in part: for private clauses.
-use Rattle.std.specs.Prelude.{◌≡◌, ℕ, false, nat_lt, length, List, [], ◌∷◌, ◌++◌, Some}
+use Rattle.std.specs.Prelude.{◌≡◌, ℕ, true, false, nat_lt, length, List, [], ◌∷◌, ◌++◌, Some}
 use Rattle.scan_core.specs.declared.kind.Kind.{Kind}
 use Rattle.scan_core.specs.declared.kind.Kind.TheVariants as kind
 use Rattle.token_core.specs.declared.tree.Delimiter.{Delimiter}
-use Rattle.tok_core.specs.Endings.{limit, is_top}
+use Rattle.tok_core.specs.Endings.{limit, is_top, starts_group}
 use Rattle.tok_core.specs.Flat.{Flat, opening, flat_trees}
 use Rattle.tok_core.specs.declared.error.LexError.{LexError}
 use Rattle.tok_core.specs.declared.error.LexError.TheVariants.{TooDeep, Syntax, NoMemory}
@@ -38,9 +38,9 @@ Cause (TooDeep at) start full amiss = (at ≡ start) × full
 Cause (Syntax at) start full amiss = (at ≡ start) × amiss
 Cause NoMemory start full amiss = Unit {0}
 
--- The piece opens one group too many.
+-- The piece starts one group too many.
 abbrev pub IsFull : Kind → List Delimiter → Type 0
-IsFull k stack = (d : Delimiter) × (k ≡ kind.Open d) × (nat_lt (length stack) limit ≡ false)
+IsFull k stack = (starts_group k ≡ true) × (nat_lt (length stack) limit ≡ false)
 
 -- The piece does not close the innermost open delimiter.
 abbrev pub IsAmiss : Kind → List Delimiter → Type 0
