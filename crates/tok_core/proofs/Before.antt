@@ -58,7 +58,7 @@ Before-step source at end text rest front after k old new b i e f o =
     let p : Piece = record { kind = k; text = front; start = at; end = end } in
     let t = token_of source k front at end in
     let tokens : tokens_of source (b.pieces ++ p ∷ []) ≡ tokens_of source b.pieces ++ t =
-        tokens_of-append source b.pieces (p ∷ []) ∙ ap (λ r. tokens_of source b.pieces ++ r) (append-nil t) in
+    tokens_of-append source b.pieces (p ∷ []) ∙ ap (λ r. tokens_of source b.pieces ++ r) (append-nil t) in
     record {
       pieces = b.pieces ++ p ∷ [];
       stand = Stand-push 0 at text rest after b.pieces p b.stand refl e i;
@@ -90,16 +90,24 @@ pub Refused-step : (source at : ℕ) (text rest front after : Characters) (k : K
 Refused-step source at text rest front after k nest (TooDeep n) b i c =
     let Q : ℕ → Type 0 = λ n. EndsAt source text n deep in
     subst Q (sym c.0) (record {
-        pieces = b.pieces; rest = rest; stack = open_in nest; stand = b.stand; matched = b.matched;
-        stops = (k, front, after, i, c.1.0, c.1.1);
-      })
+      pieces = b.pieces;
+      rest = rest;
+      stack = open_in nest;
+      stand = b.stand;
+      matched = b.matched;
+      stops = (k, front, after, i, c.1.0, c.1.1);
+    })
 Refused-step source at text rest front after k nest (Syntax n) b i c =
     let P : Kind → Type 0 = λ k. IsPieceAt k rest front after in
     let Q : ℕ → Type 0 = λ n. EndsAt source text n wrong in
     subst Q (sym c.0) (record {
-        pieces = b.pieces; rest = rest; stack = open_in nest; stand = b.stand; matched = b.matched;
-        stops = inr (inr (c.1.0, front, after, subst P c.1.1 i, c.1.2));
-      })
+      pieces = b.pieces;
+      rest = rest;
+      stack = open_in nest;
+      stand = b.stand;
+      matched = b.matched;
+      stops = inr (inr (c.1.0, front, after, subst P c.1.1 i, c.1.2));
+    })
 Refused-step source at text rest front after k nest NoMemory b i c = tt
 
 empty_is : (cs : Characters) → length cs ≡ 0 → cs ≡ []
@@ -111,9 +119,13 @@ pub Refused-end : (source at : ℕ) (text rest : Characters) (nest : Nest) (e : 
 Refused-end source at text rest nest e b l h =
     let P : LexError → Type 0 = λ e. Refused source text e in
     subst P (sym h.0) (record {
-        pieces = b.pieces; rest = rest; stack = open_in nest; stand = b.stand; matched = b.matched;
-        stops = inl (empty_is rest l, h.1);
-      })
+      pieces = b.pieces;
+      rest = rest;
+      stack = open_in nest;
+      stand = b.stand;
+      matched = b.matched;
+      stops = inl (empty_is rest l, h.1);
+    })
 
 -- the reading ends well
 pub Spells-end : (source at : ℕ) (text rest : Characters) (nest : Nest) (s : TokenStream) → Before source text rest at nest → length rest ≡ 0

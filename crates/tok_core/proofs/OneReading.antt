@@ -77,7 +77,7 @@ stuck source s t text front after k start end more wrong h i o = ⊎_elim
     (⊎_elim
     (λ w. w.1 k front after i)
     (λ w. stays_failed (token_of source k front start end) more s t
-        (fails_close source w.0 k front start end s (same-kind k (kind.Close w.0) text front after w.1 w.2 i w.3) w.4) o))
+    (fails_close source w.0 k front start end s (same-kind k (kind.Close w.0) text front after w.1 w.2 i w.3) w.4) o))
     h
 
 -- ---- one reading

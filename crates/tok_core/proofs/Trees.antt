@@ -26,6 +26,7 @@ same_span (At a b c) (At d e f) h k =
   where
     some_same : (x y : ℕ × ℕ) → Some x ≡ Some y → x ≡ y
     some_same x y h = cc
+
     pair_same : (x y : ℕ × ℕ) → Some x ≡ Some y → (x.0 ≡ y.0) × (x.1 ≡ y.1)
     pair_same x y h = let e = some_same x y h in (ap (λ p. p.0) e, ap (λ p. p.1) e)
 
@@ -58,7 +59,7 @@ mutual
       let p = cons_same (opening d (start_of span)) (opening b (start_of spun)) _ _ e in
       let opens = opening_same d b (start_of span) (start_of spun) p.0 in
       let rests : flats_of ts ++ closing d (end_of span) ∷ fs ≡ flats_of us ++ closing b (end_of spun) ∷ gs =
-          sym (append_assoc (flats_of ts) (closing d (end_of span) ∷ []) fs) ∙ p.1 ∙ append_assoc (flats_of us) (closing b (end_of spun) ∷ []) gs in
+      sym (append_assoc (flats_of ts) (closing d (end_of span) ∷ []) fs) ∙ p.1 ∙ append_assoc (flats_of us) (closing b (end_of spun) ∷ []) gs in
       let inside = flats_of-same ts us (closing d (end_of span) ∷ fs) (closing b (end_of spun) ∷ gs) tt tt rests in
       let q = cons_same (closing d (end_of span)) (closing b (end_of spun)) fs gs inside.1 in
       let closes = closing_same d b (end_of span) (end_of spun) q.0 in
@@ -67,8 +68,10 @@ mutual
     where
       cons_same : (x y : Flat) (xs ys : List Flat) → x ∷ xs ≡ y ∷ ys → (x ≡ y) × (xs ≡ ys)
       cons_same x y xs ys e = (cc, cc)
+
       opening_same : (d b : Delimiter) (p q : Place) → opening d p ≡ opening b q → (d ≡ b) × (p ≡ q)
       opening_same d b p q e = (cc, cc)
+
       closing_same : (d b : Delimiter) (p q : Place) → closing d p ≡ closing b q → (d ≡ b) × (p ≡ q)
       closing_same d b p q e = (cc, cc)
 
@@ -141,15 +144,15 @@ trees_back-view (sure ∷ sures) = cc (sure.1, trees_back-view sures)
 stream_back-view : (s : TokenStream) → IsStreamBack s
 stream_back-view = ind-TokenStream IsTreeBack IsGroupBack IsStreamBack
     (λ x y is. subst (λ x. IsTreeBack (roll-TokenTree x)) is
-      (ap tree_back (fold-roll-TokenTree Tree Tree Trees tree_step group_step stream_step (bare_tree y)) ∙ tree_step-back y))
+    (ap tree_back (fold-roll-TokenTree Tree Tree Trees tree_step group_step stream_step (bare_tree y)) ∙ tree_step-back y))
     (λ x y is.
-      let inner = subst (λ (x : Group-F TokenTree Group TokenStream). IsStreamBack x.stream) is y.stream.1 in
-      ap tree_back (fold-roll-Group Tree Tree Trees tree_step group_step stream_step x)
-      ∙ ap (λ (s : TokenStream). tree.Group (roll-Group (record { delimiter = x.delimiter; stream = s; span = x.span }))) inner)
+    let inner = subst (λ (x : Group-F TokenTree Group TokenStream). IsStreamBack x.stream) is y.stream.1 in
+    ap tree_back (fold-roll-Group Tree Tree Trees tree_step group_step stream_step x)
+    ∙ ap (λ (s : TokenStream). tree.Group (roll-Group (record { delimiter = x.delimiter; stream = s; span = x.span }))) inner)
     (λ x y is.
-      let inner = subst (λ (x : TokenStream-F TokenTree Group TokenStream). trees_back (trees_of (map tree_view x.trees)) ≡ x.trees) is (trees_back-view y.trees) in
-      ap stream_back (fold-roll-TokenStream Tree Tree Trees tree_step group_step stream_step x)
-      ∙ ap (λ (ts : List TokenTree). roll-TokenStream (record { trees = ts })) inner)
+    let inner = subst (λ (x : TokenStream-F TokenTree Group TokenStream). trees_back (trees_of (map tree_view x.trees)) ≡ x.trees) is (trees_back-view y.trees) in
+    ap stream_back (fold-roll-TokenStream Tree Tree Trees tree_step group_step stream_step x)
+    ∙ ap (λ (ts : List TokenTree). roll-TokenStream (record { trees = ts })) inner)
 
 pub stream_view-same : (a b : TokenStream) → stream_view a ≡ stream_view b → a ≡ b
 stream_view-same a b e = sym (stream_back-view a) ∙ ap stream_back e ∙ stream_back-view b
