@@ -4,3 +4,4 @@ pub mod Depth
 pub mod OneReading
 pub mod Trees
 pub mod Outcomes
+pub mod Lists

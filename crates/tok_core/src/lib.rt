@@ -8,12 +8,14 @@
 mod error;
 mod nest;
 mod reading;
+mod spans;
 #[cfg(test)]
 mod tests;
 mod token;
 
 pub use error::LexError;
 pub use reading::lex;
+pub use spans::respan;
 pub use token_core::{
     Boxed, Delimiter, Group, Ident, Items, Lifetime, Literal, Mem, Punct, Span, Text, TokenStream,
     TokenTree, TryClone,
