@@ -1,5 +1,5 @@
 -- What a reading answers, by how the text ends.
-use Rattle.std.proofs.Common.{◌≡◌, inl, inr, ℕ, [], Some, Result, Ok, Err, IfOk, IfErr, refl, sym, ap, ◌∙◌, subst}
+use Rattle.std.proofs.Common.{◌≡◌, inl, inr, ℕ, [], Result, Ok, Err, IfOk, IfErr, refl, sym, ap, ◌∙◌}
 use Rattle.scan_core.specs.Characters.{Characters}
 use Rattle.token_core.specs.declared.tree.TokenStream.{TokenStream}
 use Rattle.tok_core.specs.Endings.{open_after, Closes, IsWithin, Ending, done, deep, wrong, EndsAt, Refused, Answers}

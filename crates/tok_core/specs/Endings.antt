@@ -1,5 +1,5 @@
 -- How deep groups may nest, and where a text that spells no tokens is refused.
-use Rattle.std.specs.Prelude.{◌≡◌, ◌≤◌, ◌<◌, ◌⊎◌, ℕ, Bool, true, false, List, [], ◌∷◌, length, drop, nat_lt, if◌then◌else◌, option_and_then, Option, Some, None, Result, Ok, Err}
+use Rattle.std.specs.Prelude.{◌≡◌, ◌≤◌, ◌<◌, ◌⊎◌, ℕ, Bool, true, false, List, [], ◌∷◌, length, drop, nat_lt, if◌then◌else◌, option_and_then, Option, Some, None, Result, Err}
 use Rattle.scan_core.specs.Characters.{Characters}
 use Rattle.scan_core.specs.Pieces.{IsPieceAt}
 use Rattle.scan_core.specs.declared.kind.Kind.{Kind}
