@@ -5,3 +5,4 @@ pub mod OneReading
 pub mod Trees
 pub mod Outcomes
 pub mod Lists
+pub mod AtBytes

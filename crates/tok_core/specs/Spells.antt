@@ -1,5 +1,5 @@
 -- Which tokens a text spells.
-use Rattle.std.specs.Prelude.{◌≡◌, ℕ, ◌+◌, false, List, [], ◌∷◌, ◌++◌, length, slice_index, Some}
+use Rattle.std.specs.Prelude.{◌≡◌, ℕ, ◌+◌, false, List, [], ◌∷◌, ◌++◌, length, slice_index, slice_range, Some}
 use Rattle.std.specs.Str.{encode_utf8_all}
 use Rattle.scan_core.specs.Characters.{Characters}
 use Rattle.scan_core.specs.Pieces.{IsPieceAt}
@@ -25,6 +25,10 @@ Stand from text (p ∷ ps) to rest =
     × (p.end ≡ from + length (encode_utf8_all p.text))
     × IsPieceAt p.kind text p.text after
     × Stand p.end after ps to rest
+
+-- The bytes of the piece's characters are those of the text where the piece stands.
+abbrev pub IsAtItsBytes : List ℕ → Piece → Type 0
+IsAtItsBytes text p = slice_range text p.start p.end ≡ encode_utf8_all p.text
 
 -- the flat tokens of a piece that stands from `start` to `end` in the text `source`
 abbrev pub token_of : ℕ → Kind → Characters → ℕ → ℕ → List Flat

@@ -6,6 +6,7 @@
 #![tactic(auto)]
 
 mod error;
+mod laws;
 mod nest;
 mod reading;
 mod spans;
@@ -14,6 +15,7 @@ mod tests;
 mod token;
 
 pub use error::LexError;
+pub use laws::{flat_tokens_tell_the_stream, pieces_stand_at_their_bytes, text_has_one_reading};
 pub use reading::lex;
 pub use spans::respan;
 pub use token_core::{
