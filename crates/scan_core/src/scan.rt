@@ -58,11 +58,7 @@ fn name_length(text: &[char]) -> usize
     ensures value { result ≡ prefix_len continues_name text.now }
     ensures within { result ≤ length text.now }
 {
-    let mut end = 0;
-    while end < text.len() && continues_name(text[end]) {
-        end += 1;
-    }
-    end
+    text.iter().take_while(|c| continues_name(**c)).count()
 }
 
 /// Whether an identifier could go on here.
