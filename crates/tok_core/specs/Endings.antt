@@ -66,12 +66,14 @@ starts_group _ = false
 -- A group starts here that is one too many.
 abbrev pub OpensTooMany : List Delimiter → Characters → Type 0
 OpensTooMany stack rest =
-    (k : Kind) × (text : Characters) × (after : Characters) × IsPieceAt k rest text after × (starts_group k ≡ true) × (nat_lt (length stack) limit ≡ false)
+    (k : Kind) × (text : Characters) × (after : Characters)
+    × IsPieceAt k rest text after × (starts_group k ≡ true) × (nat_lt (length stack) limit ≡ false)
 
 -- A delimiter stands here that does not close the innermost open one.
 abbrev pub ClosesAnother : List Delimiter → Characters → Type 0
 ClosesAnother stack rest =
-    (d : Delimiter) × (text : Characters) × (after : Characters) × IsPieceAt (kind.Close d) rest text after × (is_top d stack ≡ false)
+    (d : Delimiter) × (text : Characters) × (after : Characters)
+    × IsPieceAt (kind.Close d) rest text after × (is_top d stack ≡ false)
 
 -- With these delimiters open and these characters left, the reading ends so.
 abbrev pub Stops : List Delimiter → Characters → Ending → Type 0

@@ -14,10 +14,12 @@ pub fn flat_tokens_tell_the_stream()
 
 /// A text spells one stream at most.
 pub fn text_has_one_reading()
-    ensures { (source : ℕ) (text : Characters) (a b : TokenStream) → Spells source text a → Spells source text b → a ≡ b }
+    ensures { (source : ℕ) (text : Characters) (a b : TokenStream)
+        → Spells source text a → Spells source text b → a ≡ b }
 {}
 
 /// Each piece of a text stands in it at its bytes.
 pub fn pieces_stand_at_their_bytes()
-    ensures { (text : List ℕ) (pieces : List Piece) (end : ℕ) → IsUtf8 text → Stand 0 (chars text) pieces end [] → AllByRecursion (IsAtItsBytes text) pieces }
+    ensures { (text : List ℕ) (pieces : List Piece) (end : ℕ)
+        → IsUtf8 text → Stand 0 (chars text) pieces end [] → AllByRecursion (IsAtItsBytes text) pieces }
 {}

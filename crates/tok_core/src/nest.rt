@@ -60,7 +60,8 @@ impl Nest {
 
     /// Starts a group at `start`.
     fn open(self, alloc: Global, delimiter: Delimiter, start: u32) -> Mem<Nest>
-        ensures flat { IfOk result (λ n. (source : _) → flat_nest source n ≡ flat_nest source self ++ flat.opening delimiter (Some (source, start)) ∷ []) }
+        ensures flat { IfOk result (λ n. (source : _) → flat_nest source n
+            ≡ flat_nest source self ++ flat.opening delimiter (Some (source, start)) ∷ []) }
         ensures one_more { IfOk result (λ n. open_in n ≡ delimiter ∷ open_in self) }
     {
         let Nest { mut frames, trees } = self;
@@ -81,7 +82,8 @@ impl Nest {
         start: u32,
         end: u32,
     ) -> Result<Nest, LexError>
-        ensures flat { IfOk result (λ n. flat_nest source n ≡ flat_nest source self ++ flat.closing delimiter (Some (source, end)) ∷ []) }
+        ensures flat { IfOk result (λ n. flat_nest source n
+            ≡ flat_nest source self ++ flat.closing delimiter (Some (source, end)) ∷ []) }
         ensures was_top { IfOk result (λ n. is_top delimiter (open_in self) ≡ true) }
         ensures one_less { IfOk result (λ n. open_in n ≡ drop 1 (open_in self)) }
         ensures err { IfErr result (λ e. Cause e start ⊥ (is_top delimiter (open_in self) ≡ false)) }
@@ -140,8 +142,10 @@ impl Nest {
         start: u32,
         end: u32,
     ) -> Result<Nest, LexError>
-        ensures flat { IfOk result (λ n. flat_nest source n ≡ flat_nest source self ++ token_of source kind text.now start end) }
-        ensures matched { IfOk result (λ n. open_after (token_of source kind text.now start end) (open_in self) ≡ Some (open_in n)) }
+        ensures flat { IfOk result (λ n. flat_nest source n
+            ≡ flat_nest source self ++ token_of source kind text.now start end) }
+        ensures matched { IfOk result (λ n. open_after (token_of source kind text.now start end) (open_in self)
+            ≡ Some (open_in n)) }
         ensures err { IfErr result (λ e. Cause e start (IsFull kind (open_in self)) (IsAmiss kind (open_in self))) }
     {
         let span = Span::At { source, start, end };

@@ -45,9 +45,12 @@ pub fn lex(alloc: Global, source: u32, text: &str) -> Result<TokenStream, LexErr
     ensures err { IfErr result (Refused source (chars text.now)) }
 
     // What is spelled so is read, and what is wrong is refused there, unless memory runs out.
-    ensures only { (s : TokenStream) → Spells source (chars text.now) s → IsWithin s → Answers result (Ok s) }
-    ensures too_deep { (at : ℕ) → EndsAt source (chars text.now) at deep → Answers result (Err (LexError.TooDeep at)) }
-    ensures syntax { (at : ℕ) → EndsAt source (chars text.now) at wrong → Answers result (Err (LexError.Syntax at)) }
+    ensures only { (s : TokenStream) → Spells source (chars text.now) s → IsWithin s
+        → Answers result (Ok s) }
+    ensures too_deep { (at : ℕ) → EndsAt source (chars text.now) at deep
+        → Answers result (Err (LexError.TooDeep at)) }
+    ensures syntax { (at : ℕ) → EndsAt source (chars text.now) at wrong
+        → Answers result (Err (LexError.Syntax at)) }
 {
     let characters = characters(alloc, text)?;
     read(alloc, source, characters.as_slice())

@@ -10,7 +10,8 @@ use token_core::{
 };
 
 pub(crate) fn ident(alloc: Global, characters: &[char], span: Span) -> Mem<TokenTree>
-    ensures { IfOk result (λ t. flat_tree t ≡ flat.token (flat.ident (record { text = encode_utf8_all characters.now; raw = false; span = span })) ∷ []) }
+    ensures { IfOk result (λ t. flat_tree t
+        ≡ flat.token (flat.ident (record { text = encode_utf8_all characters.now; raw = false; span = span })) ∷ []) }
 {
     let text = Text::from_string(scan_core::text_of(alloc, characters)?);
     let raw = false;
@@ -18,7 +19,8 @@ pub(crate) fn ident(alloc: Global, characters: &[char], span: Span) -> Mem<Token
 }
 
 pub(crate) fn literal(alloc: Global, characters: &[char], span: Span) -> Mem<TokenTree>
-    ensures { IfOk result (λ t. flat_tree t ≡ flat.token (flat.literal (record { text = encode_utf8_all characters.now; span = span })) ∷ []) }
+    ensures { IfOk result (λ t. flat_tree t
+        ≡ flat.token (flat.literal (record { text = encode_utf8_all characters.now; span = span })) ∷ []) }
 {
     let text = Text::from_string(scan_core::text_of(alloc, characters)?);
     Ok(TokenTree::Literal(Literal { text, span }))
@@ -26,7 +28,8 @@ pub(crate) fn literal(alloc: Global, characters: &[char], span: Span) -> Mem<Tok
 
 /// The mark that the first character is.
 pub(crate) fn punct(characters: &[char], joint: bool, span: Span) -> TokenTree
-    ensures { flat_tree result ≡ flat.token (flat.punct (record { ch = slice_index characters.now 0; joint = joint; span = span })) ∷ [] }
+    ensures { flat_tree result
+        ≡ flat.token (flat.punct (record { ch = slice_index characters.now 0; joint = joint; span = span })) ∷ [] }
 {
     let ch = match characters {
         [] => '\0',
@@ -36,7 +39,8 @@ pub(crate) fn punct(characters: &[char], joint: bool, span: Span) -> TokenTree
 }
 
 pub(crate) fn group(delimiter: Delimiter, trees: Items<TokenTree>, span: Span) -> TokenTree
-    ensures { flat_tree result ≡ flat.opening delimiter (start_of span) ∷ (flat_trees trees ++ flat.closing delimiter (end_of span) ∷ []) }
+    ensures { flat_tree result
+        ≡ flat.opening delimiter (start_of span) ∷ (flat_trees trees ++ flat.closing delimiter (end_of span) ∷ []) }
 {
     TokenTree::Group(Group {
         delimiter,
