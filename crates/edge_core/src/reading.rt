@@ -1,0 +1,68 @@
+ghost use Rattle.std.specs.Prelude.{◌≡◌, ℕ, ◌+◌, ◌<◌, ◌≤◌, List, [], length, Some, IfOk, IfSome, OnOk, IsErrOf, IsSome};
+ghost use Rattle.std.specs.Io.KnownBytes.{IsAtEnd};
+ghost use Rattle.edge_core.specs.Faults.{HasRisen};
+ghost use Rattle.edge_core.specs.ReadAll.{Answers};
+ghost use Rattle.edge_core.specs.Source.{LeavesEnd, SomeReads};
+
+use std::alloc::{AllocError, Global};
+use thiserror::Error;
+
+use crate::input::{Failed, Source};
+
+/// Why not all bytes of a source were read.
+#[derive(Debug, Drop, Error)]
+pub enum ReadAll {
+    #[error("ReadFault")]
+    ReadFault,
+    #[error("TooLong")]
+    TooLong,
+    #[error("NoMemory")]
+    NoMemory,
+}
+
+impl From<AllocError> for ReadAll {
+    ghost use Rattle.edge_core.specs.declared.reading.ReadAll.TheVariants.{NoMemory};
+
+    ghost from_gives = { λ _ error. error ≡ NoMemory };
+
+    fn from(_error: AllocError) -> ReadAll {
+        ReadAll::NoMemory
+    }
+}
+
+// How many bytes one read has room for.
+const ROOM: usize = 4096;
+
+/// Reads the bytes to the end, of which there may be `limit`.
+pub fn read_all<S: Source>(alloc: Global, source: &mut S, limit: u64) -> Result<Vec<u8>, ReadAll>
+    // The bytes, where they are told.
+    ensures all { IfOk result (λ bytes. IfSome (S.left source.old) (λ left. bytes.items ≡ left)) }
+    ensures end { OnOk result (IsAtEnd (S.left source.new)) }
+    ensures still_told { OnOk result (IsSome (S.left source.old) → IsSome (S.left source.new)) }
+    ensures left { LeavesEnd (S.left source.old) (S.left source.new) }
+
+    ensures too_long { IsErrOf result ReadAll.TooLong →
+        IfSome (S.left source.old) (λ left. limit < length left) }
+
+    // At most one read more than bytes that may come. `TooLong` comes exactly where they gave too many.
+    ensures reads { SomeReads S.read_gives source.old source.new (limit + 1) (λ given.
+        Answers given limit result) }
+
+    ensures fault { IsErrOf result ReadAll.ReadFault →
+        HasRisen (S.faults source.old) (S.faults source.new) }
+    ensures never_falls { S.faults source.old ≤ S.faults source.new }
+{
+    let mut bytes = Vec::new(alloc);
+    let mut buf = [0; ROOM];
+    loop {
+        let count = match source.read(&mut buf) {
+            Ok(0) => return Ok(bytes),
+            Ok(count) => count,
+            Err(Failed) => return Err(ReadAll::ReadFault),
+        };
+        if count as u64 > limit - bytes.len() as u64 {
+            return Err(ReadAll::TooLong);
+        }
+        bytes.extend_from_slice(&buf[..count])?;
+    }
+}

@@ -1,0 +1,80 @@
+ghost use Rattle.std.specs.Prelude.{◌≡◌, false};
+ghost use Rattle.edge_core.specs.Standard.{inner_reader, read_faults, inner_writer, write_faults};
+
+use std::io::{Read, Write};
+
+use crate::input::{Failed, Source};
+use crate::output::Sink;
+
+/// A source over a reader of std.
+///
+/// It tells what the reader tells: the bytes left of a slice, a `Cursor` or a queue, and nothing
+/// of a file or a terminal. Each error of the reader is a fault, an interruption too.
+#[derive(Drop)]
+pub struct StdSource<R> {
+    reader: R,
+    faults: u64,
+}
+
+impl<R> StdSource<R> {
+    pub fn new(reader: R) -> StdSource<R>
+        ensures reader { inner_reader result ≡ reader }
+        ensures no_faults { read_faults result ≡ 0 }
+    {
+        StdSource { reader, faults: 0 }
+    }
+}
+
+impl<R: Read> Source for StdSource<R> {
+    ghost left = { λ source. R.remaining source.reader };
+
+    ghost faults = { λ source. source.faults };
+
+    fn read(&mut self, buf: &mut [u8]) -> Result<usize, Failed> {
+        match self.reader.read(buf) {
+            Ok(count) => Ok(count),
+            Err(_) => {
+                self.faults = self.faults.saturating_add(1);
+                Err(Failed)
+            }
+        }
+    }
+}
+
+/// A sink over a writer of std.
+///
+/// It tells what the writer tells: the bytes in a `Vec`, and nothing of a file or a terminal. Each
+/// error of the writer is a fault, and so is a write that takes no byte. It never flushes.
+#[derive(Drop)]
+pub struct StdSink<W> {
+    writer: W,
+    faults: u64,
+}
+
+impl<W> StdSink<W> {
+    pub fn new(writer: W) -> StdSink<W>
+        ensures writer { inner_writer result ≡ writer }
+        ensures no_faults { write_faults result ≡ 0 }
+    {
+        StdSink { writer, faults: 0 }
+    }
+}
+
+impl<W: Write> Sink for StdSink<W> {
+    ghost taken = { λ sink. W.contents sink.writer };
+
+    // A writer that tells goes on telling.
+    ghost may_fall_silent = { false };
+
+    ghost faults = { λ sink. sink.faults };
+
+    fn write(&mut self, bytes: &[u8]) -> Result<usize, Failed> {
+        match self.writer.write(bytes) {
+            Ok(count) if count > 0 => Ok(count),
+            _ => {
+                self.faults = self.faults.saturating_add(1);
+                Err(Failed)
+            }
+        }
+    }
+}
