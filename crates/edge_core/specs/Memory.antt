@@ -32,7 +32,7 @@ faults_after succeeded faults = if succeeded then faults else next_count faults
 pub record ReadsMemory (old : MemoryInput) (room : ℕ) (given : Option (List ℕ)) (new : MemoryInput) : Type 0 where
   pub number : new.calls ≡ next_count old.calls
   pub fails : is_none given ≡ is_failing old.fails new.calls
-  pub given : IfSome given (λ bytes. bytes ≡ take (min room old.piece) old.left)
+  pub bytes : IfSome given (λ bytes. bytes ≡ take (min room old.piece) old.left)
   pub left : new.left ≡ drop (length (unwrap_or given [])) old.left
   pub faults : new.faults ≡ faults_after (is_some given) old.faults
   pub same : new ≡ record old { left = new.left; calls = new.calls; faults = new.faults }
@@ -41,7 +41,7 @@ pub record ReadsMemory (old : MemoryInput) (room : ℕ) (given : Option (List �
 pub record WritesMemory (old : MemoryOutput) (bytes : List ℕ) (count : Option ℕ) (new : MemoryOutput) : Type 0 where
   pub number : new.calls ≡ next_count old.calls
   pub fails : is_none count ≡ (nat_le old.room (length old.bytes) || is_failing old.fails new.calls)
-  pub count : IfSome count (λ n. n ≡ min (min (length bytes) old.piece) (old.room - length old.bytes))
+  pub most : IfSome count (λ n. n ≡ min (min (length bytes) old.piece) (old.room - length old.bytes))
   pub taken : new.bytes ≡ old.bytes ++ take (unwrap_or count 0) bytes
   pub faults : new.faults ≡ faults_after (is_some count) old.faults
   pub same : new ≡ record old { bytes = new.bytes; calls = new.calls; faults = new.faults }

@@ -14,12 +14,12 @@ told_bytes sink = if nat_le sink.written sink.room then Some sink.bytes else Non
 
 -- a read gave the bytes that there is room for
 pub record ReadsPlain (old : List ℕ) (room : ℕ) (given : Option (List ℕ)) (new : List ℕ) : Type 0 where
-  pub given : given ≡ Some (take room old)
+  pub bytes : given ≡ Some (take room old)
   pub left : new ≡ drop room old
 
 -- a write took all bytes, and kept those that there was room for
 pub record WritesPlain (old : PlainOutput) (bytes : List ℕ) (count : Option ℕ) (new : PlainOutput) : Type 0 where
-  pub count : count ≡ Some (length bytes)
+  pub all : count ≡ Some (length bytes)
   pub kept : new.bytes ≡ take old.room (old.bytes ++ bytes)
   pub written : new.written ≡ min (old.written + length bytes) last_count
   pub room : new.room ≡ old.room

@@ -1,13 +1,12 @@
 ghost use Rattle.std.specs.Prelude.{◌≡◌, ◌<◌, ◌≤◌, [], Some, IfOk};
 ghost use Rattle.edge_core.specs.Memory.{MemoryInput, MemoryOutput, ReadsMemory, WritesMemory};
 
-use std::alloc::{AllocError, Global};
-use std::marker::Model;
-
 use crate::input::{Failed, Source};
 use crate::kept::Kept;
 use crate::output::Sink;
 use crate::unread::Unread;
+use std::alloc::{AllocError, Global};
+use std::marker::Model;
 
 /// A source over bytes in memory that gives them in pieces and fails at chosen calls.
 ///
@@ -25,11 +24,12 @@ impl Model for MemorySource {
     ghost Value = { MemoryInput };
 
     ghost view = { λ source. record {
-        left = source.unread;
-        piece = source.piece;
-        fails = source.fails.items;
-        calls = source.calls;
-        faults = source.faults } };
+      left = source.unread;
+      piece = source.piece;
+      fails = source.fails.items;
+      calls = source.calls;
+      faults = source.faults;
+    } };
 
     ghost invariant = { λ source. 0 < source.piece };
 }
@@ -40,7 +40,12 @@ impl MemorySource {
     pub fn new(bytes: Vec<u8>, piece: usize, fails: Vec<u64>) -> MemorySource
         requires { 0 < piece }
         ensures { result ≡ record {
-            left = bytes.items; piece = piece; fails = fails.items; calls = 0; faults = 0 } }
+          left = bytes.items;
+          piece = piece;
+          fails = fails.items;
+          calls = 0;
+          faults = 0;
+        } }
     {
         MemorySource {
             unread: Unread::new(bytes),
@@ -86,12 +91,13 @@ impl Model for MemorySink {
     ghost Value = { MemoryOutput };
 
     ghost view = { λ sink. record {
-        bytes = sink.kept.bytes;
-        piece = sink.piece;
-        room = sink.kept.room;
-        fails = sink.fails.items;
-        calls = sink.calls;
-        faults = sink.faults } };
+      bytes = sink.kept.bytes;
+      piece = sink.piece;
+      room = sink.kept.room;
+      fails = sink.fails.items;
+      calls = sink.calls;
+      faults = sink.faults;
+    } };
 
     ghost invariant = { λ sink. 0 < sink.piece };
 }
@@ -107,7 +113,13 @@ impl MemorySink {
     ) -> Result<MemorySink, AllocError>
         requires { 0 < piece }
         ensures { IfOk result (λ sink. sink ≡ record {
-            bytes = []; piece = piece; room = room; fails = fails.items; calls = 0; faults = 0 }) }
+          bytes = [];
+          piece = piece;
+          room = room;
+          fails = fails.items;
+          calls = 0;
+          faults = 0;
+        }) }
     {
         Ok(MemorySink {
             kept: Kept::new(alloc, room)?,

@@ -1,13 +1,12 @@
 ghost use Rattle.std.specs.Prelude.{◌≡◌, ℕ, List, [], length, min, Some, IfOk};
 ghost use Rattle.edge_core.specs.Plain.{PlainOutput, ReadsPlain, WritesPlain, told_bytes};
 
-use std::alloc::{AllocError, Global};
-use std::marker::Model;
-
 use crate::input::{Failed, Source};
 use crate::kept::Kept;
 use crate::output::Sink;
 use crate::unread::Unread;
+use std::alloc::{AllocError, Global};
+use std::marker::Model;
 
 /// A source over bytes in memory that never fails.
 #[derive(Debug, Drop)]
@@ -57,7 +56,10 @@ impl Model for PlainSink {
     ghost Value = { PlainOutput };
 
     ghost view = { λ sink. record {
-        bytes = sink.kept.bytes; room = sink.kept.room; written = sink.written } };
+      bytes = sink.kept.bytes;
+      room = sink.kept.room;
+      written = sink.written;
+    } };
 
     ghost invariant = { λ sink. length sink.kept.bytes ≡ min sink.written sink.kept.room };
 }

@@ -4,10 +4,9 @@ ghost use Rattle.edge_core.specs.Faults.{HasRisen};
 ghost use Rattle.edge_core.specs.ReadAll.{Answers};
 ghost use Rattle.edge_core.specs.Source.{LeavesEnd, SomeReads};
 
+use crate::input::{Failed, Source};
 use std::alloc::{AllocError, Global};
 use thiserror::Error;
-
-use crate::input::{Failed, Source};
 
 /// Why not all bytes of a source were read.
 #[derive(Debug, Drop, Error)]

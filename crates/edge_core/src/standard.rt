@@ -1,10 +1,8 @@
-ghost use Rattle.std.specs.Prelude.{◌≡◌, false};
-ghost use Rattle.edge_core.specs.Standard.{inner_reader, read_faults, inner_writer, write_faults};
-
-use std::io::{Read, Write};
+ghost use Rattle.std.specs.Prelude.{◌≡◌, ◌^◌, ◌<◌, false};
 
 use crate::input::{Failed, Source};
 use crate::output::Sink;
+use std::io::{Read, Write};
 
 /// A source over a reader of std.
 ///
@@ -14,9 +12,12 @@ use crate::output::Sink;
 pub struct StdSource<R> {
     reader: R,
     faults: u64,
+    ghost in_range: { faults < 2 ^ 64 },
 }
 
 impl<R> StdSource<R> {
+    ghost use Rattle.edge_core.specs.Standard.{inner_reader, read_faults};
+
     pub fn new(reader: R) -> StdSource<R>
         ensures reader { inner_reader result ≡ reader }
         ensures no_faults { read_faults result ≡ 0 }
@@ -49,9 +50,12 @@ impl<R: Read> Source for StdSource<R> {
 pub struct StdSink<W> {
     writer: W,
     faults: u64,
+    ghost in_range: { faults < 2 ^ 64 },
 }
 
 impl<W> StdSink<W> {
+    ghost use Rattle.edge_core.specs.Standard.{inner_writer, write_faults};
+
     pub fn new(writer: W) -> StdSink<W>
         ensures writer { inner_writer result ≡ writer }
         ensures no_faults { write_faults result ≡ 0 }

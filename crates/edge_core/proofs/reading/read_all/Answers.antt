@@ -17,7 +17,7 @@ pub returns-in-Ok-eq0-clause-reads : goal.returns-in-Ok-eq0-clause-reads
 returns-in-Ok-eq0-clause-reads g c =
     SomeReads-weaken _ _ _ _ _ _ _ (omega arith)
     (λ given e. let all : c.loop-bytes.bytes.items ≡ given = sym (e ∙ ap (λ n. c.loop-bytes.bytes.items ++ take n c.read.new.buf) c.in-Ok-eq0.field-0-test ∙ append-nil _) in
-      (all, rw (← all) c.loop-bytes.invariant.within))
+    (all, rw (← all) c.loop-bytes.invariant.within))
     (SomeReads-more _ _ _ _ _ _ _ _ c.loop-bytes.invariant.reads c.in-Ok-eq0.ensures.gives)
 
 pub returns-in-Err-clause-reads : goal.returns-in-Err-clause-reads
@@ -51,5 +51,5 @@ pub returns-in_err-extend_from_slice-clause-reads : goal.returns-in_err-extend_f
 returns-in_err-extend_from_slice-clause-reads g c =
     SomeReads-weaken _ _ _ _ _ _ _ (omega arith)
     (λ given e. Answers-no_memory given _ _ c.from_residual.ensures.1
-      (omega (arith, length-append-take _ _ _ _ c.in-Ok.ensures.within e)))
+    (omega (arith, length-append-take _ _ _ _ c.in-Ok.ensures.within e)))
     (SomeReads-more _ _ _ _ _ _ _ _ c.loop-bytes.invariant.reads c.in-Ok.ensures.gives)

@@ -8,7 +8,7 @@ invariant-loop-bytes g l = record {
   within : length l.bytes.items ≤ l.limit;
   given : Consumes (g.S.Source.left l.initial.source) (g.S.Source.left l.source) l.bytes.items;
   never_falls : g.S.Source.faults l.initial.source ≤ g.S.Source.faults l.source;
-  reads : SomeReads g.S.Source.read_gives l.initial.source l.source (length l.bytes.items) (λ given. given ≡ l.bytes.items)
+  reads : SomeReads g.S.Source.read_gives l.initial.source l.source (length l.bytes.items) (λ given. given ≡ l.bytes.items);
 }
 
 abbrev pub decreases-loop-bytes : goal.decreases-loop-bytes

@@ -7,7 +7,7 @@ invariant-loop-sent g l = record {
   within : l.sent ≤ length l.bytes;
   taken : Takes g.K.Sink.may_fall_silent (g.K.Sink.taken l.initial.sink) (g.K.Sink.taken l.sink) (take l.sent l.bytes);
   never_falls : g.K.Sink.faults l.initial.sink ≤ g.K.Sink.faults l.sink;
-  writes : Writes g.K.Sink.write_gives l.bytes l.initial.sink l.sent l.sink
+  writes : Writes g.K.Sink.write_gives l.bytes l.initial.sink l.sent l.sink;
 }
 
 abbrev pub decreases-loop-sent : goal.decreases-loop-sent
