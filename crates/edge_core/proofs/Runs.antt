@@ -1,6 +1,5 @@
 -- Runs of reads and of writes, one call longer.
 use Rattle.std.proofs.Common.{◌≡◌, ℕ, suc, ◌+◌, ◌≤◌, List, [], ◌++◌, length, take, drop, length-append, Option, arith, ap, unwrap_or}
-use Rattle.std.proofs.lemmas.List.{length-take}
 use Rattle.edge_core.specs.Source.{Reads, more as more_reads, SomeReads}
 use Rattle.edge_core.specs.Sink.{Writes, more as more_writes}
 
@@ -27,9 +26,3 @@ pub Writes-more : {S : Type 0} (gives : S → List ℕ → Option ℕ → S → 
     Writes gives bytes old (sent + unwrap_or count 0) new
 Writes-more gives old mid new sent count bytes piece rest before step =
     more_writes old mid new sent count before (rw rest at step)
-
--- the bytes so far and the count of one more read
-pub length-append-take : (bytes buf given : List ℕ) (count : ℕ) → count ≤ length buf →
-    given ≡ bytes ++ take count buf → length given ≡ length bytes + count
-length-append-take bytes buf given count within e =
-    rw e (simp (length-append, length-take) (omega arith))

@@ -1,10 +1,9 @@
 -- What several reads or writes in a row do to the bytes that are told.
 use Rattle.std.proofs.Common.{◌≡◌, ℕ, suc, zero, ◌+◌, ◌-◌, arith, ◌<◌, ◌≤◌, List, [], ◌∷◌, ◌++◌, length, take, drop, Option, Some, None, Bool, true, false, IsTrue, sym, ◌∙◌, ap, refl, append_assoc, append-nil, zero-add, suc-add}
-use Rattle.std.proofs.Math.Seq.{take-nil}
-use Rattle.std.proofs.lemmas.Grind.{common_steps}
 use Rattle.std.specs.Io.KnownBytes.{Consumes}
 use Rattle.edge_core.specs.Source.{IsUnread, LeavesEnd}
 use Rattle.edge_core.specs.Sink.{Takes}
+use Rattle.edge_core.proofs.Pieces.{take-add}
 
 -- a source that gave nothing
 pub Consumes-nil : (left : Option (List ℕ)) → Consumes left left []
@@ -24,13 +23,6 @@ Consumes-leaves None new given p = tt
 Consumes-leaves (Some a) None given p = tt
 Consumes-leaves (Some a) (Some b) given p = (given, p)
 
--- a failed read after others
-pub Consumes-unread : (old mid new : Option (List ℕ)) (given : List ℕ) → Consumes old mid given → IsUnread mid new → LeavesEnd old new
-Consumes-unread None mid new given p q = tt
-Consumes-unread (Some a) mid None given p q = tt
-Consumes-unread (Some a) None (Some c) given p q = absurd p
-Consumes-unread (Some a) (Some b) (Some c) given p q = (given, rw q p)
-
 -- a sink that took nothing
 pub Takes-nil : (silent : Bool) (taken : Option (List ℕ)) → Takes silent taken taken []
 Takes-nil silent (Some bytes) = sym (append-nil bytes)
@@ -46,25 +38,9 @@ Takes-append silent None mid None first second p q = tt
 Takes-append silent None None (Some c) first second p q = q
 Takes-append silent None (Some b) (Some c) first second p q = p
 
--- some bytes, and then some of the rest
-take-add : (n m : ℕ) (xs : List ℕ) → take (n + m) xs ≡ take n xs ++ take m (drop n xs)
-take-add zero m xs = rw zero-add refl
-take-add (suc n) m [] = rw take-nil (rw take-nil refl)
-take-add (suc n) m (x ∷ xs) = rw suc-add (ap (λ ys. x ∷ ys) (take-add n m xs))
-
 -- a write that was handed all bytes not yet taken, after others
 pub Takes-more : (silent : Bool) (old mid new : Option (List ℕ)) (sent count : ℕ) (bytes piece : List ℕ) → piece ≡ drop sent bytes →
     Takes silent old mid (take sent bytes) → Takes silent mid new (take count piece) →
     Takes silent old new (take (sent + count) bytes)
 Takes-more silent old mid new sent count bytes piece rest before step =
     rw take-add (Takes-append silent old mid new (take sent bytes) (take count (drop sent bytes)) before (rw rest at step))
-
--- a write that took nothing, after others
-pub Takes-none : (silent : Bool) (old mid new : Option (List ℕ)) (bytes : List ℕ) →
-    Takes silent old mid bytes → Takes silent mid new [] → Takes silent old new bytes
-Takes-none silent old mid new bytes before step =
-    rw append-nil at (Takes-append silent old mid new bytes [] before step)
-
--- the slice from an index on
-pub take-rest : (n : ℕ) (xs : List ℕ) → take (length xs - n) (drop n xs) ≡ drop n xs
-take-rest n xs = grind (arith, common_steps)

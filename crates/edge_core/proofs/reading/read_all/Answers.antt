@@ -1,7 +1,8 @@
 use Rattle.std.proofs.Common.{◌≡◌, ◌∙◌, ◌<◌, ◌≤◌, [], ◌++◌, take, length, arith, append-nil, refl, sym, ap}
 use Rattle.edge_core.specs.Source.{none}
 use Rattle.edge_core.proofs.Told.{Consumes-nil, Consumes-append, Consumes-leaves}
-use Rattle.edge_core.proofs.Runs.{SomeReads-more, SomeReads-weaken, length-append-take}
+use Rattle.edge_core.proofs.Runs.{SomeReads-more, SomeReads-weaken}
+use Rattle.edge_core.proofs.Pieces.{length-append-take}
 use Rattle.edge_core.proofs.Answered.{Answers-no_memory}
 use Rattle.edge_core.proofs.reading.read_all.Goals as goal
 
