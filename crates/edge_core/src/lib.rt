@@ -2,6 +2,7 @@
 //! calls that read all there is and write all there is.
 #![tactic(auto)]
 
+mod faults;
 pub mod input;
 mod kept;
 pub mod memory;

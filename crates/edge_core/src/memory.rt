@@ -1,6 +1,7 @@
 ghost use Rattle.std.specs.Prelude.{◌≡◌, ◌<◌, ◌≤◌, [], Some, IfOk};
 ghost use Rattle.edge_core.specs.Memory.{MemoryInput, MemoryOutput, ReadsMemory, WritesMemory};
 
+use crate::faults::count_fault;
 use crate::input::{Failed, Source};
 use crate::kept::Kept;
 use crate::output::Sink;
@@ -67,8 +68,7 @@ impl Source for MemorySource {
     fn read(&mut self, buf: &mut [u8]) -> Result<usize, Failed> {
         self.calls = self.calls.saturating_add(1);
         if self.fails.contains(&self.calls) {
-            self.faults = self.faults.saturating_add(1);
-            return Err(Failed);
+            return Err(count_fault(&mut self.faults));
         }
         let most = buf.len().min(self.piece);
         Ok(self.unread.give(&mut buf[..most]))
@@ -148,8 +148,7 @@ impl Sink for MemorySink {
     fn write(&mut self, bytes: &[u8]) -> Result<usize, Failed> {
         self.calls = self.calls.saturating_add(1);
         if self.kept.is_full() || self.fails.contains(&self.calls) {
-            self.faults = self.faults.saturating_add(1);
-            return Err(Failed);
+            return Err(count_fault(&mut self.faults));
         }
         let most = bytes.len().min(self.piece);
         Ok(self.kept.keep(&bytes[..most]))

@@ -1,5 +1,6 @@
 ghost use Rattle.std.specs.Prelude.{◌≡◌, ◌^◌, ◌<◌, false};
 
+use crate::faults::count_fault;
 use crate::input::{Failed, Source};
 use crate::output::Sink;
 use std::io::{Read, Write};
@@ -34,10 +35,7 @@ impl<R: Read> Source for StdSource<R> {
     fn read(&mut self, buf: &mut [u8]) -> Result<usize, Failed> {
         match self.reader.read(buf) {
             Ok(count) => Ok(count),
-            Err(_) => {
-                self.faults = self.faults.saturating_add(1);
-                Err(Failed)
-            }
+            Err(_) => Err(count_fault(&mut self.faults)),
         }
     }
 }
@@ -75,10 +73,7 @@ impl<W: Write> Sink for StdSink<W> {
     fn write(&mut self, bytes: &[u8]) -> Result<usize, Failed> {
         match self.writer.write(bytes) {
             Ok(count) if count > 0 => Ok(count),
-            _ => {
-                self.faults = self.faults.saturating_add(1);
-                Err(Failed)
-            }
+            _ => Err(count_fault(&mut self.faults)),
         }
     }
 }

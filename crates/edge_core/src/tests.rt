@@ -1,14 +1,13 @@
 ghost use Rattle.std.specs.Prelude.{◌≡◌, ◌++◌, IfOk, IsOk, OnOk, IsErrOf};
 
-use std::alloc::Global;
-use std::io;
-use std::io::{Cursor, Read, Write};
-use std::test::Fail;
-
 use crate::{
     MemorySink, MemorySource, PlainSink, PlainSource, ReadAll, Sink, Source, StdSink, StdSource,
     WriteFault, read_all, write_all,
 };
+use std::alloc::Global;
+use std::io;
+use std::io::{Cursor, Read, Write};
+use std::test::Fail;
 
 const TEXT: &[u8] = b"twenty bytes of text";
 
@@ -115,7 +114,8 @@ fn plain_past_the_room(rt: HostRuntime) -> Result<(), Fail> {
 
 // What std tells of a slice and a vector is passed on.
 fn copy_by_std(alloc: Global, from: &[u8], to: &mut Vec<u8>) -> Result<Vec<u8>, ReadAll>
-    ensures { IfOk result (λ read. read.items ≡ from.now) }
+    ensures read { IfOk result (λ read. read.items ≡ from.now) }
+    ensures written { OnOk result (to.new.items ≡ to.old.items ++ from.now) }
 {
     let read = read_all(alloc, &mut StdSource::new(from), u64::MAX)?;
     if write_all(&mut StdSink::new(to), &read).is_err() {
@@ -166,7 +166,12 @@ fn over_std(rt: HostRuntime) -> Result<(), Fail> {
     assert_eq!(rt; read_all(rt.alloc(), &mut cursor, 20)?.as_slice(), TEXT);
 
     let mut source = StdSource::new(Third { calls: 0 });
-    assert!(rt; matches!(read_all(rt.alloc(), &mut source, 20), Err(ReadAll::ReadFault)));
+    assert!(rt;
+        matches!(
+            read_all(rt.alloc(), &mut source, 20),
+            Err(ReadAll::ReadFault)
+        )
+    );
     let mut sink = StdSink::new(Third { calls: 0 });
     assert_eq!(rt; write_all(&mut sink, TEXT), Err(WriteFault { sent: 2 }));
 
