@@ -1,6 +1,6 @@
 -- Runs of reads and of writes, one call longer.
-use Rattle.std.proofs.Common.{◌≡◌, ℕ, suc, ◌+◌, ◌≤◌, List, [], ◌++◌, length, take, drop, length-append, Option, arith, ap, unwrap_or}
-use Rattle.edge_core.specs.Source.{Reads, more as more_reads, SomeReads}
+use Rattle.std.proofs.Common.{◌≡◌, ℕ, suc, ◌+◌, ◌≤◌, List, [], ◌++◌, drop, Option, arith, ap, unwrap_or}
+use Rattle.edge_core.specs.Source.{more as more_reads, SomeReads}
 use Rattle.edge_core.specs.Sink.{Writes, more as more_writes}
 
 module _ {S : Type 0} (gives : S → ℕ → Option (List ℕ) → S → Type 0) where

@@ -1,7 +1,7 @@
 -- What several reads or writes in a row do to the bytes that are told.
-use Rattle.std.proofs.Common.{◌≡◌, ℕ, suc, zero, ◌+◌, ◌-◌, arith, ◌<◌, ◌≤◌, List, [], ◌∷◌, ◌++◌, length, take, drop, Option, Some, None, Bool, true, false, IsTrue, sym, ◌∙◌, ap, refl, append_assoc, append-nil, zero-add, suc-add}
+use Rattle.std.proofs.Common.{◌≡◌, ℕ, ◌+◌, List, [], ◌++◌, take, drop, Option, Some, None, Bool, sym, ◌∙◌, ap, refl, append_assoc, append-nil}
 use Rattle.std.specs.Io.KnownBytes.{Consumes}
-use Rattle.edge_core.specs.Source.{IsUnread, LeavesEnd}
+use Rattle.edge_core.specs.Source.{LeavesEnd}
 use Rattle.edge_core.specs.Sink.{Takes}
 use Rattle.edge_core.proofs.Pieces.{take-add}
 

@@ -1,5 +1,5 @@
 -- What a read does to the bytes that a source has left, and what a run of reads gave.
-use Rattle.std.specs.Prelude.{◌≡◌, ℕ, suc, ◌+◌, ◌≤◌, List, [], ◌++◌, take, ⊤, Option, Some, None, Result, Ok, Err, unwrap_or}
+use Rattle.std.specs.Prelude.{◌≡◌, ℕ, suc, ◌≤◌, List, [], ◌++◌, take, ⊤, Option, Some, None, Result, Ok, Err, unwrap_or}
 
 -- the bytes left are the same, where the source told before and after
 abbrev pub IsUnread : Option (List ℕ) → Option (List ℕ) → Type 0

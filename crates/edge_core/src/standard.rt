@@ -25,6 +25,12 @@ impl<R> StdSource<R> {
     {
         StdSource { reader, faults: 0 }
     }
+
+    pub fn into_inner(self) -> R
+        ensures { result ≡ inner_reader self }
+    {
+        self.reader
+    }
 }
 
 impl<R: Read> Source for StdSource<R> {
@@ -59,6 +65,12 @@ impl<W> StdSink<W> {
         ensures no_faults { write_faults result ≡ 0 }
     {
         StdSink { writer, faults: 0 }
+    }
+
+    pub fn into_inner(self) -> W
+        ensures { result ≡ inner_writer self }
+    {
+        self.writer
     }
 }
 

@@ -1,4 +1,4 @@
-use Rattle.std.proofs.Common.{◌≡◌, ◌∙◌, ◌<◌, ◌≤◌, [], ◌++◌, take, length, arith, append-nil, refl, sym, ap}
+use Rattle.std.proofs.Common.{◌≡◌, ◌∙◌, [], ◌++◌, take, length, arith, append-nil, refl, sym, ap}
 use Rattle.edge_core.specs.Source.{none}
 use Rattle.edge_core.proofs.Told.{Consumes-nil, Consumes-append, Consumes-leaves}
 use Rattle.edge_core.proofs.Runs.{SomeReads-more, SomeReads-weaken}

@@ -1,4 +1,4 @@
-use Rattle.std.proofs.Common.{◌≡◌, ◌≤◌, ◌++◌, take, drop, length, length-drop, arith, append-nil, refl, sym, ap, add-zero}
+use Rattle.std.proofs.Common.{length-drop, arith, add-zero}
 use Rattle.edge_core.specs.Sink.{none}
 use Rattle.edge_core.proofs.Told.{Takes-nil, Takes-more}
 use Rattle.edge_core.proofs.Pieces.{take-drop}
