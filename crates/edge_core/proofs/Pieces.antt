@@ -1,5 +1,5 @@
 -- A list that is read or written piece by piece.
-use Rattle.std.proofs.Common.{◌≡◌, ℕ, suc, zero, ◌+◌, ◌-◌, ◌≤◌, List, [], ◌∷◌, ◌++◌, length, take, drop, ap, refl, arith, zero-add, suc-add, length-append}
+use Rattle.std.proofs.Common.{◌≡◌, ℕ, suc, zero, ◌+◌, ◌-◌, ◌≤◌, List, [], ◌∷◌, ◌++◌, length, take, drop, ◌∙◌, ap, sym, refl, arith, zero-add, suc-add, length-append}
 use Rattle.std.proofs.Math.Seq.{take-nil}
 use Rattle.std.proofs.lemmas.Grind.{common_steps}
 use Rattle.std.proofs.lemmas.List.{length-take}
@@ -7,7 +7,7 @@ use Rattle.std.proofs.lemmas.List.{length-take}
 -- some bytes, and then some of the rest
 pub take-add : (n m : ℕ) (xs : List ℕ) → take (n + m) xs ≡ take n xs ++ take m (drop n xs)
 take-add zero m xs = rw zero-add refl
-take-add (suc n) m [] = rw take-nil (rw take-nil refl)
+take-add (suc n) m [] = take-nil (suc n + m) ∙ sym (take-nil m)
 take-add (suc n) m (x ∷ xs) = rw suc-add (ap (λ ys. x ∷ ys) (take-add n m xs))
 
 -- the slice from an index on

@@ -1,6 +1,6 @@
 -- What several reads or writes in a row do to the bytes that are told.
-use Rattle.std.proofs.Common.{◌≡◌, ℕ, ◌+◌, List, [], ◌++◌, take, drop, Option, Some, None, Bool, sym, ◌∙◌, ap, refl, append_assoc, append-nil}
-use Rattle.std.specs.Io.KnownBytes.{Consumes}
+use Rattle.std.proofs.Common.{◌≡◌, ℕ, ◌+◌, List, [], ◌++◌, take, drop, Option, Some, None, IsSome, Bool, sym, ◌∙◌, ap, refl, append_assoc, append-nil}
+use Rattle.std.specs.Io.KnownBytes.{Consumes, IsAtEnd}
 use Rattle.edge_core.specs.Source.{LeavesEnd}
 use Rattle.edge_core.specs.Sink.{Takes}
 use Rattle.edge_core.proofs.Pieces.{take-add}
@@ -22,6 +22,12 @@ pub Consumes-leaves : (old new : Option (List ℕ)) (given : List ℕ) → Consu
 Consumes-leaves None new given p = tt
 Consumes-leaves (Some a) None given p = tt
 Consumes-leaves (Some a) (Some b) given p = (given, p)
+
+-- a source that told, and is at its end
+pub Consumes-end : (old new : Option (List ℕ)) (given : List ℕ) → Consumes old new given → IsAtEnd new → IsSome old → new ≡ Some []
+Consumes-end None new given p at_end told = cc
+Consumes-end (Some a) None given p at_end told = absurd p
+Consumes-end (Some a) (Some b) given p at_end told = ap Some at_end
 
 -- a sink that took nothing
 pub Takes-nil : (silent : Bool) (taken : Option (List ℕ)) → Takes silent taken taken []

@@ -1,5 +1,9 @@
-//! Where bytes come from and where they go: sources and sinks that count their faults, and the two
-//! calls that read all there is and write all there is.
+//! Where bytes come from and where they go.
+//!
+//! A [`Source`] gives bytes and a [`Sink`] takes them. Each counts its faults, so a caller that sees
+//! a call fail also sees the count rise, and over one whose count is constant no call fails.
+//! [`read_all`] reads to the end and [`write_all`] writes to the end. The memory and the plain ones
+//! say exactly what each call does; those over std's readers and writers are the trusted edge.
 #![tactic(auto)]
 
 mod faults;

@@ -1,4 +1,4 @@
-ghost use Rattle.std.specs.Prelude.{◌≡◌, ◌<◌, ◌≤◌, [], Some, IfOk};
+ghost use Rattle.std.specs.Prelude.{◌≡◌, ◌<◌, [], Some, IfOk};
 ghost use Rattle.edge_core.specs.Memory.{MemoryInput, MemoryOutput, ReadsMemory, WritesMemory};
 
 use crate::faults::count_fault;

@@ -1,4 +1,4 @@
-ghost use Rattle.std.specs.Prelude.{◌≡◌, ℕ, ◌^◌, ◌<◌, ◌≤◌, List, [], take, length, Bool, true, Option, IfOk, OnErr};
+ghost use Rattle.std.specs.Prelude.{ℕ, ◌^◌, ◌<◌, ◌≤◌, List, [], take, length, Bool, true, Option, IfOk, OnErr};
 ghost use Rattle.std.specs.Result.{result_ok};
 ghost use Rattle.edge_core.specs.Faults.{HasRisen};
 ghost use Rattle.edge_core.specs.Sink.{Takes};
@@ -10,8 +10,8 @@ pub trait Sink {
     // The bytes taken so far, where the sink tells them.
     ghost taken: { Self → Option (List ℕ) };
 
-    // Whether a sink that tells may cease to. Where it tells after a write, it told before it. One
-    // that never ceases may begin to tell instead.
+    // Whether a sink that tells may cease to. Where one tells after a write, it told before that
+    // write. A sink for which this is false never ceases, but may begin to tell, as std's writers.
     ghost may_fall_silent: { Bool } = { true };
 
     // How many writes failed. The count stands still at the last value of a `u64`.

@@ -1,5 +1,4 @@
-ghost use Rattle.std.specs.Prelude.{◌≡◌, ℕ, ◌+◌, ◌<◌, ◌≤◌, List, [], length, Some, IfOk, IfSome, OnOk, IsErrOf, IsSome};
-ghost use Rattle.std.specs.Io.KnownBytes.{IsAtEnd};
+ghost use Rattle.std.specs.Prelude.{◌≡◌, ◌+◌, ◌<◌, ◌≤◌, [], length, Some, IfOk, IfSome, OnOk, IsErrOf, IsSome};
 ghost use Rattle.edge_core.specs.Faults.{HasRisen};
 ghost use Rattle.edge_core.specs.ReadAll.{Answers};
 ghost use Rattle.edge_core.specs.Source.{LeavesEnd, SomeReads};
@@ -8,13 +7,16 @@ use crate::input::{Failed, Source};
 use std::alloc::{AllocError, Global};
 use thiserror::Error;
 
-/// Why not all bytes of a source were read.
+/// Why not all bytes of a source were read. Its text is the variant's name.
 #[derive(Debug, Drop, Error)]
 pub enum ReadAll {
+    /// A read failed.
     #[error("ReadFault")]
     ReadFault,
+    /// The source gave more bytes than the limit.
     #[error("TooLong")]
     TooLong,
+    /// Memory ran out.
     #[error("NoMemory")]
     NoMemory,
 }
@@ -32,21 +34,24 @@ impl From<AllocError> for ReadAll {
 // How many bytes one read has room for.
 const ROOM: usize = 4096;
 
-/// Reads the bytes to the end, of which there may be `limit`.
+/// Reads all bytes up to the end of the source, if they are at most `limit`.
+///
+/// After an error the bytes that were read are lost. The source can be read on after them.
 pub fn read_all<S: Source>(alloc: Global, source: &mut S, limit: u64) -> Result<Vec<u8>, ReadAll>
-    // The bytes, where they are told.
+    // The bytes, where the source tells them.
     ensures all { IfOk result (λ bytes. IfSome (S.left source.old) (λ left. bytes.items ≡ left)) }
-    ensures end { OnOk result (IsAtEnd (S.left source.new)) }
-    ensures still_told { OnOk result (IsSome (S.left source.old) → IsSome (S.left source.new)) }
+    ensures nothing_left { OnOk result (IsSome (S.left source.old) → S.left source.new ≡ Some []) }
     ensures left { LeavesEnd (S.left source.old) (S.left source.new) }
-
     ensures too_long { IsErrOf result ReadAll.TooLong →
         IfSome (S.left source.old) (λ left. limit < length left) }
 
-    // At most one read more than bytes that may come. `TooLong` comes exactly where they gave too many.
-    ensures reads { SomeReads S.read_gives source.old source.new (limit + 1) (λ given.
-        Answers given limit result) }
+    // The reads, of any source: at most one more than the limit. `TooLong` comes exactly where
+    // they gave more bytes than that.
+    ensures within { IfOk result (λ bytes. length bytes.items ≤ limit) }
+    ensures reads { SomeReads S.read_gives source.old source.new (limit + 1)
+        (λ given. Answers given limit result) }
 
+    // The faults.
     ensures fault { IsErrOf result ReadAll.ReadFault →
         HasRisen (S.faults source.old) (S.faults source.new) }
     ensures never_falls { S.faults source.old ≤ S.faults source.new }

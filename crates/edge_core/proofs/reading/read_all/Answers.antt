@@ -1,6 +1,6 @@
 use Rattle.std.proofs.Common.{◌≡◌, ◌∙◌, [], ◌++◌, take, length, arith, append-nil, refl, sym, ap}
 use Rattle.edge_core.specs.Source.{none}
-use Rattle.edge_core.proofs.Told.{Consumes-nil, Consumes-append, Consumes-leaves}
+use Rattle.edge_core.proofs.Told.{Consumes-nil, Consumes-append, Consumes-leaves, Consumes-end}
 use Rattle.edge_core.proofs.Runs.{SomeReads-more, SomeReads-weaken}
 use Rattle.edge_core.proofs.Pieces.{length-append-take}
 use Rattle.edge_core.proofs.Answered.{Answers-no_memory}
@@ -20,6 +20,11 @@ returns-in-Ok-eq0-clause-reads g c =
     (λ given e. let all : c.loop-bytes.bytes.items ≡ given = sym (e ∙ ap (λ n. c.loop-bytes.bytes.items ++ take n c.read.new.buf) c.in-Ok-eq0.field-0-test ∙ append-nil _) in
     (all, rw (← all) c.loop-bytes.invariant.within))
     (SomeReads-more _ _ _ _ _ _ _ _ c.loop-bytes.invariant.reads c.in-Ok-eq0.ensures.gives)
+
+pub returns-in-Ok-eq0-clause-nothing_left : goal.returns-in-Ok-eq0-clause-nothing_left
+returns-in-Ok-eq0-clause-nothing_left g c =
+    Consumes-end _ _ _ (Consumes-append _ _ _ _ _ c.loop-bytes.invariant.given c.in-Ok-eq0.ensures.given)
+    (c.in-Ok-eq0.ensures.end c.in-Ok-eq0.field-0-test)
 
 pub returns-in-Err-clause-reads : goal.returns-in-Err-clause-reads
 returns-in-Err-clause-reads g c =
@@ -44,7 +49,7 @@ loop-bytes-preserved g c =
       within = omega (arith, grown);
       given = rw c.in_ok-extend_from_slice.ensures.items (Consumes-append _ _ _ _ _ c.loop-bytes.invariant.given c.in-Ok.ensures.given);
       never_falls = omega (arith, c.in-Ok.ensures.never_falls);
-      reads = SomeReads-weaken _ _ _ _ _ _ _ (omega (arith, grown)) (λ given e. e ∙ sym c.in_ok-extend_from_slice.ensures.items)
+      reads = SomeReads-weaken _ _ _ _ _ _ _ (omega (arith, grown)) (λ given e. rw c.in_ok-extend_from_slice.ensures.items e)
           (SomeReads-more _ _ _ _ _ _ _ _ c.loop-bytes.invariant.reads c.in-Ok.ensures.gives);
     }
 
