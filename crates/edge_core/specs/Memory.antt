@@ -3,7 +3,8 @@ use Rattle.std.specs.Prelude.{◌≡◌, ℕ, ◌-◌, min, Bool, ◌||◌, ◌=
 use Rattle.std.specs.List.{list_any}
 use Rattle.edge_core.specs.Faults.{next_count}
 
--- what clauses see of a `MemorySource`: the bytes left, the most for a call, the numbers of the calls that fail, and how many calls came and failed
+-- what clauses see of a `MemorySource`: the bytes left, the most for a call, the numbers of the
+-- calls that fail, and how many calls came and failed
 pub record MemoryInput : Type 0 where
   pub left : List ℕ
   pub piece : ℕ
@@ -11,7 +12,8 @@ pub record MemoryInput : Type 0 where
   pub calls : ℕ
   pub faults : ℕ
 
--- what clauses see of a `MemorySink`: the bytes taken, the most for a call and in all, the numbers of the calls that fail, and how many calls came and failed
+-- what clauses see of a `MemorySink`: the bytes taken, the most for a call and in all, the numbers
+-- of the calls that fail, and how many calls came and failed
 pub record MemoryOutput : Type 0 where
   pub bytes : List ℕ
   pub piece : ℕ

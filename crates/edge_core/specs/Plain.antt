@@ -2,7 +2,8 @@
 use Rattle.std.specs.Prelude.{◌≡◌, ℕ, ◌+◌, min, nat_le, if◌then◌else◌, List, ◌++◌, take, drop, length, Option, Some, None}
 use Rattle.edge_core.specs.Faults.{last_count}
 
--- what clauses see of a `PlainSink`: the bytes kept, how many it keeps at most, and how many were written
+-- what clauses see of a `PlainSink`: the bytes kept, how many it keeps at most, and how many were
+-- written
 pub record PlainOutput : Type 0 where
   pub bytes : List ℕ
   pub room : ℕ
