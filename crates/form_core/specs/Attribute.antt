@@ -25,15 +25,23 @@ trees_in None = []
 abbrev pub contents : Delimiter → TokenTree → List TokenTree
 contents delimiter tree = trees_in (group delimiter tree)
 
--- `name` or `name(tokens)`
-unfoldable pub meta_of : List TokenTree → Option Meta
-meta_of (name ∷ []) = do
+-- `name`
+unfoldable pub path_meta : TokenTree → Option Meta
+path_meta name = do
   ident ← word name
   Some (meta.Path (path_of ident))
-meta_of (name ∷ arguments ∷ []) = do
+
+-- `name(tokens)`
+unfoldable pub list_meta : TokenTree → TokenTree → Option Meta
+list_meta name arguments = do
   ident ← word name
   tokens ← group Parenthesis arguments
   Some (meta.List (meta_list_of ident tokens))
+
+-- `name` or `name(tokens)`
+abbrev pub meta_of : List TokenTree → Option Meta
+meta_of (name ∷ []) = path_meta name
+meta_of (name ∷ arguments ∷ []) = list_meta name arguments
 meta_of _ = None
 
 -- `#` (35) and brackets with a meta between them

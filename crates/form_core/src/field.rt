@@ -1,5 +1,7 @@
 ghost use Rattle.std.specs.Prelude.{◌≡◌, IfOk, map};
-ghost use Rattle.form_core.specs.Field.{field, fields, name_of, are_distinct};
+ghost use Rattle.form_core.specs.Field.{field, fields, text_of, name_of, are_distinct};
+ghost use Rattle.form_core.specs.Name.{is_among};
+ghost use Rattle.meta_core.specs.Nested.{listed};
 
 use crate::made::field_of;
 use crate::name::field_name;
@@ -7,9 +9,10 @@ use base_core::{Items, Mem};
 use meta_core::{after_comma, mark, word_named};
 use node_core::Field;
 use std::alloc::Global;
-use token_core::TokenTree;
+use token_core::{Ident, TokenTree};
 
 /// Reads `a: String, b: String,` with distinct names: `None` where the trees are no such list.
+#[tactic(auto, unfolding(crate::specs::Field::fields))]
 pub fn fields(alloc: Global, trees: &[TokenTree]) -> Mem<Option<Items<Field>>>
     ensures { IfOk result (λ named. named ≡ fields trees.now) }
 {
@@ -45,6 +48,7 @@ fn listed_fields(alloc: Global, trees: &[TokenTree]) -> Mem<Option<Items<Field>>
     }
 }
 
+#[tactic(auto, unfolding(crate::specs::Field::field))]
 fn field(
     alloc: Global,
     name: &TokenTree,
@@ -63,4 +67,37 @@ fn field(
         return Ok(None);
     };
     Ok(Some(field_of(alloc, ident, string)?))
+}
+
+fn are_distinct(fields: &[Field]) -> bool
+    ensures { result ≡ are_distinct (map name_of fields.now) }
+{
+    let mut fields = fields;
+    while let Some((first, others)) = fields.split_first() {
+        if has_name(others, name_of(first)) {
+            return false;
+        }
+        fields = others;
+    }
+    true
+}
+
+fn has_name(fields: &[Field], name: &str) -> bool
+    ensures { result ≡ is_among (map name_of fields.now) name.now }
+{
+    for field in fields {
+        if name_of(field) == name {
+            return true;
+        }
+    }
+    false
+}
+
+fn name_of(field: &Field) -> &str
+    ensures { result.now ≡ name_of field.now }
+{
+    match &field.ident {
+        Some(ident) => ident.text.as_str(),
+        None => "",
+    }
 }

@@ -27,6 +27,7 @@ const GENERATED_NAMES: [&str; 26] = [
 ];
 
 /// An identifier: a word that is no keyword and not written with `r#`.
+#[tactic(auto, unfolding(crate::specs::Name::identifier))]
 pub fn identifier(tree: &TokenTree) -> Option<&Ident>
     ensures { option_copied result ≡ identifier tree.now }
 {
@@ -39,6 +40,7 @@ pub fn identifier(tree: &TokenTree) -> Option<&Ident>
 }
 
 /// The name of a declaration: an identifier other than `String`.
+#[tactic(auto, unfolding(crate::specs::Name::declared_name))]
 pub fn declared_name(tree: &TokenTree) -> Option<&Ident>
     ensures { option_copied result ≡ declared_name tree.now }
 {
@@ -51,6 +53,7 @@ pub fn declared_name(tree: &TokenTree) -> Option<&Ident>
 }
 
 /// The name of a field: an identifier that is neither magic nor generated.
+#[tactic(auto, unfolding(crate::specs::Name::field_name))]
 pub fn field_name(tree: &TokenTree) -> Option<&Ident>
     ensures { option_copied result ≡ field_name tree.now }
 {

@@ -1,7 +1,7 @@
 ghost use Rattle.std.specs.Prelude.{◌≡◌, IfOk};
 ghost use Rattle.std.specs.Option.{option_copied};
 ghost use Rattle.meta_core.specs.Tree.{word, word_named, mark, literal, group};
-ghost use Rattle.meta_core.specs.Nested.{string, unquoted};
+ghost use Rattle.meta_core.specs.Nested.{string, unquoted, after_quote, before_quote};
 
 use base_core::{Mem, Text, TryClone};
 use node_core::LitStr;
@@ -103,5 +103,17 @@ pub fn string(alloc: Global, tree: &TokenTree) -> Mem<Option<LitStr>>
 fn unquoted(text: &str) -> Option<&str>
     ensures { option_copied result ≡ unquoted text.now }
 {
-    text.strip_prefix('"')?.strip_suffix('"')
+    before_quote(after_quote(text)?)
+}
+
+fn after_quote(text: &str) -> Option<&str>
+    ensures { option_copied result ≡ after_quote text.now }
+{
+    text.strip_prefix('"')
+}
+
+fn before_quote(text: &str) -> Option<&str>
+    ensures { option_copied result ≡ before_quote text.now }
+{
+    text.strip_suffix('"')
 }
