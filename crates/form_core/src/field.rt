@@ -55,7 +55,7 @@ fn field(
     colon: &TokenTree,
     ty: &TokenTree,
 ) -> Mem<Option<Field>>
-    ensures { IfOk result (λ field. field ≡ field name.now colon.now ty.now) }
+    ensures { IfOk result (λ made. made ≡ field name.now colon.now ty.now) }
 {
     let Some(ident) = field_name(name) else {
         return Ok(None);
@@ -82,6 +82,7 @@ fn are_distinct(fields: &[Field]) -> bool
     true
 }
 
+#[tactic(auto, unfolding(crate::specs::Name::is_among))]
 fn has_name(fields: &[Field], name: &str) -> bool
     ensures { result ≡ is_among (map name_of fields.now) name.now }
 {

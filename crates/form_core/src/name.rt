@@ -1,4 +1,4 @@
-ghost use Rattle.std.specs.Prelude.{◌≡◌};
+ghost use Rattle.std.specs.Prelude.{◌≡◌, map};
 ghost use Rattle.std.specs.Option.{option_copied};
 ghost use Rattle.form_core.specs.Name.{keywords, magic_names, generated_names, is_among, identifier, declared_name, field_name};
 
@@ -68,17 +68,29 @@ pub fn field_name(tree: &TokenTree) -> Option<&Ident>
 fn is_keyword(name: &str) -> bool
     ensures { result ≡ is_among keywords name.now }
 {
-    KEYWORDS.iter().any(|other| *other == name)
+    is_among(&KEYWORDS, name)
 }
 
 fn is_magic(name: &str) -> bool
     ensures { result ≡ is_among magic_names name.now }
 {
-    MAGIC_NAMES.iter().any(|other| *other == name)
+    is_among(&MAGIC_NAMES, name)
 }
 
 fn is_generated(name: &str) -> bool
     ensures { result ≡ is_among generated_names name.now }
 {
-    GENERATED_NAMES.iter().any(|other| *other == name)
+    is_among(&GENERATED_NAMES, name)
+}
+
+#[tactic(auto, unfolding(crate::specs::Name::is_among))]
+fn is_among(names: &[&str], name: &str) -> bool
+    ensures { result ≡ is_among (map (λ other. other.now) names.now) name.now }
+{
+    for other in names {
+        if *other == name {
+            return true;
+        }
+    }
+    false
 }
