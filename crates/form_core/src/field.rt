@@ -49,12 +49,7 @@ fn listed_fields(alloc: Global, trees: &[TokenTree]) -> Mem<Option<Items<Field>>
 }
 
 #[tactic(auto, unfolding(crate::specs::Field::field))]
-fn field(
-    alloc: Global,
-    name: &TokenTree,
-    colon: &TokenTree,
-    ty: &TokenTree,
-) -> Mem<Option<Field>>
+fn field(alloc: Global, name: &TokenTree, colon: &TokenTree, ty: &TokenTree) -> Mem<Option<Field>>
     ensures { IfOk result (λ made. made ≡ field name.now colon.now ty.now) }
 {
     let Some(ident) = field_name(name) else {

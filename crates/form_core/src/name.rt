@@ -14,16 +14,36 @@ const KEYWORDS: [&str; 51] = [
 ];
 
 /// The fields by which a declaration asks for parts of the item itself.
-const MAGIC_NAMES: [&str; 5] = [
-    "ident", "attrs", "vis", "generics", "data",
-];
+const MAGIC_NAMES: [&str; 5] = ["ident", "attrs", "vis", "generics", "data"];
 
 /// The locals of the generated code, which a field of that name would hide.
 const GENERATED_NAMES: [&str; 26] = [
-    "__errors", "__items", "__item", "__flatten", "__fwd_attrs", "__attr", "__default", "__di",
-    "__field", "__variant", "__type_param", "__data", "__err", "__path", "__name", "__other",
-    "__inner", "__len", "__val", "__value", "__type_fallback", "__outer", "__nested",
-    "__validate_body", "__body", "_darling",
+    "__errors",
+    "__items",
+    "__item",
+    "__flatten",
+    "__fwd_attrs",
+    "__attr",
+    "__default",
+    "__di",
+    "__field",
+    "__variant",
+    "__type_param",
+    "__data",
+    "__err",
+    "__path",
+    "__name",
+    "__other",
+    "__inner",
+    "__len",
+    "__val",
+    "__value",
+    "__type_fallback",
+    "__outer",
+    "__nested",
+    "__validate_body",
+    "__body",
+    "_darling",
 ];
 
 /// An identifier: a word that is no keyword and not written with `r#`.
