@@ -1,0 +1,29 @@
+-- What is wrong: the alternatives that a kind names.
+use Rattle.std.specs.Prelude.{List, [], ◌∷◌, fold, ℕ}
+use Rattle.std.specs.Ordering.{nat_cmp}
+use Rattle.std.specs.Cmp.Lexicographic.{slice_cmp}
+use Rattle.std.specs.BTreeSet.{BTreeSet, insert_key}
+use Rattle.base_core.specs.declared.text.Text.{Text}
+use Rattle.fault_core.specs.declared.kind.FaultKind.{FaultKind}
+use Rattle.fault_core.specs.declared.kind.FaultKind.TheVariants.{Custom, DuplicateField, MissingField, UnsupportedShape, UnknownField, UnexpectedFormat, UnexpectedType, UnknownValue, TooFewItems, TooManyItems}
+
+-- the set with one more name
+abbrev pub with_name : BTreeSet Text → Text → BTreeSet Text
+with_name alts name = record { keys = insert_key (slice_cmp nat_cmp) alts.keys name }
+
+-- the set with these names too
+abbrev pub with_names : BTreeSet Text → List Text → BTreeSet Text
+with_names alts names = fold with_name alts names
+
+-- an unknown field with these alternatives too; every other kind as it is
+abbrev pub with_alternatives : FaultKind → List Text → FaultKind
+with_alternatives (UnknownField name alts) names = UnknownField name (with_names alts names)
+with_alternatives (Custom message) names = Custom message
+with_alternatives (DuplicateField name) names = DuplicateField name
+with_alternatives (MissingField name) names = MissingField name
+with_alternatives (UnsupportedShape observed expected) names = UnsupportedShape observed expected
+with_alternatives (UnexpectedFormat format) names = UnexpectedFormat format
+with_alternatives (UnexpectedType type) names = UnexpectedType type
+with_alternatives (UnknownValue value alts) names = UnknownValue value alts
+with_alternatives (TooFewItems least) names = TooFewItems least
+with_alternatives (TooManyItems most) names = TooManyItems most
