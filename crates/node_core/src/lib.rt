@@ -18,6 +18,7 @@ mod expr;
 mod generics;
 mod lit;
 mod path;
+mod path_text;
 mod punctuated;
 mod ty;
 
@@ -34,6 +35,7 @@ pub use generics::{
 };
 pub use lit::{Lit, LitBool, LitByte, LitByteStr, LitChar, LitFloat, LitInt, LitStr};
 pub use path::{GenericArgument, Path, PathArguments, PathSegment, QSelf};
+pub use path_text::path_to_string;
 pub use punctuated::{Comma, Punctuated};
 pub use token_core::{
     Boxed, Delimiter, Group, Ident, Items, Lifetime, Literal, Mem, Punct, Span, Text, TokenStream,
