@@ -1,7 +1,8 @@
-ghost use Rattle.std.specs.Prelude.{◌≡◌, IfOk};
-ghost use Rattle.node_core.specs.PathText.{path_text};
+ghost use Rattle.std.specs.Prelude.{◌≡◌, ◌++◌, codes, IfOk, OnOk};
+ghost use Rattle.std.specs.List.{join_by};
+ghost use Rattle.node_core.specs.PathText.{segment_text, path_text};
 
-use crate::path::Path;
+use crate::path::{Path, PathSegment};
 use std::alloc::Global;
 use token_core::{Mem, Text};
 
@@ -11,12 +12,20 @@ pub fn path_to_string(alloc: Global, path: &Path) -> Mem<Text>
     ensures { IfOk result (λ text. text ≡ path_text path.now) }
 {
     let mut text = Text::new(alloc);
-    if let Some((first, others)) = path.segments.as_slice().split_first() {
-        first.ident.push_to(&mut text)?;
-        for segment in others {
-            text.push_str("::")?;
-            segment.ident.push_to(&mut text)?;
-        }
-    }
+    push_segments(&mut text, path.segments.as_slice())?;
     Ok(text)
+}
+
+fn push_segments(text: &mut Text, segments: &[PathSegment]) -> Mem<()>
+    ensures { OnOk result (text.new ≡ text.old ++ join_by segment_text (codes "::") segments.now) }
+{
+    let [first, others @ ..] = segments else {
+        return Ok(());
+    };
+    first.ident.push_to(text)?;
+    for segment in others {
+        text.push_str("::")?;
+        segment.ident.push_to(text)?;
+    }
+    Ok(())
 }
