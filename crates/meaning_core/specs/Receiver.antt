@@ -81,8 +81,11 @@ field_name (Some ident) = ident.text ∷ []
 field_name None = []
 
 -- the names of these fields
+abbrev pub named_fields : List Field → List Text
+named_fields fields = flat_map (λ field. field_name field.ident) fields
+
 abbrev pub names_of : Fields → List Text
-names_of (fields.Named it) = flat_map (λ field. field_name field.ident) it.named
+names_of (fields.Named it) = named_fields it.named
 names_of (fields.Unnamed it) = []
 names_of fields.Unit = []
 

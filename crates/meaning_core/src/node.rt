@@ -70,7 +70,8 @@ fn tree_span(tree: &TokenTree) -> Span
 pub(crate) fn tokens_span(tokens: &TokenStream) -> Span
     ensures { result ≡ tokens_span tokens.now }
 {
-    match (tokens.trees.first(), tokens.trees.last()) {
+    let trees = tokens.trees.as_slice();
+    match (trees.first(), trees.last()) {
         (Some(first), Some(last)) => tree_span(first).join(tree_span(last)),
         _ => Span::CallSite,
     }

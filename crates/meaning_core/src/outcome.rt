@@ -22,7 +22,12 @@ impl Model for Outcome {
     ghost use Rattle.fault_core.specs.Outcome.{Outcome};
     ghost use Rattle.meaning_core.specs.declared.value.Value.{Value as Datum};
 
+    ghost use Rattle.meaning_core.specs.contracts.value.Value as contents;
+    ghost use Rattle.std.specs.Coded.{codes};
+
     ghost Value = { Outcome Datum };
+
+    ghost coded = { Prim.hlevel (codes, contents.the_row.coded) };
 
     ghost use Rattle.meaning_core.specs.Outcome.{seen, is_one};
 

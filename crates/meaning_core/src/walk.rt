@@ -1,5 +1,5 @@
-ghost use Rattle.std.specs.Prelude.{◌≡◌, ◌++◌, ◌∷◌, [], ◌<◌, None, ForSome, IfOk, OnOk, length, map, fold, replicate};
-ghost use Rattle.std.specs.Str.{bytes_eq};
+ghost use Rattle.std.specs.Prelude.{◌≡◌, ◌++◌, ◌∷◌, [], ◌<◌, None, IfOk, OnOk, length, map, fold, replicate};
+ghost use Rattle.std.specs.Option.{ForSome};
 ghost use Rattle.meta_core.specs.declared.nested.NestedMeta.TheVariants as nested;
 ghost use Rattle.meaning_core.specs.Host.{no_host};
 ghost use Rattle.meaning_core.specs.Entries.{ItemEntry, has_name, entries_of, events, name_value_fault};
