@@ -4,14 +4,14 @@ use Rattle.token_core.specs.Span.{joined}
 use Rattle.token_core.specs.declared.tree.TokenTree.{TokenTree}
 use Rattle.meaning_core.specs.Node.{tree_span, last_of, trees_span}
 
-value_or : {A : Type 0} → A → Option A → A
+abbrev value_or : {A : Type 0} → A → Option A → A
 value_or x None = x
 value_or x (Some y) = y
 
 some_is : {A : Type 0} (x y : A) → Some x ≡ Some y → x ≡ y
 some_is x y e = ap (value_or x) e
 
-IsSomething : {A : Type 0} → Option A → Type 0
+abbrev IsSomething : {A : Type 0} → Option A → Type 0
 IsSomething None = ⊥
 IsSomething (Some x) = Unit {0}
 

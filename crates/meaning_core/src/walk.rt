@@ -196,12 +196,7 @@ fn find_field(fields: &[Text], name: &str) -> Option<usize>
     ensures owner { result ≡ owner_named (map text_field fields.now) name.now }
     ensures within { ForSome result (λ at. at < length fields.now) }
 {
-    for at in 0..fields.len() {
-        if fields[at].is(name) {
-            return Some(at);
-        }
-    }
-    None
+    fields.iter().position(|field| field.is(name))
 }
 
 fn name_value_fault(alloc: Global, meta: &Meta) -> Mem<Fault>
