@@ -60,7 +60,7 @@ arm_from (f ∷ fs) n j =
         [ true ↦ arm_first f fs j | false ↦ next ]
     | false ↦ next ]
 
-arm_is_owner : (fs : List FieldDecl) (n : Text) → find_arm (arms_from zero fs) n ≡ option_map (λ k. arm k (field_at fs k)) (owner_named fs n)
+pub arm_is_owner : (fs : List FieldDecl) (n : Text) → find_arm (arms_from zero fs) n ≡ option_map (λ k. arm k (field_at fs k)) (owner_named fs n)
 arm_is_owner fs n = arm_from fs n zero ∙ ap (λ (g : ℕ → Arm). option_map g (owner_named fs n)) (fun_ext (λ k. ap (λ m. arm m (field_at fs k)) (zero-add k)))
 
 -- an owner is one of the fields, and has a name

@@ -3,3 +3,4 @@ pub mod Clean
 pub mod Direct
 pub mod Nodes
 pub mod SlotLemmas
+pub mod Arms
