@@ -32,7 +32,7 @@ right_false : (b c : Bool) → cond b true c ≡ false → c ≡ false
 right_false true c e = absurd (true≢false e)
 right_false false c e = e
 
-settle_same : {A : Type 0} (fs : List Fault) (o r : Outcome A) → (fs ≡ [] → o ≡ r) → settle fs o ≡ settle fs r
+pub settle_same : {A : Type 0} (fs : List Fault) (o r : Outcome A) → (fs ≡ [] → o ≡ r) → settle fs o ≡ settle fs r
 settle_same [] o r e = e refl
 settle_same (f ∷ fs) o r e = refl
 

@@ -4,3 +4,4 @@ pub mod Direct
 pub mod Nodes
 pub mod SlotLemmas
 pub mod Arms
+pub mod Finish
