@@ -38,9 +38,10 @@ option_map-next i (Some k) = let e : (i + 1) + k ≡ i + suc k = omega arith in 
 position_from-owner : (fields : List Text) (name : Text) (i : ℕ) → position_from (λ field. bytes_eq field name) i fields ≡ option_map (λ k. i + k) (owner_named (map text_field fields) name)
 position_from-owner [] name i = refl
 position_from-owner (field ∷ fields) name i =
-    elim (bytes_eq field name) as (λ b. cond b (Some i) (position_from (λ other. bytes_eq other name) (i + 1) fields) ≡ option_map (λ k. i + k) (cond b (Some zero) (option_map suc (owner_named (map text_field fields) name))))
-    [ true ↦ (let e : i ≡ i + zero = omega arith in ap (λ m. let x : Option ℕ = Some m in x) e)
-    | false ↦ position_from-owner fields name (i + 1) ∙ option_map-next i (owner_named (map text_field fields) name) ]
+    elim (bytes_eq field name) as (λ b. cond b (Some i) (position_from (λ other. bytes_eq other name) (i + 1) fields) ≡ option_map (λ k. i + k) (cond b (Some zero) (option_map suc (owner_named (map text_field fields) name)))) [
+      | true ↦ (let e : i ≡ i + zero = omega arith in ap (λ m. let x : Option ℕ = Some m in x) e)
+      | false ↦ position_from-owner fields name (i + 1) ∙ option_map-next i (owner_named (map text_field fields) name)
+    ]
 
 option_map-same : (o : Option ℕ) → option_map (λ k. zero + k) o ≡ o
 option_map-same None = refl
@@ -68,17 +69,17 @@ module _ (receiver : Receiver) (slots : List Held) (faults : List Fault) (it : M
 
   -- an item of a field goes to the field's arm
   pub step-field : (place : ℕ) (field : Text) → name ≡ meta_name it → Some place ≡ position (λ other. bytes_eq other name) receiver.fields → place < length receiver.fields → field ≡ get_or receiver.fields place field
-    → put place (arm_slot no_host no_earlier (arm place (text_field field)) (nested.Meta it) (slot_at (map slot_of slots) place)) (state_of slots faults) ≡ Stepped
+      → put place (arm_slot no_host no_earlier (arm place (text_field field)) (nested.Meta it) (slot_at (map slot_of slots) place)) (state_of slots faults) ≡ Stepped
   step-field place field e found within is =
       let armed : Some (arm place (text_field field)) ≡ find_arm (arms (receiver_decl receiver)) (meta_name it) =
-        ap (λ f. let x : Option Arm = Some (arm place f) in x) (sym (field_at-texts receiver.fields place field within is))
-        ∙ ap (option_map (λ k. arm k (field_at (map text_field receiver.fields) k))) found
-        ∙ sym (arm-at e) in
+      ap (λ f. let x : Option Arm = Some (arm place f) in x) (sym (field_at-texts receiver.fields place field within is))
+      ∙ ap (option_map (λ k. arm k (field_at (map text_field receiver.fields) k))) found
+      ∙ sym (arm-at e) in
       ap (λ a. by_arm no_host no_earlier (arms (receiver_decl receiver)) (rest (receiver_decl receiver)) (meta_name it) (nested.Meta it) a (state_of slots faults)) armed
 
   -- another item is an unknown field
   pub step-unknown : (new_faults : List Fault) → name ≡ meta_name it → None ≡ position (λ other. bytes_eq other name) receiver.fields → new_faults ≡ faults ++ at_span (UnknownField name (set_of receiver.fields)) (meta_span it) ∷ []
-    → state_of slots new_faults ≡ Stepped
+      → state_of slots new_faults ≡ Stepped
   step-unknown new_faults e lost more =
       let none : None ≡ find_arm (arms (receiver_decl receiver)) (meta_name it) = ap (option_map (λ k. arm k (field_at (map text_field receiver.fields) k))) lost ∙ sym (arm-at e) in
       ap (state_of slots) more

@@ -43,7 +43,7 @@ none-some place held e = subst (λ o. IsSomething o) (sym e) tt
 
 -- what stands from a place on: that of the field there, then that of the others
 pub by_slot-turn : {A : Type 0} (f : Text → Held → List A) (names : List Text) (slots : List Held) (place : ℕ) (name : Text) (held other : Held) → place < length names → name ≡ get_or names place name → slice_get slots place ≡ Some held
-  → by_slot f (drop place names) (drop place slots) ≡ f name held ++ by_slot f (drop (suc place) names) (drop (suc place) (set slots place other))
+    → by_slot f (drop place names) (drop place slots) ≡ f name held ++ by_slot f (drop (suc place) names) (drop (suc place) (set slots place other))
 by_slot-turn f [] slots place name held other within is gives = absurd (omega (arith, within))
 by_slot-turn f (x ∷ xs) [] place name held other within is gives = absurd (none-some place held gives)
 by_slot-turn f (x ∷ xs) (y ∷ ys) zero name held other within is gives = ap₂ (λ n h. f n h ++ by_slot f xs ys) (sym is) (some_is y held gives)
@@ -94,8 +94,8 @@ module _ (receiver : Receiver) where
       let found = faults ++ missing_of receiver.fields slots in
       let built : Outcome Datum = on_value (λ values. struct_of receiver.name (labelled (member_names receiver.fields) values)) (outcomes receiver.fields slots) in
       let same : found ≡ [] → Value (struct_of receiver.name (members_of receiver.fields slots)) ≡ built = λ none.
-        ap (on_value (struct_of receiver.name)) (sym (members-are receiver.fields slots (nil_right faults (missing_of receiver.fields slots) none) (λ failed. told failed (nil_left faults (missing_of receiver.fields slots) none))))
-        ∙ sym (on_struct receiver.name (member_names receiver.fields) (outcomes receiver.fields slots)) in
+      ap (on_value (struct_of receiver.name)) (sym (members-are receiver.fields slots (nil_right faults (missing_of receiver.fields slots) none) (λ failed. told failed (nil_left faults (missing_of receiver.fields slots) none))))
+      ∙ sym (on_struct receiver.name (member_names receiver.fields) (outcomes receiver.fields slots)) in
       settle_same found (Value (struct_of receiver.name (members_of receiver.fields slots))) built same
       ∙ ap (λ more. settle (faults ++ more) built) (sym (missing-is receiver.fields slots))
 
@@ -112,8 +112,8 @@ module _ (receiver : Receiver) where
 
   -- a whole walk gives what the subject means
   pub walk-means : (subject : DeriveInput) (slots : List Held) (faults : List Fault)
-    → state_of slots faults ≡ fold (entry_step no_host no_earlier (receiver_decl receiver)) (state_of (replicate (length receiver.fields) Unseen) []) (events receiver.attributes subject.attrs)
-    → closed no_host no_earlier (receiver_decl receiver) (state_of slots faults) ≡ subject_meaning (receiver_decl receiver) subject
+      → state_of slots faults ≡ fold (entry_step no_host no_earlier (receiver_decl receiver)) (state_of (replicate (length receiver.fields) Unseen) []) (events receiver.attributes subject.attrs)
+      → closed no_host no_earlier (receiver_decl receiver) (state_of slots faults) ≡ subject_meaning (receiver_decl receiver) subject
   walk-means subject slots faults e =
       ap (closed no_host no_earlier (receiver_decl receiver)) e
       ∙ ap (λ s. closed no_host no_earlier (receiver_decl receiver) (fold (entry_step no_host no_earlier (receiver_decl receiver)) s (events receiver.attributes subject.attrs))) starts
@@ -135,8 +135,8 @@ built-is o x faults e none = e ∙ ap (λ xs. settle xs (Value x)) (sym none)
 
 -- one field further, where what it gives has been added
 pub turned : {A : Type 0} (f : Text → Held → List A) (names : List Text) (slots new_slots : List Held) (place : ℕ) (name : Text) (held other : Held) (before after whole : List A)
-  → place < length names → name ≡ get_or names place name → slice_get slots place ≡ Some held → new_slots ≡ set slots place other → after ≡ before ++ f name held → before ++ by_slot f (drop place names) (drop place slots) ≡ whole
-  → after ++ by_slot f (drop (place + 1) names) (drop (place + 1) new_slots) ≡ whole
+    → place < length names → name ≡ get_or names place name → slice_get slots place ≡ Some held → new_slots ≡ set slots place other → after ≡ before ++ f name held → before ++ by_slot f (drop place names) (drop place slots) ≡ whole
+    → after ++ by_slot f (drop (place + 1) names) (drop (place + 1) new_slots) ≡ whole
 turned f names slots new_slots place name held other before after whole within is gives replaced added kept =
     let next : place + 1 ≡ suc place = omega arith in
     ap₂ (λ xs ys. xs ++ by_slot f (drop (place + 1) names) (drop (place + 1) ys)) added replaced

@@ -17,8 +17,8 @@ use crate::receiver::Receiver;
 use crate::text::{list_fault, read_text};
 use crate::value::{Style, Value};
 use fault_core::Fault;
-use meta_core::{parse_meta_list, NestedMeta};
-use node_core::{path_to_string, Attribute, Items, Mem, Meta, Text, TryClone};
+use meta_core::{NestedMeta, parse_meta_list};
+use node_core::{Attribute, Items, Mem, Meta, Text, TryClone, path_to_string};
 use std::alloc::Global;
 
 /// What the items so far have given a field.
@@ -124,8 +124,12 @@ impl Walk {
                     Some(at) => self.fill(alloc, at, &fields[at], meta),
                     None => {
                         let span = meta_span(meta);
-                        let fault =
-                            Fault::unknown_field_with_alts(alloc, name.as_str(), fields, span)?;
+                        let fault = Fault::unknown_field_with_alts(
+                            alloc,
+                            name.as_str(),
+                            fields,
+                            span,
+                        )?;
                         self.faults.push(fault)
                     }
                 }
@@ -183,7 +187,12 @@ impl Walk {
         let mut members = Items::new(alloc);
         for at in 0..receiver.fields.len() {
             let slot = slots.replace(at, Slot::Unseen);
-            slot.close(alloc, &receiver.fields.as_slice()[at], &mut members, &mut faults)?;
+            slot.close(
+                alloc,
+                &receiver.fields.as_slice()[at],
+                &mut members,
+                &mut faults,
+            )?;
         }
         if !faults.is_empty() {
             return Ok(Outcome::refused(faults));

@@ -10,10 +10,11 @@ use Rattle.meaning_core.proofs.walk.Walk.finish.Goals as goal
 pub loop-at-preserved : goal.loop-at-preserved
 loop-at-preserved c =
     let within : c.loop-at.at < length c.args.receiver.now.fields = rw c.len-at-end.ensures at c.loop-at-test.true in
-    let is = rw c.as_slice.ensures at c.index-as_slice-at.is in
-    ( turned missing_one c.args.receiver.now.fields c.loop-at.slots c.replace-slot.new.self c.loop-at.at c.index-as_slice-at.result c.replace-slot.result Unseen c.loop-at.faults c.close.new.faults _ within is c.replace-slot.ensures.item c.replace-slot.ensures.rest c.in_ok-close.ensures.faults c.loop-at.invariant.0
-    , turned member_one c.args.receiver.now.fields c.loop-at.slots c.replace-slot.new.self c.loop-at.at c.index-as_slice-at.result c.replace-slot.result Unseen c.loop-at.members c.close.new.members _ within is c.replace-slot.ensures.item c.replace-slot.ensures.rest c.in_ok-close.ensures.members c.loop-at.invariant.1
-    , rw c.replace-slot.ensures.rest (length-set c.loop-at.slots c.loop-at.at Unseen ∙ c.loop-at.invariant.2))
+    let is = rw c.as_slice.ensures at c.index-as_slice-at.is in (
+      turned missing_one c.args.receiver.now.fields c.loop-at.slots c.replace-slot.new.self c.loop-at.at c.index-as_slice-at.result c.replace-slot.result Unseen c.loop-at.faults c.close.new.faults _ within is c.replace-slot.ensures.item c.replace-slot.ensures.rest c.in_ok-close.ensures.faults c.loop-at.invariant.0,
+      turned member_one c.args.receiver.now.fields c.loop-at.slots c.replace-slot.new.self c.loop-at.at c.index-as_slice-at.result c.replace-slot.result Unseen c.loop-at.members c.close.new.members _ within is c.replace-slot.ensures.item c.replace-slot.ensures.rest c.in_ok-close.ensures.members c.loop-at.invariant.1,
+      rw c.replace-slot.ensures.rest (length-set c.loop-at.slots c.loop-at.at Unseen ∙ c.loop-at.invariant.2),
+    )
 
 pub returns-then-not-is_empty : goal.returns-then-not-is_empty
 returns-then-not-is_empty c =
