@@ -48,11 +48,11 @@ option_map-same None = refl
 option_map-same (Some k) = ap (λ m. let x : Option ℕ = Some m in x) (zero-add k)
 
 -- the owner of a name is at the place of the name
-owner_named-texts : (fields : List Text) (name : Text) → owner_named (map text_field fields) name ≡ position (λ field. bytes_eq field name) fields
+pub owner_named-texts : (fields : List Text) (name : Text) → owner_named (map text_field fields) name ≡ position (λ field. bytes_eq field name) fields
 owner_named-texts fields name =
     sym (position_from-zero (λ field. bytes_eq field name) fields ∙ position_from-owner fields name zero ∙ option_map-same (owner_named (map text_field fields) name))
 
-field_at-texts : (fields : List Text) (place : ℕ) (field : Text) → place < length fields → field ≡ get_or fields place field → field_at (map text_field fields) place ≡ text_field field
+pub field_at-texts : (fields : List Text) (place : ℕ) (field : Text) → place < length fields → field ≡ get_or fields place field → field_at (map text_field fields) place ≡ text_field field
 field_at-texts [] place field within e = absurd (omega (arith, within))
 field_at-texts (x ∷ xs) zero field within e = ap text_field (sym e)
 field_at-texts (x ∷ xs) (suc place) field within e = field_at-texts xs place field (omega (arith, within)) e

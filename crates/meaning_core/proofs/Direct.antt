@@ -48,7 +48,7 @@ module _ (host : Host) (earlier : Earlier) (decl : Decl) (all : List NestedMeta)
   no_flat f Many e = refl
   no_flat f Flat e = absurd (true≢false e)
 
-  no_flats : (fs : List FieldDecl) (own_items : ℕ → List NestedMeta) → has_flat fs ≡ false → joined (each (λ f is. flat_faults host earlier decl f f.shape all) fs own_items) ≡ []
+  pub no_flats : (fs : List FieldDecl) (own_items : ℕ → List NestedMeta) → has_flat fs ≡ false → joined (each (λ f is. flat_faults host earlier decl f f.shape all) fs own_items) ≡ []
   no_flats [] own_items e = refl
   no_flats (f ∷ fs) own_items e = ap₂ (λ x y. x ++ y) (no_flat f f.shape (left_false (is_flat f.shape) (has_flat fs) e)) (no_flats fs (λ k. own_items (suc k)) (right_false (is_flat f.shape) (has_flat fs) e))
 

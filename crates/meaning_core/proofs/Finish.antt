@@ -148,7 +148,7 @@ turned f names slots new_slots place name held other before after whole within i
 by_slot-none : {A : Type 0} (f : Text → Held → List A) (names : List Text) (slots : List Held) → names ≡ [] → by_slot f names slots ≡ []
 by_slot-none f names slots e = ap (λ xs. by_slot f xs slots) e
 
-drop-all : {A : Type 0} (xs : List A) (n : ℕ) → length xs ≤ n → drop n xs ≡ []
+pub drop-all : {A : Type 0} (xs : List A) (n : ℕ) → length xs ≤ n → drop n xs ≡ []
 drop-all [] zero past = refl
 drop-all [] (suc n) past = refl
 drop-all (x ∷ xs) zero past = absurd (omega (arith, past))

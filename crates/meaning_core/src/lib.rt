@@ -7,6 +7,7 @@
 mod laws;
 mod node;
 mod outcome;
+mod plain;
 mod receiver;
 mod text;
 mod value;
@@ -15,5 +16,6 @@ mod walk;
 pub use fault_core::{Fault, FaultKind, Items, Mem, Span, Text, TryClone};
 pub use laws::{direct_is_meaning, walk_is_filters};
 pub use outcome::Outcome;
+pub use plain::plain_item_meaning;
 pub use receiver::Receiver;
 pub use value::{Style, Value};

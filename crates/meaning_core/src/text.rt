@@ -12,7 +12,7 @@ ghost use Rattle.meta_core.specs.declared.nested.NestedMeta.TheVariants as neste
 
 use crate::node::{lit_kind, lit_span, meta_span, tokens_span};
 use fault_core::{Fault, FaultKind};
-use meta_core::parse_meta_list;
+use meta_core::{NestedMeta, parse_meta_list};
 use node_core::{Expr, Lit, Mem, Meta, Span, Text, TokenStream, TryClone};
 use std::alloc::Global;
 
@@ -80,5 +80,15 @@ pub(crate) fn read_text(alloc: Global, meta: &Meta) -> Mem<Result<Text, Fault>>
             None => Ok(Err(list_fault(alloc, &list.tokens)?)),
         },
         Meta::NameValue(pair) => read_expr(alloc, &pair.value),
+    }
+}
+
+/// The text that an item gives, which may be a string alone.
+pub(crate) fn read_item(alloc: Global, item: &NestedMeta) -> Mem<Result<Text, Fault>>
+    ensures { IfOk result (λ read. text_outcome read ≡ read_at no_host no_earlier None None TextType item.now) }
+{
+    match item {
+        NestedMeta::Meta(meta) => read_text(alloc, meta),
+        NestedMeta::Lit(lit) => read_lit(alloc, lit),
     }
 }

@@ -232,21 +232,21 @@ impl Slot {
     }
 }
 
-fn has_name(names: &[Text], name: &str) -> bool
+pub(crate) fn has_name(names: &[Text], name: &str) -> bool
     ensures { result ≡ has_name names.now name.now }
 {
     names.iter().any(|other| other.is(name))
 }
 
 /// The place of the field that has this name.
-fn find_field(fields: &[Text], name: &str) -> Option<usize>
+pub(crate) fn find_field(fields: &[Text], name: &str) -> Option<usize>
     ensures first { result ≡ position (λ field. bytes_eq field name.now) fields.now }
     ensures within { ForSome result (λ at. at < length fields.now) }
 {
     fields.iter().position(|field| field.is(name))
 }
 
-fn name_value_fault(alloc: Global, meta: &Meta) -> Mem<Fault>
+pub(crate) fn name_value_fault(alloc: Global, meta: &Meta) -> Mem<Fault>
     ensures { IfOk result (λ fault. fault ≡ name_value_fault meta.now) }
 {
     let mut message = Text::from_str(alloc, "Name-value arguments are not supported. Use #[")?;
