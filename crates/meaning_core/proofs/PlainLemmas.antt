@@ -1,5 +1,5 @@
 -- A plain reading of a struct of texts, field by field.
-use Rattle.std.proofs.Common.{◌≡◌, ◌<◌, ◌≤◌, ◌+◌, ℕ, zero, suc, List, [], ◌∷◌, ◌++◌, length, map, drop, Option, Some, None, refl, ap, ap₂, sym, ◌∙◌, append_assoc, append-nil, get_or, arith, zero-add, position, bytes_eq, cond}
+use Rattle.std.proofs.Common.{◌≡◌, ◌<◌, ◌≤◌, ◌+◌, ℕ, zero, suc, List, [], ◌∷◌, ◌++◌, length, map, drop, Option, Some, None, refl, ap, ap₂, sym, ◌∙◌, append_assoc, append-nil, get_or, arith, zero-add, take, position, bytes_eq, cond}
 use mathlib.Core.Path.{fun_ext}
 use Rattle.base_core.specs.declared.text.Text.{Text}
 use Rattle.node_core.specs.declared.attr.Meta.{Meta}
@@ -11,6 +11,7 @@ use Rattle.fault_core.specs.declared.kind.FaultKind.TheVariants.{UnknownField}
 use Rattle.fault_core.specs.Kind.{set_of}
 use Rattle.fault_core.specs.Fault.{at_span}
 use Rattle.fault_core.specs.Outcome.{Outcome, Value, Faults, bind, on_value, settle}
+use Rattle.meaning_core.specs.declared.plain.Entry.{Entry as Kept}
 use Rattle.meaning_core.specs.declared.receiver.Receiver.{Receiver}
 use Rattle.meaning_core.specs.declared.value.Value.{Value as Datum}
 use Rattle.meaning_core.specs.Node.{meta_name, meta_span}
@@ -23,7 +24,7 @@ use Rattle.meaning_core.specs.Owners.{each, own, owner_named}
 use Rattle.meaning_core.specs.EntryFaults.{entry_faults, all_entry_faults, item_faults, own_faults}
 use Rattle.meaning_core.specs.FieldValue.{missing, field_value}
 use Rattle.meaning_core.specs.Meaning.{joined, in_order, built_struct, struct_meaning}
-use Rattle.meaning_core.specs.Plain.{first_of, missing_first, first_value, missing_faults}
+use Rattle.meaning_core.specs.Plain.{entry_of, first_of, missing_first, first_value, missing_faults}
 use Rattle.meaning_core.specs.Receiver.{item_meaning, no_earlier, receiver_decl, receiver_of, text_field}
 use Rattle.meaning_core.proofs.Arms.{has_flat-texts, names-texts, owner_named-texts, field_at-texts}
 use Rattle.meaning_core.proofs.Direct.{no_flats}
@@ -177,3 +178,24 @@ module _ (receiver : Receiver) (before : List NestedMeta) (it : Meta) (name : Te
       ap₂ (λ n ns. at_span (UnknownField n (set_of ns)) (meta_span it) ∷ []) e (sym (names-texts receiver.fields))
       ∙ ap (λ b. cond b [] (at_span (UnknownField (meta_name it) (set_of (names (map text_field receiver.fields)))) (meta_span it) ∷ [])) (sym (has_flat-texts receiver.fields))
       ∙ ap faults_here (lost ∙ sym (owner_named-texts receiver.fields name) ∙ ap (owner_named (map text_field receiver.fields)) e)
+
+takes : {A : Type 0} (xs : List A) (place : ℕ) (x : A) → place < length xs → x ≡ get_or xs place x → take (suc place) xs ≡ take place xs ++ x ∷ []
+takes [] place x within is = absurd (omega (arith, within))
+takes (y ∷ ys) zero x within is = ap (λ z. z ∷ []) (sym is)
+takes (y ∷ ys) (suc place) x within is = ap (λ zs. y ∷ zs) (takes ys place x (omega (arith, within)) is)
+
+map-one : (xs : List Kept) (x : Kept) → map entry_of (xs ++ x ∷ []) ≡ map entry_of xs ++ entry_of x ∷ []
+map-one [] x = refl
+map-one (y ∷ ys) x = ap (λ zs. entry_of y ∷ zs) (map-one ys x)
+
+take-more : {A : Type 0} (xs : List A) (place : ℕ) (x : A) → place < length xs → x ≡ get_or xs place x → take (place + 1) xs ≡ take place xs ++ x ∷ []
+take-more xs place x within is =
+    let next : place + 1 ≡ suc place = omega arith in
+    ap (λ k. take k xs) next ∙ takes xs place x within is
+
+-- the faults of the entries up to a place, and of the one there
+pub entry_faults-next : (decl : Decl) (entries : List Kept) (place : ℕ) (entry : Kept) → place < length entries → entry ≡ get_or entries place entry
+  → all_entry_faults no_host no_earlier decl [] (map entry_of (take place entries)) ++ entry_faults no_host no_earlier decl (items (map entry_of (take place entries))) (entry_of entry) ≡ all_entry_faults no_host no_earlier decl [] (map entry_of (take (place + 1) entries))
+entry_faults-next decl entries place entry within is =
+    sym (all_entry_faults-more no_host no_earlier decl [] (map entry_of (take place entries)) (entry_of entry))
+    ∙ ap (all_entry_faults no_host no_earlier decl []) (sym (map-one (take place entries) entry) ∙ ap (map entry_of) (sym (take-more entries place entry within is)))
