@@ -1,5 +1,5 @@
 -- A list that is read from its front: what is read so far, put in front of what the rest is.
-use Rattle.std.proofs.Common.{◌≡◌, ◌≤◌, ◌-◌, List, [], ◌∷◌, ◌++◌, length, take, drop, get_or, Option, Some, None, option_map, refl, sym, ap, ◌∙◌, subst, append_assoc, append-nil, arith, rules}
+use Rattle.std.proofs.Common.{◌≡◌, ◌≤◌, ◌-◌, List, [], ◌∷◌, ◌++◌, length, take, drop, get_or, Option, Some, None, option_map, refl, sym, ap, ◌∙◌, append_assoc, append-nil, arith}
 use Rattle.std.proofs.Math.Seq.{take-length}
 use Rattle.token_core.specs.declared.span.Span.{Span}
 use Rattle.token_core.specs.declared.tree.TokenTree.{TokenTree}
@@ -11,7 +11,7 @@ abbrev pub put_before : {A : Type 0} → List A → Option (List A) → Option (
 put_before front rest = option_map (λ items. front ++ items) rest
 
 -- one more item before the rest
-put_before-cons : {A : Type 0} (front : List A) (first : A) (rest : Option (List A))
+pub put_before-cons : {A : Type 0} (front : List A) (first : A) (rest : Option (List A))
     → put_before front (rest >>= (λ others. Some (first ∷ others))) ≡ put_before (front ++ first ∷ []) rest
 put_before-cons front first None = refl
 put_before-cons front first (Some others) = ap Some (sym (append_assoc front (first ∷ []) others))

@@ -1,5 +1,4 @@
 use Rattle.std.proofs.Common.{◌≡◌, length}
-use Rattle.meta_core.specs.Tree.{trees_of}
 use Rattle.meta_core.specs.Nested.{listed, nested_item, nested_of}
 use Rattle.meta_core.proofs.Lists.{put_before}
 use Rattle.meta_core.proofs.nested.parse_meta_list.Given as goal
