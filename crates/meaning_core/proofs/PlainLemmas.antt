@@ -41,7 +41,7 @@ all_entry_faults-more host earlier decl before (first ∷ entries) entry =
     ap (λ xs. faults ++ xs) (all_entry_faults-more host earlier decl (before ++ items (first ∷ [])) entries entry)
     ∙ sym (append_assoc faults (all_entry_faults host earlier decl (before ++ items (first ∷ [])) entries) (entry_faults host earlier decl ((before ++ items (first ∷ [])) ++ items entries) entry))
     ∙ ap (λ xs. (faults ++ all_entry_faults host earlier decl (before ++ items (first ∷ [])) entries) ++ entry_faults host earlier decl xs entry)
-      (append_assoc before (items (first ∷ [])) (items entries) ∙ ap (λ xs. before ++ xs) (sym (items_cons host earlier decl first entries)))
+    (append_assoc before (items (first ∷ [])) (items entries) ∙ ap (λ xs. before ++ xs) (sym (items_cons host earlier decl first entries)))
 
 -- something of each text from a place on, by the items that it owns
 abbrev pub each_from : {A : Type 0} → (FieldDecl → List NestedMeta → A) → ℕ → List Text → (ℕ → List NestedMeta) → List A
@@ -63,7 +63,7 @@ each_from-turn f fields place field own_items within is =
     let shifted : (λ (number : ℕ). own_items (place + suc number)) ≡ (λ number. own_items ((place + 1) + number)) = fun_ext (λ number. ap own_items (let e : place + suc number ≡ (place + 1) + number = omega arith in e)) in
     each-turn f fields place field (λ number. own_items (place + number)) within is
     ∙ ap₂ (λ x xs. f (text_field field) x ∷ xs) (ap own_items here)
-      (ap₂ (λ k g. each f (map text_field (drop k fields)) g) next shifted)
+    (ap₂ (λ k g. each f (map text_field (drop k fields)) g) next shifted)
 
 pub each_from-end : {A : Type 0} (f : FieldDecl → List NestedMeta → A) (fields : List Text) (place : ℕ) (own_items : ℕ → List NestedMeta) → length fields ≤ place → each_from f place fields own_items ≡ []
 each_from-end f fields place own_items past = ap (λ xs. each f (map text_field xs) (λ number. own_items (place + number))) (drop-all fields place past)
@@ -116,7 +116,7 @@ module _ (receiver : Receiver) (all : List NestedMeta) where
       drops fields place field within is ∙ ap (λ k. field ∷ drop k fields) next
 
   turned-building : (members : List (Text × Datum)) (place : ℕ) (field : Text) (first : Option NestedMeta) → place < length receiver.fields → field ≡ get_or receiver.fields place field → first ≡ first_of (mine place)
-    → building members place ≡ on_value (λ values. struct_of receiver.name (members ++ labelled (field ∷ map (λ f. f.member) (map text_field (drop (place + 1) receiver.fields))) values)) (bind (first_value field first) (λ value. on_value (λ more. value ∷ more) (in_order (each_from valued (place + 1) receiver.fields mine))))
+      → building members place ≡ on_value (λ values. struct_of receiver.name (members ++ labelled (field ∷ map (λ f. f.member) (map text_field (drop (place + 1) receiver.fields))) values)) (bind (first_value field first) (λ value. on_value (λ more. value ∷ more) (in_order (each_from valued (place + 1) receiver.fields mine))))
   turned-building members place field first within is e =
       ap₂ (λ fields outcomes. on_value (λ values. struct_of receiver.name (members ++ labelled (map (λ f. f.member) (map text_field fields)) values)) (in_order outcomes))
       (drop-turn receiver.fields place field within is)
@@ -141,7 +141,7 @@ module _ (receiver : Receiver) (all : List NestedMeta) where
   building-end members place past =
       ap (λ xs. Value (struct_of receiver.name xs)) (sym (append-nil members))
       ∙ ap₂ (λ fields outcomes. on_value (λ values. struct_of receiver.name (members ++ labelled (map (λ f. f.member) (map text_field fields)) values)) (in_order outcomes))
-        (sym (drop-all receiver.fields place past)) (sym (each_from-end valued receiver.fields place mine past))
+      (sym (drop-all receiver.fields place past)) (sym (each_from-end valued receiver.fields place mine past))
 
 -- the entries' faults and the missing fields, else what is built: the meaning
 pub plain-means : (receiver : Receiver) (entries : List Entry) → settle (all_entry_faults no_host no_earlier (receiver_decl receiver) [] entries ++ missing_faults (receiver_decl receiver) entries) (built_struct no_host no_earlier (receiver_decl receiver) no_value entries) ≡ struct_meaning no_host no_earlier (receiver_decl receiver) entries
@@ -152,8 +152,8 @@ plain-means receiver entries =
 
 -- what a plain reading gives is what the subject means
 pub plain-settled : (receiver : Receiver) (declaration subject : DeriveInput) (entries : List Entry) (faults missing_ones all : List Fault) (outcome : Outcome Datum)
-  → receiver ≡ receiver_of declaration → entries ≡ events receiver.attributes subject.attrs → faults ≡ all_entry_faults no_host no_earlier (receiver_decl receiver) [] entries → missing_ones ≡ missing_faults (receiver_decl receiver) entries → all ≡ faults ++ missing_ones
-  → outcome ≡ settle all (built_struct no_host no_earlier (receiver_decl receiver) no_value entries) → outcome ≡ item_meaning declaration subject
+    → receiver ≡ receiver_of declaration → entries ≡ events receiver.attributes subject.attrs → faults ≡ all_entry_faults no_host no_earlier (receiver_decl receiver) [] entries → missing_ones ≡ missing_faults (receiver_decl receiver) entries → all ≡ faults ++ missing_ones
+    → outcome ≡ settle all (built_struct no_host no_earlier (receiver_decl receiver) no_value entries) → outcome ≡ item_meaning declaration subject
 plain-settled receiver declaration subject entries faults missing_ones all outcome r e f m a o =
     o
     ∙ ap (λ xs. settle xs (built_struct no_host no_earlier (receiver_decl receiver) no_value entries)) (a ∙ ap₂ (λ xs ys. xs ++ ys) f m)
@@ -167,7 +167,7 @@ module _ (receiver : Receiver) (before : List NestedMeta) (it : Meta) (name : Te
 
   -- the faults of an item of a field
   pub owned-faults : (place : ℕ) (field : Text) → name ≡ meta_name it → Some place ≡ position (λ other. bytes_eq other name) receiver.fields → place < length receiver.fields → field ≡ get_or receiver.fields place field
-    → own_faults no_host no_earlier (text_field field) Single (own (receiver_decl receiver).fields before place) (nested.Meta it) ≡ faults_here (owner_named (receiver_decl receiver).fields (meta_name it))
+      → own_faults no_host no_earlier (text_field field) Single (own (receiver_decl receiver).fields before place) (nested.Meta it) ≡ faults_here (owner_named (receiver_decl receiver).fields (meta_name it))
   owned-faults place field e found within is =
       ap (λ f. own_faults no_host no_earlier f f.shape (own (receiver_decl receiver).fields before place) (nested.Meta it)) (sym (field_at-texts receiver.fields place field within is))
       ∙ ap faults_here (found ∙ sym (owner_named-texts receiver.fields name) ∙ ap (owner_named (map text_field receiver.fields)) e)
@@ -195,7 +195,7 @@ take-more xs place x within is =
 
 -- the faults of the entries up to a place, and of the one there
 pub entry_faults-next : (decl : Decl) (entries : List Kept) (place : ℕ) (entry : Kept) → place < length entries → entry ≡ get_or entries place entry
-  → all_entry_faults no_host no_earlier decl [] (map entry_of (take place entries)) ++ entry_faults no_host no_earlier decl (items (map entry_of (take place entries))) (entry_of entry) ≡ all_entry_faults no_host no_earlier decl [] (map entry_of (take (place + 1) entries))
+    → all_entry_faults no_host no_earlier decl [] (map entry_of (take place entries)) ++ entry_faults no_host no_earlier decl (items (map entry_of (take place entries))) (entry_of entry) ≡ all_entry_faults no_host no_earlier decl [] (map entry_of (take (place + 1) entries))
 entry_faults-next decl entries place entry within is =
     sym (all_entry_faults-more no_host no_earlier decl [] (map entry_of (take place entries)) (entry_of entry))
     ∙ ap (all_entry_faults no_host no_earlier decl []) (sym (map-one (take place entries) entry) ∙ ap (map entry_of) (sym (take-more entries place entry within is)))

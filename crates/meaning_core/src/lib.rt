@@ -9,6 +9,8 @@ mod node;
 mod outcome;
 mod plain;
 mod receiver;
+#[cfg(test)]
+mod tests;
 mod text;
 mod value;
 mod walk;

@@ -52,11 +52,7 @@ pub fn plain_item_meaning(
     }
 }
 
-fn read_entries(
-    alloc: Global,
-    receiver: &Receiver,
-    attributes: &[Attribute],
-) -> Mem<Items<Entry>>
+fn read_entries(alloc: Global, receiver: &Receiver, attributes: &[Attribute]) -> Mem<Items<Entry>>
     ensures { IfOk result (λ entries. map entry_of entries ≡ events receiver.now.attributes attributes.now) }
 {
     let mut entries = Items::new(alloc);
@@ -271,11 +267,7 @@ fn build(alloc: Global, receiver: &Receiver, entries: &[Entry]) -> Mem<Outcome>
 }
 
 /// The text of a field's first item; without one the field is missing.
-fn read_first(
-    alloc: Global,
-    name: &Text,
-    first: Option<&NestedMeta>,
-) -> Mem<Result<Text, Fault>>
+fn read_first(alloc: Global, name: &Text, first: Option<&NestedMeta>) -> Mem<Result<Text, Fault>>
     ensures { IfOk result (λ read. text_outcome read ≡ first_value name.now (option_copied first.entry)) }
 {
     match first {

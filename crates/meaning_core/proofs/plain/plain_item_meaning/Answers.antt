@@ -17,8 +17,8 @@ returns-then-is_empty c =
     let none : c.append.new.self ≡ [] = c.if-is_empty.ensures.0 refl in
     IfOk-weaker c.build.result _ _
     (λ outcome e. plain-settled c.in_ok-receiver.receiver c.args.declaration.now c.args.subject.now entries c.in_ok-faults.faults c.in_ok-missing.missing c.append.new.self outcome
-      c.in_ok-receiver.ensures (rw c.as_slice.ensures at c.in_ok-entries.ensures) (rw c.as_slice-2.ensures at c.in_ok-faults.ensures) (rw c.as_slice-3.ensures at c.in_ok-missing.ensures) c.in_ok-append.ensures.ok
-      ((rw c.as_slice-then-is_empty.ensures at e) ∙ ap (λ xs. settle xs built) (sym none)))
+    c.in_ok-receiver.ensures (rw c.as_slice.ensures at c.in_ok-entries.ensures) (rw c.as_slice-2.ensures at c.in_ok-faults.ensures) (rw c.as_slice-3.ensures at c.in_ok-missing.ensures) c.in_ok-append.ensures.ok
+    ((rw c.as_slice-then-is_empty.ensures at e) ∙ ap (λ xs. settle xs built) (sym none)))
     c.build.ensures
 
 pub returns : goal.returns
