@@ -1,0 +1,8 @@
+pub mod Filters
+pub mod Clean
+pub mod Direct
+pub mod Nodes
+pub mod SlotLemmas
+pub mod Arms
+pub mod Finish
+pub mod PlainLemmas

@@ -1,0 +1,23 @@
+//! What declarations mean, and the walk that reads a subject under one.
+//!
+//! `specs/` has the meaning: the entries of a subject's attributes, the owner of each item, the faults
+//! of each entry, the value of each field. Nothing in it follows a program's loops.
+#![tactic(auto)]
+
+mod laws;
+mod node;
+mod outcome;
+mod plain;
+mod receiver;
+#[cfg(test)]
+mod tests;
+mod text;
+mod value;
+mod walk;
+
+pub use fault_core::{Fault, FaultKind, Items, Mem, Span, Text, TryClone};
+pub use laws::{direct_is_meaning, walk_is_filters};
+pub use outcome::Outcome;
+pub use plain::plain_item_meaning;
+pub use receiver::Receiver;
+pub use value::{Style, Value};
