@@ -1,0 +1,68 @@
+ghost use Rattle.std.specs.Prelude.{◌≡◌, ◌++◌, codes, decimal, length, flat_map, IfOk, OnOk};
+ghost use Rattle.token_core.specs.Ident.{ident_text};
+ghost use Rattle.darling_run.specs.Report.{fault_row, outcome_text, report_text};
+
+use crate::value_text::push_value;
+use fault_core::{Fault, push_fault_line};
+use meaning_core::Outcome;
+use node_core::DeriveInput;
+use std::alloc::Global;
+use token_core::{Ident, Items, Mem, Text};
+
+/// What was read, and what it means.
+#[derive(Drop)]
+pub struct Report {
+    /// The trees of the first part.
+    pub declarations: Items<DeriveInput>,
+    /// The trees of the second part.
+    pub subjects: Items<DeriveInput>,
+    /// What the last declaration makes of each subject, in order.
+    pub outcomes: Items<Outcome>,
+}
+
+/// The lines of a report, one or more for each subject.
+pub fn report_text(alloc: Global, report: &Report) -> Mem<Text>
+    requires { length report.now.outcomes ≡ length report.now.subjects }
+    ensures { IfOk result (λ text. text ≡ report_text report.now.subjects report.now.outcomes) }
+{
+    let mut text = Text::new(alloc);
+    let outcomes = report.outcomes.as_slice();
+    for (i, subject) in report.subjects.as_slice().iter().enumerate() {
+        push_outcome(alloc, &mut text, &subject.ident, &outcomes[i])?;
+    }
+    Ok(text)
+}
+
+fn push_outcome(alloc: Global, out: &mut Text, name: &Ident, outcome: &Outcome) -> Mem<()>
+    ensures { OnOk result (out.new ≡ out.old ++ outcome_text (ident_text name.now) outcome.now) }
+{
+    match outcome.value() {
+        Some(value) => {
+            out.push_str("ok ")?;
+            name.push_to(out)?;
+            out.push_str(" ")?;
+            push_value(out, value)?;
+            out.push_str("\n")
+        }
+        None => {
+            out.push_str("err ")?;
+            name.push_to(out)?;
+            out.push_str(" ")?;
+            push_fault_rows(alloc, out, outcome.faults())
+        }
+    }
+}
+
+fn push_fault_rows(alloc: Global, out: &mut Text, faults: &[Fault]) -> Mem<()>
+    ensures { OnOk result (out.new ≡ out.old ++ decimal (length faults.now) ++ codes "\n" ++ flat_map fault_row faults.now) }
+{
+    let count = faults.len().to_string(alloc)?;
+    out.push_str(count.as_str())?;
+    out.push_str("\n")?;
+    for fault in faults {
+        out.push_str("  ")?;
+        push_fault_line(alloc, out, fault)?;
+        out.push_str("\n")?;
+    }
+    Ok(())
+}
