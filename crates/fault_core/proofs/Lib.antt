@@ -1,0 +1,3 @@
+mod NameLemmas
+pub mod OutcomeLemmas
+mod TextLemmas

@@ -1,5 +1,5 @@
 -- What is wrong: the alternatives that a kind names.
-use Rattle.std.specs.Prelude.{List, [], ◌∷◌, fold, ℕ}
+use Rattle.std.specs.Prelude.{List, [], fold}
 use Rattle.std.specs.Ordering.{nat_cmp}
 use Rattle.std.specs.Cmp.Lexicographic.{slice_cmp}
 use Rattle.std.specs.BTreeSet.{BTreeSet, insert_key}
@@ -7,13 +7,13 @@ use Rattle.base_core.specs.declared.text.Text.{Text}
 use Rattle.fault_core.specs.declared.kind.FaultKind.{FaultKind}
 use Rattle.fault_core.specs.declared.kind.FaultKind.TheVariants.{Custom, DuplicateField, MissingField, UnsupportedShape, UnknownField, UnexpectedFormat, UnexpectedType, UnknownValue, TooFewItems, TooManyItems}
 
--- the set with one more name
-abbrev pub with_name : BTreeSet Text → Text → BTreeSet Text
-with_name alts name = record { keys = insert_key (slice_cmp nat_cmp) alts.keys name }
-
 -- the set with these names too
 abbrev pub with_names : BTreeSet Text → List Text → BTreeSet Text
-with_names alts names = fold with_name alts names
+with_names alts names = record { keys = fold (insert_key (slice_cmp nat_cmp)) alts.keys names }
+
+-- the set of these names
+abbrev pub set_of : List Text → BTreeSet Text
+set_of names = with_names (record { keys = [] }) names
 
 -- an unknown field with these alternatives too; every other kind as it is
 abbrev pub with_alternatives : FaultKind → List Text → FaultKind

@@ -1,5 +1,5 @@
 -- Outcomes: one value, or one fault and more.
-use Rattle.std.specs.Prelude.{List, [], ◌∷◌, map, Option, Some, None}
+use Rattle.std.specs.Prelude.{List, [], ◌∷◌, Option, Some, None}
 use Rattle.base_core.specs.declared.text.Text.{Text}
 use Rattle.token_core.specs.declared.span.Span.{Span}
 use Rattle.fault_core.specs.declared.kind.FaultKind.{FaultKind}

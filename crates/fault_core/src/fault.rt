@@ -1,5 +1,10 @@
+ghost use Rattle.std.specs.Prelude.{◌≡◌, IfOk};
+
 use crate::kind::FaultKind;
-use base_core::{Items, Text};
+use crate::names::add_names;
+use base_core::{Items, Mem, Text};
+use std::alloc::Global;
+use std::collections::BTreeSet;
 use token_core::Span;
 
 /// One thing that is wrong: what it is, the names of the fields that lead to it from the outermost
@@ -9,4 +14,114 @@ pub struct Fault {
     pub kind: FaultKind,
     pub path: Items<Text>,
     pub span: Option<Span>,
+}
+
+impl Fault {
+    ghost use Rattle.fault_core.specs.Kind.{set_of};
+    ghost use Rattle.fault_core.specs.Fault.{plain, at_span, or_span, located, with_sibling_names};
+
+    /// A fault in no field and at no place.
+    pub fn new(alloc: Global, kind: FaultKind) -> Fault
+        ensures { result ≡ plain kind }
+    {
+        Fault {
+            kind,
+            path: Items::new(alloc),
+            span: None,
+        }
+    }
+
+    /// A fault in no field, at a place.
+    pub fn at_span(alloc: Global, kind: FaultKind, span: Span) -> Fault
+        ensures { result ≡ at_span kind span }
+    {
+        Fault {
+            kind,
+            path: Items::new(alloc),
+            span: Some(span),
+        }
+    }
+
+    pub fn missing_field(alloc: Global, name: &str) -> Mem<Fault>
+        ensures { IfOk result (λ fault. fault ≡ plain (FaultKind.MissingField name.now)) }
+    {
+        let name = Text::from_str(alloc, name)?;
+        Ok(Fault::new(alloc, FaultKind::MissingField(name)))
+    }
+
+    pub fn duplicate_field(alloc: Global, name: &str, span: Span) -> Mem<Fault>
+        ensures { IfOk result (λ fault. fault ≡ at_span (FaultKind.DuplicateField name.now) span) }
+    {
+        let name = Text::from_str(alloc, name)?;
+        Ok(Fault::at_span(alloc, FaultKind::DuplicateField(name), span))
+    }
+
+    pub fn unknown_field_with_alts(
+        alloc: Global,
+        name: &str,
+        alts: &[Text],
+        span: Span,
+    ) -> Mem<Fault>
+        ensures { IfOk result (λ fault. fault ≡ at_span (FaultKind.UnknownField name.now (set_of alts.now)) span) }
+    {
+        let name = Text::from_str(alloc, name)?;
+        let alts = add_names(alloc, BTreeSet::new(alloc), alts)?;
+        Ok(Fault::at_span(alloc, FaultKind::UnknownField { name, alts }, span))
+    }
+
+    pub fn custom(alloc: Global, message: &str, span: Span) -> Mem<Fault>
+        ensures { IfOk result (λ fault. fault ≡ at_span (FaultKind.Custom message.now) span) }
+    {
+        let message = Text::from_str(alloc, message)?;
+        Ok(Fault::at_span(alloc, FaultKind::Custom(message), span))
+    }
+
+    pub fn unexpected_format(alloc: Global, format: &str, span: Span) -> Mem<Fault>
+        ensures { IfOk result (λ fault. fault ≡ at_span (FaultKind.UnexpectedFormat format.now) span) }
+    {
+        let format = Text::from_str(alloc, format)?;
+        Ok(Fault::at_span(alloc, FaultKind::UnexpectedFormat(format), span))
+    }
+
+    /// The fault one field further in. Want of memory drops it.
+    pub fn located(self, alloc: Global, name: &str) -> Mem<Fault>
+        ensures { IfOk result (λ fault. fault ≡ located self name.now) }
+    {
+        let Fault {
+            kind,
+            mut path,
+            span,
+        } = self;
+        path.insert(0, Text::from_str(alloc, name)?)?;
+        Ok(Fault { kind, path, span })
+    }
+
+    /// The fault at this place, where it has none of its own.
+    pub fn or_span(self, span: Span) -> Fault
+        ensures { result ≡ or_span self span }
+    {
+        let Fault {
+            kind,
+            path,
+            span: own,
+        } = self;
+        Fault {
+            kind,
+            path,
+            span: own.or(Some(span)),
+        }
+    }
+
+    /// An unknown field that stands in no other field has these alternatives too; every other fault
+    /// stays as it is. Want of memory drops it.
+    pub fn with_sibling_names(self, alloc: Global, names: &[Text]) -> Mem<Fault>
+        ensures { IfOk result (λ fault. fault ≡ with_sibling_names self names.now) }
+    {
+        if !self.path.is_empty() {
+            return Ok(self);
+        }
+        let Fault { kind, path, span } = self;
+        let kind = kind.with_alternatives(alloc, names)?;
+        Ok(Fault { kind, path, span })
+    }
 }

@@ -1,4 +1,8 @@
-use base_core::Text;
+ghost use Rattle.std.specs.Prelude.{◌≡◌, IfOk};
+
+use crate::names::add_names;
+use base_core::{Mem, Text};
+use std::alloc::Global;
 use std::collections::BTreeSet;
 
 /// What is wrong.
@@ -16,15 +20,39 @@ pub enum FaultKind {
         expected: Option<Text>,
     },
     /// A field that is not known; `alts` are those that are.
-    UnknownField { name: Text, alts: BTreeSet<Text> },
+    UnknownField {
+        name: Text,
+        alts: BTreeSet<Text>,
+    },
     /// An item of another format than is read, as a word in the place of a list.
     UnexpectedFormat(Text),
     /// A literal of another type than is read.
     UnexpectedType(Text),
     /// A value that is not known; `alts` are those that are.
-    UnknownValue { name: Text, alts: BTreeSet<Text> },
+    UnknownValue {
+        name: Text,
+        alts: BTreeSet<Text>,
+    },
     /// Fewer items than the count, which is the least that is taken.
     TooFewItems(usize),
     /// More items than the count, which is the most that is taken.
     TooManyItems(usize),
+}
+
+impl FaultKind {
+    ghost use Rattle.fault_core.specs.Kind.{with_alternatives};
+
+    /// An unknown field with these alternatives too; every other kind as it is. Want of memory drops
+    /// the kind.
+    pub fn with_alternatives(self, alloc: Global, names: &[Text]) -> Mem<FaultKind>
+        ensures { IfOk result (λ kind. kind ≡ with_alternatives self names.now) }
+    {
+        match self {
+            FaultKind::UnknownField { name, alts } => {
+                let alts = add_names(alloc, alts, names)?;
+                Ok(FaultKind::UnknownField { name, alts })
+            }
+            other => Ok(other),
+        }
+    }
 }

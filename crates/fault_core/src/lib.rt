@@ -7,6 +7,9 @@
 mod clone;
 mod fault;
 mod kind;
+mod names;
+#[cfg(test)]
+mod tests;
 mod text;
 
 pub use base_core::{Items, Mem, Text, TryClone};

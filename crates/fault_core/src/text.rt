@@ -140,14 +140,14 @@ fn push_kind(alloc: Global, out: &mut Text, kind: &FaultKind) -> Mem<()>
 }
 
 fn push_naming(out: &mut Text, message: &str, name: &Text) -> Mem<()>
-    ensures { OnOk result (out.new ≡ out.old ++ message.now ++ quoted name.now) }
+    ensures { OnOk result (out.new ≡ out.old ++ (message.now ++ quoted name.now)) }
 {
     out.push_str(message)?;
     push_quoted(out, name)
 }
 
 fn push_counting(alloc: Global, out: &mut Text, message: &str, count: usize) -> Mem<()>
-    ensures { OnOk result (out.new ≡ out.old ++ message.now ++ decimal count) }
+    ensures { OnOk result (out.new ≡ out.old ++ (message.now ++ decimal count)) }
 {
     out.push_str(message)?;
     let digits = count.to_string(alloc)?;
