@@ -1,0 +1,110 @@
+-- Declarations as their options leave them: types, fields, and the fallback of a field.
+use Rattle.std.specs.Prelude.{ℕ, Bool, true, false, cond, not, List, [], ◌∷◌, ◌++◌, Option, Some, None}
+use Rattle.base_core.specs.declared.text.Text.{Text}
+
+-- the type of a field: a text, a list, or what the declaration of this number makes
+pub data FieldType : Type 0 where
+  TextType : FieldType
+  ListType : FieldType → FieldType
+  DeclaredType : ℕ → FieldType
+
+-- a field has one value, one for each of its items, or what no other field takes
+pub data Shape : Type 0 where
+  Single : Shape
+  Many : Shape
+  Flat : Shape
+
+-- a default: that of the type, or the answer of a callable
+pub data Default : Type 0 where
+  ByType : Default
+  ByCall : Text → Default
+
+-- what a value goes through at the end: the callable, and whether it may refuse
+pub record Transform : Type 0 where
+  pub callable : Text
+  pub may_refuse : Bool
+
+-- a field: `member` in the struct that is built, `name` in the items that are read
+pub record FieldDecl : Type 0 where
+  pub member : Text
+  pub name : Text
+  pub type : FieldType
+  pub shape : Shape
+  pub skip : Bool
+  pub default : Option Default
+  pub with : Option Text
+  pub transform : Option Transform
+
+-- how a declaration is read: from a list of items, or from the attributes of an item
+pub data Derive : Type 0 where
+  FromMeta : Derive
+  FromDeriveInput : Derive
+
+-- a declaration: its number among all, and the names of the attributes that it reads
+pub record Decl : Type 0 where
+  pub derives : List Derive
+  pub number : ℕ
+  pub name : Text
+  pub attributes : List Text
+  pub fields : List FieldDecl
+  pub default : Option Default
+  pub transform : Option Transform
+  pub allows_unknown : Bool
+
+-- the field is neither skipped nor flattened, so items name it
+abbrev pub is_named_by : Shape → Bool → Bool
+is_named_by Single skip = not skip
+is_named_by Many skip = not skip
+is_named_by Flat skip = false
+
+abbrev pub is_named : FieldDecl → Bool
+is_named field = is_named_by field.shape field.skip
+
+-- the names of the fields that items name
+abbrev pub names : List FieldDecl → List Text
+names [] = []
+names (field ∷ fields) = cond (is_named field) (field.name ∷ names fields) (names fields)
+
+-- the type of one value of a field
+abbrev pub element : Shape → FieldType → FieldType
+element Many (ListType type) = type
+element Many TextType = TextType
+element Many (DeclaredType number) = DeclaredType number
+element Single type = type
+element Flat type = type
+
+abbrev pub is_flat : Shape → Bool
+is_flat Flat = true
+is_flat Single = false
+is_flat Many = false
+
+abbrev pub has_flat : List FieldDecl → Bool
+has_flat [] = false
+has_flat (field ∷ fields) = cond (is_flat field.shape) true (has_flat fields)
+
+-- what stands for a value that no item gives: the type's default, a callable's answer, or the member of the
+-- container's default
+pub data Fallback : Type 0 where
+  OfType : Fallback
+  OfCall : Text → Fallback
+  OfContainer : Text → Fallback
+
+-- a skipped field falls back on its type
+abbrev pub skip_fallback : Bool → Option Fallback
+skip_fallback true = Some OfType
+skip_fallback false = None
+
+-- the container's default, where it has one
+abbrev pub container_fallback : FieldDecl → Option Default → Option Fallback
+container_fallback field (Some default) = Some (OfContainer field.member)
+container_fallback field None = skip_fallback field.skip
+
+-- the field's own default, where it has one
+abbrev pub fallback_by : FieldDecl → Option Default → Option Default → Option Fallback
+fallback_by field container (Some ByType) = Some OfType
+fallback_by field container (Some (ByCall callable)) = Some (OfCall callable)
+fallback_by field container None = container_fallback field container
+
+-- the fallback of a field: its own default, else the container's member, else the type's where it is skipped
+abbrev pub fallback : Decl → FieldDecl → Option Fallback
+fallback decl field = fallback_by field decl.default field.default

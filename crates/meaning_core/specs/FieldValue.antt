@@ -1,0 +1,69 @@
+-- The value of a field, and where a field is missing.
+use Rattle.std.specs.Prelude.{List, [], ◌∷◌, Option, Some, None}
+use Rattle.base_core.specs.declared.text.Text.{Text}
+use Rattle.meta_core.specs.declared.nested.NestedMeta.{NestedMeta}
+use Rattle.fault_core.specs.declared.fault.Fault.{Fault}
+use Rattle.fault_core.specs.declared.kind.FaultKind.TheVariants.{MissingField}
+use Rattle.fault_core.specs.Fault.{plain}
+use Rattle.fault_core.specs.Outcome.{Outcome, Value, Faults, faults_of, with_siblings}
+use Rattle.meaning_core.specs.declared.value.Value.{Value as Datum}
+use Rattle.meaning_core.specs.declared.value.Value.TheVariants as value
+use Rattle.meaning_core.specs.Value.{member}
+use Rattle.meaning_core.specs.Decl.{FieldType, Shape, Single, Many, Flat, FieldDecl, Decl, Fallback, OfType, OfCall, OfContainer, fallback, names}
+use Rattle.meaning_core.specs.Host.{Host}
+use Rattle.meaning_core.specs.Convert.{Earlier, list, none, default}
+use Rattle.meaning_core.specs.Owners.{unclaimed}
+use Rattle.meaning_core.specs.EntryFaults.{read, values}
+
+-- what a fallback gives at a type; `whole` is the container's default
+abbrev pub fallback_outcome : Host → FieldType → Datum → Fallback → Outcome Datum
+fallback_outcome host type whole OfType = Value (default host type)
+fallback_outcome host type whole (OfCall callable) = host.default_by callable type
+fallback_outcome host type whole (OfContainer name) = Value (member name whole)
+
+module _ (host : Host) (earlier : Earlier) (decl : Decl) where
+  -- a flattened field reads what no other field takes
+  abbrev pub flat_outcome : FieldDecl → List NestedMeta → Outcome Datum
+  flat_outcome field all = with_siblings (names decl.fields) (list earlier field.type (unclaimed decl.fields all))
+
+  -- its faults; another field has none here
+  abbrev pub flat_faults : FieldDecl → Shape → List NestedMeta → List Fault
+  flat_faults field Flat all = faults_of (flat_outcome field all)
+  flat_faults field Single all = []
+  flat_faults field Many all = []
+
+  -- without an item: missing where nothing stands for it
+  abbrev pub missing_by : FieldDecl → Option Fallback → Option Datum → List Fault
+  missing_by field (Some fall) nothing = []
+  missing_by field None (Some value) = []
+  missing_by field None None = plain (MissingField field.name) ∷ []
+
+  -- the fault of a missing field, by its own items
+  abbrev pub missing : FieldDecl → Shape → List NestedMeta → List Fault
+  missing field Single [] = missing_by field (fallback decl field) (none earlier field.type)
+  missing field Single (item ∷ more) = []
+  missing field Many own_items = []
+  missing field Flat own_items = []
+
+  -- the value that is read from nothing, where the type has one
+  abbrev pub value_of_none : FieldDecl → Option Datum → Outcome Datum
+  value_of_none field (Some value) = Value value
+  value_of_none field None = Faults (plain (MissingField field.name)) []
+
+  -- the value of a single field without an item
+  abbrev pub absent_value : FieldDecl → Datum → Option Fallback → Outcome Datum
+  absent_value field whole (Some fall) = fallback_outcome host field.type whole fall
+  absent_value field whole None = value_of_none field (none earlier field.type)
+
+  -- the value of a field of many values without an item
+  abbrev pub empty_value : FieldDecl → Datum → Option Fallback → Outcome Datum
+  empty_value field whole (Some fall) = fallback_outcome host field.type whole fall
+  empty_value field whole None = Value (value.List [])
+
+  -- the value of a field by all items and by its own; `whole` is the container's default
+  abbrev pub field_value : Datum → List NestedMeta → FieldDecl → Shape → List NestedMeta → Outcome Datum
+  field_value whole all field Flat own_items = flat_outcome field all
+  field_value whole all field Many [] = empty_value field whole (fallback decl field)
+  field_value whole all field Many (item ∷ more) = Value (value.List (values host earlier field (item ∷ more)))
+  field_value whole all field Single [] = absent_value field whole (fallback decl field)
+  field_value whole all field Single (item ∷ more) = read host earlier field item

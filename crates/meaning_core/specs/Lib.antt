@@ -1,0 +1,14 @@
+pub mod Node
+pub mod Bare
+pub mod Value
+pub mod Decl
+pub mod Host
+pub mod Convert
+pub mod Entries
+pub mod Owners
+pub mod EntryFaults
+pub mod FieldValue
+pub mod Meaning
+pub mod State
+pub mod Walk
+pub mod Receiver

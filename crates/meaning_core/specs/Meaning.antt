@@ -1,0 +1,65 @@
+-- The meaning of a struct: the faults that are collected, else the value that is built.
+use Rattle.std.specs.Prelude.{ℕ, List, [], ◌∷◌, ◌++◌, map, Option, Some, None}
+use Rattle.base_core.specs.declared.text.Text.{Text}
+use Rattle.fault_core.specs.declared.fault.Fault.{Fault}
+use Rattle.fault_core.specs.Outcome.{Outcome, Value, bind, on_value, settle}
+use Rattle.meaning_core.specs.declared.value.Value.{Value as Datum}
+use Rattle.meaning_core.specs.Value.{no_value, struct_of, labelled}
+use Rattle.meaning_core.specs.Decl.{DeclaredType, Default, ByType, ByCall, Decl}
+use Rattle.meaning_core.specs.Host.{Host}
+use Rattle.meaning_core.specs.Convert.{Earlier, default}
+use Rattle.meaning_core.specs.Entries.{Entry, items}
+use Rattle.meaning_core.specs.Owners.{own, each}
+use Rattle.meaning_core.specs.EntryFaults.{transformed, all_entry_faults}
+use Rattle.meaning_core.specs.FieldValue.{flat_faults, missing, field_value}
+
+-- the lists, one after another
+abbrev pub joined : List (List Fault) → List Fault
+joined [] = []
+joined (faults ∷ more) = faults ++ joined more
+
+-- all values in order, or the first faults alone
+abbrev pub in_order : List (Outcome Datum) → Outcome (List Datum)
+in_order [] = Value []
+in_order (outcome ∷ outcomes) = bind outcome (λ value. on_value (λ values. value ∷ values) (in_order outcomes))
+
+-- the default of a declaration of this number
+abbrev pub default_outcome : Host → ℕ → Default → Outcome Datum
+default_outcome host number ByType = Value (default host (DeclaredType number))
+default_outcome host number (ByCall callable) = host.default_by callable (DeclaredType number)
+
+-- the container's default, where it has one
+abbrev pub whole_default : Host → ℕ → Option Default → Outcome Datum
+whole_default host number None = Value no_value
+whole_default host number (Some given) = default_outcome host number given
+
+module _ (host : Host) (earlier : Earlier) (decl : Decl) where
+  -- the faults of all entries, those of what stands around them (`outer`), then the flattened fields' and the missing
+  -- fields'
+  abbrev pub collected_with : List Fault → List Entry → List Fault
+  collected_with outer entries =
+      all_entry_faults host earlier decl [] entries
+      ++ (outer
+      ++ (joined (each (λ field own_items. flat_faults host earlier decl field field.shape (items entries)) decl.fields (own decl.fields (items entries)))
+      ++ joined (each (λ field own_items. missing host earlier decl field field.shape own_items) decl.fields (own decl.fields (items entries)))))
+
+  -- the collected faults of entries alone
+  abbrev pub collected : List Entry → List Fault
+  collected entries = collected_with [] entries
+
+  -- the struct of all fields' values; `whole` is the container's default
+  abbrev pub built_struct : Datum → List Entry → Outcome Datum
+  built_struct whole entries =
+      on_value (λ values. struct_of decl.name (labelled (map (λ field. field.member) decl.fields) values))
+      (in_order (each (λ field own_items. field_value host earlier decl whole (items entries) field field.shape own_items) decl.fields (own decl.fields (items entries))))
+
+  -- the collected faults, else the struct behind the container's default and transform
+  abbrev pub meaning_with : List Fault → List Entry → Outcome Datum
+  meaning_with outer entries =
+      settle (collected_with outer entries)
+      (transformed host earlier decl.transform (DeclaredType decl.number)
+      (bind (whole_default host decl.number decl.default) (λ whole. built_struct whole entries)))
+
+  -- what the entries mean
+  abbrev pub struct_meaning : List Entry → Outcome Datum
+  struct_meaning entries = meaning_with [] entries

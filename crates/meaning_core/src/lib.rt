@@ -1,0 +1,6 @@
+//! What declarations mean.
+#![tactic(auto)]
+
+mod value;
+
+pub use value::{Style, Value};
