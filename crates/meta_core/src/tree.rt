@@ -1,0 +1,101 @@
+ghost use Rattle.std.specs.Prelude.{◌≡◌, IfOk};
+ghost use Rattle.std.specs.Option.{option_copied};
+ghost use Rattle.meta_core.specs.Tree.{word, word_named, mark, literal, group};
+ghost use Rattle.meta_core.specs.Nested.{string, unquoted};
+
+use base_core::{Mem, Text, TryClone};
+use node_core::LitStr;
+use std::alloc::Global;
+use token_core::{Delimiter, Group, Ident, Literal, Span, TokenTree};
+
+/// The identifier token other than `_` that the tree is; a keyword is one.
+pub fn word(tree: &TokenTree) -> Option<&Ident>
+    ensures { option_copied result ≡ word tree.now }
+{
+    match tree {
+        TokenTree::Ident(ident) => {
+            if ident.text.as_str() == "_" {
+                None
+            } else {
+                Some(ident)
+            }
+        }
+        _ => None,
+    }
+}
+
+/// The word that is `name`, not written with `r#`.
+pub fn word_named<'a>(tree: &'a TokenTree, name: &str) -> Option<&'a Ident>
+    ensures { option_copied result ≡ word_named name.now tree.now }
+{
+    let ident = word(tree)?;
+    if ident.text.as_str() == name && !ident.raw {
+        Some(ident)
+    } else {
+        None
+    }
+}
+
+/// Where the mark `ch` stands, if the tree is that mark.
+pub fn mark(tree: &TokenTree, ch: char) -> Option<Span>
+    ensures { result ≡ mark ch tree.now }
+{
+    match tree {
+        TokenTree::Punct(punct) => {
+            if punct.ch == ch {
+                Some(punct.span)
+            } else {
+                None
+            }
+        }
+        _ => None,
+    }
+}
+
+/// The group between these delimiters that the tree is.
+pub fn group(tree: &TokenTree, delimiter: Delimiter) -> Option<&Group>
+    ensures { option_copied result ≡ group delimiter tree.now }
+{
+    match tree {
+        TokenTree::Group(group) => {
+            if group.delimiter == delimiter {
+                Some(group)
+            } else {
+                None
+            }
+        }
+        _ => None,
+    }
+}
+
+fn literal(tree: &TokenTree) -> Option<&Literal>
+    ensures { option_copied result ≡ literal tree.now }
+{
+    match tree {
+        TokenTree::Literal(literal) => Some(literal),
+        _ => None,
+    }
+}
+
+/// The string literal that the tree is.
+pub fn string(alloc: Global, tree: &TokenTree) -> Mem<Option<LitStr>>
+    ensures { IfOk result (λ text. text ≡ string tree.now) }
+{
+    let Some(token) = literal(tree) else {
+        return Ok(None);
+    };
+    let Some(value) = unquoted(token.text.as_str()) else {
+        return Ok(None);
+    };
+    Ok(Some(LitStr {
+        value: Text::from_str(alloc, value)?,
+        token: token.try_clone(alloc)?,
+        span: token.span,
+    }))
+}
+
+fn unquoted(text: &str) -> Option<&str>
+    ensures { option_copied result ≡ unquoted text.now }
+{
+    text.strip_prefix('"')?.strip_suffix('"')
+}
