@@ -96,7 +96,7 @@ WroteFront writing text = (sent : ℕ) × (sent < length text) × Wrote writing 
 
 -- how an answer was written
 pub data IsWritten (writing : Writing) (answer : Result Report Status) (ended : Ended) : Type 0 where
-  in_full : ended ≡ record { status = status_of answer; report = report_of answer } → Wrote writing (text_of answer) → IsWritten writing answer ended
+  in_full : ended ≡ record { status = status_of answer; report = report_of answer } → (status_of answer ≡ NoMemory → ⊥) → Wrote writing (text_of answer) → IsWritten writing answer ended
   in_part : ended ≡ record { status = WriteFault; report = report_of answer } → HasRisen writing.faults writing.faults_after → WroteFront writing (text_of answer) → IsWritten writing answer ended
   not_at_all : ended ≡ record { status = NoMemory; report = None } → writing.taken_after ≡ writing.taken → IsWritten writing answer ended
 

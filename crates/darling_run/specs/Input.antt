@@ -1,5 +1,6 @@
 -- What an input holds, and why one is refused.
-use Rattle.std.specs.Prelude.{◌≡◌, ℕ, ◌⊎◌, List, [], ◌∷◌, length, chars, Some}
+use Rattle.std.specs.Prelude.{◌≡◌, ℕ, ◌⊎◌, List, [], ◌∷◌, length, chars, Option, Some, None}
+use Rattle.std.specs.Option.{option_to_list}
 use Rattle.std.specs.Str.{IsUtf8}
 use Rattle.std.specs.Str.Lossy.{utf8_valid_len}
 use Rattle.token_core.specs.declared.span.Span.{Span}
@@ -42,31 +43,45 @@ pub record IsInput (bytes : List ℕ) (declaration : DeriveInput) (subjects : Li
 abbrev pub whole : ℕ → List ℕ → Span
 whole source text = At source 0 (length text)
 
--- The first of these parts that is not in a form that is read has this span.
-pub data IsUnbuilt : List (List ℕ) → Span → Type 0 where
-  no_declaration : (first second : List ℕ) (rest : List (List ℕ)) (span : Span)
-      → ((declaration : DeriveInput) → ¬ IsDeclaration first declaration)
-      → span ≡ whole 0 first
-      → IsUnbuilt (first ∷ second ∷ rest) span
-  no_subjects : (first second : List ℕ) (rest : List (List ℕ)) (span : Span) (declaration : DeriveInput)
-      → IsDeclaration first declaration
-      → ((subjects : List DeriveInput) → ¬ AreSubjects second subjects)
-      → span ≡ whole 1 second
-      → IsUnbuilt (first ∷ second ∷ rest) span
-  a_table : (first second third : List ℕ) (span : Span) (declaration : DeriveInput) (subjects : List DeriveInput)
-      → IsDeclaration first declaration
-      → AreSubjects second subjects
-      → span ≡ whole 2 third
-      → IsUnbuilt (first ∷ second ∷ third ∷ []) span
+abbrev pub HasDeclaration : List ℕ → Type 0
+HasDeclaration text = (declaration : DeriveInput) × IsDeclaration text declaration
+
+abbrev pub HasSubjects : List ℕ → Type 0
+HasSubjects text = (subjects : List DeriveInput) × AreSubjects text subjects
+
+-- there is a table, and it has this span
+abbrev pub TableAt : Option (List ℕ) → Span → Type 0
+TableAt None span = ⊥
+TableAt (Some table) span = span ≡ whole 2 table
+
+-- the first of these parts that is not in a form that is read has this span
+abbrev pub IsUnbuilt : List ℕ → List ℕ → Option (List ℕ) → Span → Type 0
+IsUnbuilt first second table span =
+    ((¬ HasDeclaration first) × (span ≡ whole 0 first))
+    ⊎ ((HasDeclaration first × (¬ HasSubjects second) × (span ≡ whole 1 second))
+    ⊎ (HasDeclaration first × HasSubjects second × TableAt table span))
+
+-- the bytes are a text of these parts, and one is not in a form that is read
+pub record HasUnbuilt (bytes : List ℕ) (span : Span) : Type 0 where
+  pub first : List ℕ
+  pub second : List ℕ
+  pub table : Option (List ℕ)
+  pub utf8 : IsUtf8 bytes
+  pub division : IsDivision bytes (first ∷ second ∷ option_to_list table)
+  pub unbuilt : IsUnbuilt first second table span
 
 -- why the bytes are no input
 abbrev pub IsRefused : List ℕ → Status → Type 0
 IsRefused bytes (NotText at) = (¬ IsUtf8 bytes) × (at ≡ utf8_valid_len bytes)
 IsRefused bytes NoParts = IsUtf8 bytes × (¬ ((divider_count bytes ≡ 1) ⊎ (divider_count bytes ≡ 2)))
-IsRefused bytes (Unbuilt span) = IsUtf8 bytes × ((parts : List (List ℕ)) × IsDivision bytes parts × IsUnbuilt parts span)
+IsRefused bytes (Unbuilt span) = HasUnbuilt bytes span
 IsRefused bytes Done = ⊥
 IsRefused bytes Usage = ⊥
 IsRefused bytes ReadFault = ⊥
 IsRefused bytes TooLong = ⊥
 IsRefused bytes WriteFault = ⊥
-IsRefused bytes NoMemory = Unit {0}
+IsRefused bytes NoMemory = ⊥
+
+-- the bytes are no input, or memory ran out
+abbrev pub Refuses : List ℕ → Status → Type 0
+Refuses bytes status = (status ≡ NoMemory) ⊎ IsRefused bytes status

@@ -1,5 +1,5 @@
 -- The text of a value.
-use Rattle.std.specs.Prelude.{ℕ, ◌==◌, if◌then◌else◌, List, ◌++◌, flat_map, codes, chars}
+use Rattle.std.specs.Prelude.{ℕ, ◌==◌, if◌then◌else◌, List, [], ◌++◌, map, flat_map, codes, chars}
 use Rattle.std.specs.List.{join_by}
 use Rattle.base_core.specs.declared.text.Text.{Text}
 use Rattle.fault_core.specs.FaultText.{escaped_char}
@@ -16,24 +16,29 @@ quoted_char c = if c == 34 then codes "\\\"" else escaped_char c
 abbrev pub quoted : List ℕ → List ℕ
 quoted text = codes "\"" ++ flat_map quoted_char (chars text) ++ codes "\""
 
--- a member with its name
-abbrev pub member_text : Text × List ℕ → List ℕ
-member_text member = member.0 ++ codes ": " ++ member.1
+-- the texts, separated by commas
+abbrev pub listed : List (List ℕ) → List ℕ
+listed texts = join_by (λ text. text) (codes ", ") texts
 
--- a struct by its name and the texts of its members
-abbrev pub struct_text : Text → Style → List (Text × List ℕ) → List ℕ
-struct_text name style.Struct members = name ++ codes " {" ++ join_by member_text (codes ", ") members ++ codes "}"
-struct_text name style.Tuple members = name ++ codes "(" ++ join_by (λ member. member.1) (codes ", ") members ++ codes ")"
-struct_text name style.Unit members = name
+-- a member with its name
+abbrev pub labelled : Text × List ℕ → List ℕ
+labelled member = (member.0 ++ codes ": ") ++ member.1
+
+-- the members between their delimiters: with their names, or by place; a unit has none
+abbrev pub members_text : Style → List (Text × List ℕ) → List ℕ
+members_text style.Struct members = codes " {" ++ listed (map labelled members) ++ codes "}"
+members_text style.Tuple members = codes "(" ++ listed (map (λ member. member.1) members) ++ codes ")"
+members_text style.Unit members = []
 
 abbrev pub value_step : Value-F (List ℕ) → List ℕ
 value_step (Value-F.Text text) = quoted text
-value_step (Value-F.Struct name style members) = struct_text name style members
+value_step (Value-F.List values) = codes "[" ++ listed values ++ codes "]"
+value_step (Value-F.Struct name style members) = name ++ members_text style members
 
--- a text between quotes; a struct as it is built
+-- a text between quotes, a list between brackets, a struct as it is built
 abbrev pub value_text : Value → List ℕ
 value_text = fold-Value (List ℕ) value_step
 
--- a member's name with the text of its value
+-- a member with the text of its value
 abbrev pub shown : Text × Value → Text × List ℕ
 shown member = (member.0, value_text member.1)

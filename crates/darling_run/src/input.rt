@@ -1,7 +1,7 @@
 ghost use Rattle.std.specs.Prelude.{◌≡◌, ◌≤◌, List, ℕ, length, IfOk, IfErr, IfSome, IfNone, OnErr};
 ghost use Rattle.node_core.specs.declared.derive.DeriveInput.{DeriveInput};
 ghost use Rattle.token_core.specs.declared.tree.TokenStream.{TokenStream};
-ghost use Rattle.darling_run.specs.Input.{HasTokens, IsDeclaration, AreSubjects, IsInput, IsRefused, whole};
+ghost use Rattle.darling_run.specs.Input.{HasTokens, IsDeclaration, AreSubjects, IsInput, Refuses, HasDeclaration, HasSubjects, whole};
 
 use crate::status::Status;
 use form_core::{parse_declaration, parse_subjects};
@@ -22,7 +22,7 @@ pub(crate) struct Input {
 pub(crate) fn read_input(alloc: Global, bytes: &[u8]) -> Result<Input, Status>
     requires { length bytes.now ≤ 16777216 }
     ensures ok { IfOk result (λ input. IsInput bytes.now input.declaration input.subjects) }
-    ensures err { IfErr result (λ status. IsRefused bytes.now status) }
+    ensures err { IfErr result (Refuses bytes.now) }
 {
     let text = match as_text(bytes) {
         Ok(text) => text,
@@ -61,7 +61,7 @@ fn unbuilt(source: u32, part: &str) -> Status
 fn read_declaration(alloc: Global, text: &str) -> Mem<Option<DeriveInput>>
     requires { length text.now ≤ 16777216 }
     ensures some { IfOk result (λ read. IfSome read (IsDeclaration text.now)) }
-    ensures none { IfOk result (λ read. IfNone read ((other : DeriveInput) → ¬ IsDeclaration text.now other)) }
+    ensures none { IfOk result (λ read. IfNone read (¬ HasDeclaration text.now)) }
 {
     match read_tokens(alloc, 0, text)? {
         Some(tokens) => parse_declaration(alloc, &tokens),
@@ -72,7 +72,7 @@ fn read_declaration(alloc: Global, text: &str) -> Mem<Option<DeriveInput>>
 fn read_subjects(alloc: Global, text: &str) -> Mem<Option<Items<DeriveInput>>>
     requires { length text.now ≤ 16777216 }
     ensures some { IfOk result (λ read. IfSome read (AreSubjects text.now)) }
-    ensures none { IfOk result (λ read. IfNone read ((others : List DeriveInput) → ¬ AreSubjects text.now others)) }
+    ensures none { IfOk result (λ read. IfNone read (¬ HasSubjects text.now)) }
 {
     match read_tokens(alloc, 1, text)? {
         Some(tokens) => parse_subjects(alloc, &tokens),

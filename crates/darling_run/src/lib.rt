@@ -11,11 +11,11 @@ mod status;
 #[cfg(test)]
 mod tests;
 mod tool;
-mod value_text;
+mod values;
 
 pub use fault_core::{Fault, FaultKind, fault_line};
 pub use meaning_core::{Outcome, Style, Value};
 pub use report::{Report, report_text};
 pub use status::{Status, refusal_text};
 pub use tool::{Ended, run_tool};
-pub use value_text::value_text;
+pub use values::value_text;

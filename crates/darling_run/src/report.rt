@@ -2,7 +2,7 @@ ghost use Rattle.std.specs.Prelude.{◌≡◌, ◌++◌, codes, decimal, length,
 ghost use Rattle.token_core.specs.Ident.{ident_text};
 ghost use Rattle.darling_run.specs.Report.{fault_row, outcome_text, report_text};
 
-use crate::value_text::push_value;
+use crate::values::push_value;
 use fault_core::{Fault, push_fault_line};
 use meaning_core::Outcome;
 use node_core::DeriveInput;
@@ -22,13 +22,12 @@ pub struct Report {
 
 /// The lines of a report, one or more for each subject.
 pub fn report_text(alloc: Global, report: &Report) -> Mem<Text>
-    requires { length report.now.outcomes ≡ length report.now.subjects }
     ensures { IfOk result (λ text. text ≡ report_text report.now.subjects report.now.outcomes) }
 {
     let mut text = Text::new(alloc);
-    let outcomes = report.outcomes.as_slice();
-    for (i, subject) in report.subjects.as_slice().iter().enumerate() {
-        push_outcome(alloc, &mut text, &subject.ident, &outcomes[i])?;
+    let outcomes = report.outcomes.as_slice().iter();
+    for (subject, outcome) in report.subjects.as_slice().iter().zip(outcomes) {
+        push_outcome(alloc, &mut text, &subject.ident, outcome)?;
     }
     Ok(text)
 }

@@ -1,4 +1,4 @@
-ghost use Rattle.std.specs.Prelude.{◌≡◌, ◌≤◌, ◌↔◌, length, map, string_bytes, IsTrue, IfOk};
+ghost use Rattle.std.specs.Prelude.{◌≡◌, ◌≤◌, ◌↔◌, length, map, string_bytes, ◌≢◌, IsTrue, IfOk, IfErr, OnOk};
 ghost use Rattle.node_core.specs.declared.derive.DeriveInput.{DeriveInput};
 ghost use Rattle.meaning_core.specs.Meaning.{item_meaning};
 
@@ -8,7 +8,7 @@ use crate::status::{Status, refusal_text};
 use edge_core::{ReadAll, Sink, Source, read_all, write_all};
 use meaning_core::{Outcome, read_item};
 use node_core::DeriveInput;
-use std::alloc::Global;
+use std::alloc::{AllocError, Global};
 use token_core::{Items, Mem, Text};
 
 /// How many bytes an input has at most.
@@ -23,8 +23,9 @@ pub struct Ended {
     pub report: Option<Report>,
 }
 
-ghost use Rattle.darling_run.specs.Ended.{limit, IsRun, WereRead, Causes, IsReport, Reports, Answered, IsWritten, Ends, text_of};
-ghost use Rattle.darling_run.specs.Input.{IsRefused};
+ghost use Rattle.darling_run.specs.Ended.{limit, IsRun, WereRead, Causes, IsReport, Reports, Answered, IsWritten, Ends, text_of, status_of, report_of};
+ghost use Rattle.darling_run.specs.declared.status.Status.TheVariants.{NoMemory};
+ghost use Rattle.darling_run.specs.Input.{Refuses};
 
 /// Runs the tool: reads the source to its end, runs the declared parser over each item, and writes
 /// a line for each, or the line of a refusal.
@@ -83,7 +84,7 @@ fn is_run(words: &[String]) -> bool
 fn run(alloc: Global, bytes: &[u8]) -> Result<Report, Status>
     requires { length bytes.now ≤ limit }
     ensures ok { IfOk result (IsReport bytes.now) }
-    ensures err { IfErr result (IsRefused bytes.now) }
+    ensures err { IfErr result (Refuses bytes.now) }
 {
     let Input {
         declaration,
@@ -128,24 +129,39 @@ fn write_answer<K: Sink>(alloc: Global, answer: Result<Report, Status>, sink: &m
             report: None,
         };
     };
-    let is_written = write_text(sink, &text);
-    match answer {
-        Ok(report) => Ended {
-            status: if is_written { Status::Done } else { Status::WriteFault },
-            report: Some(report),
-        },
-        Err(status) => Ended {
-            status: if is_written { status } else { Status::WriteFault },
-            report: None,
+    match write_all(sink, text.as_str().as_bytes()) {
+        Ok(()) => ended(answer),
+        Err(_) => Ended {
+            status: Status::WriteFault,
+            report: answer.ok(),
         },
     }
 }
 
+/// The text of an answer. There is none for want of memory.
 fn answer_text(alloc: Global, answer: &Result<Report, Status>) -> Mem<Text>
-    ensures { IfOk result (λ text. text ≡ text_of answer.now) }
+    ensures text { IfOk result (λ text. text ≡ text_of answer.now) }
+    ensures memory { OnOk result (status_of answer.now ≢ NoMemory) }
 {
     match answer {
         Ok(report) => report_text(alloc, report),
+        Err(Status::NoMemory) => Err(AllocError),
         Err(status) => refusal_text(alloc, status),
+    }
+}
+
+fn ended(answer: Result<Report, Status>) -> Ended
+    ensures status { result.status ≡ status_of answer }
+    ensures report { result.report ≡ report_of answer }
+{
+    match answer {
+        Ok(report) => Ended {
+            status: Status::Done,
+            report: Some(report),
+        },
+        Err(status) => Ended {
+            status,
+            report: None,
+        },
     }
 }
