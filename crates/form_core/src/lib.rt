@@ -1,13 +1,15 @@
-// A library with one function.
+//! The first form of a declaration and of the subjects that it reads.
+//!
+//! A declaration is `#[derive(FromDeriveInput)] #[darling(attributes(name))] struct Name { a: String }`;
+//! a subject is `#[name] #[other(a = "text")] struct Subject;`.
 #![tactic(auto)]
 
-ghost use Rattle.std.specs.Prelude.{◌≡◌};
-ghost use Rattle.form_core.specs.Echo.{echo_of};
+mod attribute;
+mod declaration;
+mod field;
+mod made;
+mod name;
+mod subject;
 
-// The `ensures` clause is the contract: what `echo` returns is `echo_of` of its argument, a definition
-// in `specs/Echo.antt`, which a caller's clause can cite too.
-pub fn echo(x: usize) -> usize
-    ensures { result ≡ echo_of x }
-{
-    x
-}
+pub use declaration::parse_declaration;
+pub use subject::parse_subjects;

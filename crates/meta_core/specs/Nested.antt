@@ -1,7 +1,7 @@
 -- Nested items: what stands between the parentheses of an attribute.
 --
 -- So far an item is `word = "text"`, and a text has no escapes.
-use Rattle.std.specs.Prelude.{ℕ, ◌-◌, ◌==◌, ◌&&◌, if◌then◌else◌, List, [], ◌∷◌, length, take, slice_index, Option, Some, None}
+use Rattle.std.specs.Prelude.{ℕ, ◌-◌, ◌==◌, if◌then◌else◌, List, [], ◌∷◌, length, take, slice_index, Option, Some, None}
 use Rattle.token_core.specs.declared.tree.TokenStream.{TokenStream}
 use Rattle.token_core.specs.declared.tree.TokenTree.{TokenTree}
 use Rattle.node_core.specs.declared.attr.Meta.TheVariants as meta
@@ -11,11 +11,18 @@ use Rattle.meta_core.specs.declared.nested.NestedMeta.TheVariants as nested
 use Rattle.meta_core.specs.Tree.{◌>>=◌, word, mark, literal, trees_of}
 use Rattle.meta_core.specs.Made.{string_of, name_value_of}
 
--- what stands between the two marks `"` (34) that the text begins and ends with
+-- what follows the mark `"` (34) at the front
+unfoldable pub after_quote : List ℕ → Option (List ℕ)
+after_quote [] = None
+after_quote (ch ∷ text) = if ch == 34 then Some text else None
+
+-- what stands before the mark `"` at the end
+unfoldable pub before_quote : List ℕ → Option (List ℕ)
+before_quote text = if slice_index text (length text - 1) == 34 then Some (take (length text - 1) text) else None
+
+-- what stands between the two marks `"` that the text begins and ends with
 abbrev pub unquoted : List ℕ → Option (List ℕ)
-unquoted [] = None
-unquoted (open_mark ∷ text) =
-    if open_mark == 34 && slice_index text (length text - 1) == 34 then Some (take (length text - 1) text) else None
+unquoted text = after_quote text >>= before_quote
 
 -- a string
 unfoldable pub string : TokenTree → Option LitStr

@@ -6,5 +6,5 @@ mod nested;
 mod tree;
 
 pub use made::{name_value, path_of};
-pub use nested::{NestedMeta, parse_meta_list};
+pub use nested::{NestedMeta, after_comma, parse_meta_list};
 pub use tree::{group, mark, string, word, word_named};

@@ -42,6 +42,7 @@ pub fn parse_meta_list(alloc: Global, tokens: &TokenStream) -> Mem<Option<Items<
     }
 }
 
+#[tactic(auto, unfolding(crate::specs::Nested::nested_item))]
 fn nested_item(
     alloc: Global,
     name: &TokenTree,
@@ -64,7 +65,7 @@ fn nested_item(
 }
 
 /// What the next item begins: the trees after the comma, or none at the end of the list.
-fn after_comma(trees: &[TokenTree]) -> Option<&[TokenTree]>
+pub fn after_comma(trees: &[TokenTree]) -> Option<&[TokenTree]>
     ensures { option_copied result ≡ after_comma trees.now }
 {
     let Some((comma, rest)) = trees.split_first() else {

@@ -1,7 +1,7 @@
 ghost use Rattle.std.specs.Prelude.{◌≡◌, IfOk};
 ghost use Rattle.std.specs.Option.{option_copied};
 ghost use Rattle.meta_core.specs.Tree.{word, word_named, mark, literal, group};
-ghost use Rattle.meta_core.specs.Nested.{string, unquoted};
+ghost use Rattle.meta_core.specs.Nested.{string, unquoted, after_quote, before_quote};
 
 use base_core::{Mem, Text, TryClone};
 use node_core::LitStr;
@@ -9,6 +9,7 @@ use std::alloc::Global;
 use token_core::{Delimiter, Group, Ident, Literal, Span, TokenTree};
 
 /// The identifier token other than `_` that the tree is; a keyword is one.
+#[tactic(auto, unfolding(crate::specs::Tree::word))]
 pub fn word(tree: &TokenTree) -> Option<&Ident>
     ensures { option_copied result ≡ word tree.now }
 {
@@ -25,6 +26,7 @@ pub fn word(tree: &TokenTree) -> Option<&Ident>
 }
 
 /// The word that is `name`, not written with `r#`.
+#[tactic(auto, unfolding(crate::specs::Tree::word_named))]
 pub fn word_named<'a>(tree: &'a TokenTree, name: &str) -> Option<&'a Ident>
     ensures { option_copied result ≡ word_named name.now tree.now }
 {
@@ -37,6 +39,7 @@ pub fn word_named<'a>(tree: &'a TokenTree, name: &str) -> Option<&'a Ident>
 }
 
 /// Where the mark `ch` stands, if the tree is that mark.
+#[tactic(auto, unfolding(crate::specs::Tree::mark))]
 pub fn mark(tree: &TokenTree, ch: char) -> Option<Span>
     ensures { result ≡ mark ch tree.now }
 {
@@ -53,6 +56,7 @@ pub fn mark(tree: &TokenTree, ch: char) -> Option<Span>
 }
 
 /// The group between these delimiters that the tree is.
+#[tactic(auto, unfolding(crate::specs::Tree::group))]
 pub fn group(tree: &TokenTree, delimiter: Delimiter) -> Option<&Group>
     ensures { option_copied result ≡ group delimiter tree.now }
 {
@@ -68,6 +72,7 @@ pub fn group(tree: &TokenTree, delimiter: Delimiter) -> Option<&Group>
     }
 }
 
+#[tactic(auto, unfolding(crate::specs::Tree::literal))]
 fn literal(tree: &TokenTree) -> Option<&Literal>
     ensures { option_copied result ≡ literal tree.now }
 {
@@ -78,6 +83,7 @@ fn literal(tree: &TokenTree) -> Option<&Literal>
 }
 
 /// The string literal that the tree is.
+#[tactic(auto, unfolding(crate::specs::Nested::string))]
 pub fn string(alloc: Global, tree: &TokenTree) -> Mem<Option<LitStr>>
     ensures { IfOk result (λ text. text ≡ string tree.now) }
 {
@@ -97,5 +103,17 @@ pub fn string(alloc: Global, tree: &TokenTree) -> Mem<Option<LitStr>>
 fn unquoted(text: &str) -> Option<&str>
     ensures { option_copied result ≡ unquoted text.now }
 {
-    text.strip_prefix('"')?.strip_suffix('"')
+    before_quote(after_quote(text)?)
+}
+
+fn after_quote(text: &str) -> Option<&str>
+    ensures { option_copied result ≡ after_quote text.now }
+{
+    text.strip_prefix('"')
+}
+
+fn before_quote(text: &str) -> Option<&str>
+    ensures { option_copied result ≡ before_quote text.now }
+{
+    text.strip_suffix('"')
 }
