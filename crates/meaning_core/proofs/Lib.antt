@@ -1,0 +1,4 @@
+pub mod Filters
+pub mod Clean
+pub mod Direct
+pub mod Nodes

@@ -75,16 +75,15 @@ layer_span (TokenTree-F.Group it) = (out-Group it).span
 abbrev pub tree_span : TokenTree → Span
 tree_span tree = layer_span (out-TokenTree tree)
 
--- from the start of the first to the end of the last of these trees
-abbrev pub spanning : TokenTree → List TokenTree → Span
-spanning first [] = tree_span first
-spanning first (next ∷ []) = joined (tree_span first) (tree_span next)
-spanning first (next ∷ other ∷ more) = spanning first (other ∷ more)
+-- the last of these trees
+abbrev pub last_of : TokenTree → List TokenTree → TokenTree
+last_of first [] = first
+last_of first (next ∷ more) = last_of next more
 
--- where a list of trees stands
+-- from the start of the first to the end of the last of the trees; nowhere in a text where there is none
 abbrev pub trees_span : List TokenTree → Span
 trees_span [] = CallSite
-trees_span (first ∷ more) = spanning first more
+trees_span (first ∷ more) = joined (tree_span first) (tree_span (last_of first more))
 
 abbrev pub tokens_span : TokenStream → Span
 tokens_span tokens = trees_span (out-TokenStream tokens).trees

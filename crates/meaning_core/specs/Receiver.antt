@@ -19,6 +19,7 @@ use Rattle.node_core.specs.declared.data.Fields.TheVariants as fields
 use Rattle.node_core.specs.declared.derive.DeriveInput.{DeriveInput}
 use Rattle.fault_core.specs.declared.kind.FaultKind.TheVariants.{Custom}
 use Rattle.fault_core.specs.Outcome.{Outcome, refused}
+use Rattle.meaning_core.specs.declared.receiver.Receiver.{Receiver}
 use Rattle.meaning_core.specs.declared.value.Value.{Value as Datum}
 use Rattle.meaning_core.specs.Node.{meta_name}
 use Rattle.meaning_core.specs.Decl.{TextType, Single, FieldDecl, FromDeriveInput, Decl}
@@ -80,8 +81,11 @@ field_name (Some ident) = ident.text ∷ []
 field_name None = []
 
 -- the names of these fields
+abbrev pub named_fields : List Field → List Text
+named_fields fields = flat_map (λ field. field_name field.ident) fields
+
 abbrev pub names_of : Fields → List Text
-names_of (fields.Named it) = flat_map (λ field. field_name field.ident) it.named
+names_of (fields.Named it) = named_fields it.named
 names_of (fields.Unnamed it) = []
 names_of fields.Unit = []
 
@@ -96,14 +100,19 @@ abbrev pub text_field : Text → FieldDecl
 text_field name =
     record { member = name; name = name; type = TextType; shape = Single; skip = false; default = None; with = None; transform = None }
 
--- the declaration of this name that reads these attributes and has these fields, each a text that has to be given
-abbrev pub receiver : Text → List Text → List Text → Decl
-receiver name attributes fields =
-    record { derives = FromDeriveInput ∷ []; number = 0; name = name; attributes = attributes; fields = map text_field fields; default = None; transform = None; allows_unknown = false }
+-- the receiver of a declaration: its name, the names of the attributes that it reads, and those of its fields
+abbrev pub receiver_of : DeriveInput → Receiver
+receiver_of declaration =
+    record { name = declaration.ident.text; attributes = attribute_names declaration.attrs; fields = field_names declaration.body }
+
+-- the declaration of a receiver: each field is a text that has to be given
+abbrev pub receiver_decl : Receiver → Decl
+receiver_decl receiver =
+    record { derives = FromDeriveInput ∷ []; number = 0; name = receiver.name; attributes = receiver.attributes; fields = map text_field receiver.fields; default = None; transform = None; allows_unknown = false }
 
 -- the declaration that a struct makes
 abbrev pub decl_of : DeriveInput → Decl
-decl_of declaration = receiver declaration.ident.text (attribute_names declaration.attrs) (field_names declaration.body)
+decl_of declaration = receiver_decl (receiver_of declaration)
 
 -- no declaration stands in front of the receiver
 abbrev pub no_earlier : Earlier

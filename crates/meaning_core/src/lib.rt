@@ -1,6 +1,19 @@
-//! What declarations mean.
+//! What declarations mean, and the walk that reads a subject under one.
+//!
+//! `specs/` has the meaning: the entries of a subject's attributes, the owner of each item, the faults
+//! of each entry, the value of each field. Nothing in it follows a program's loops.
 #![tactic(auto)]
 
+mod laws;
+mod node;
+mod outcome;
+mod receiver;
+mod text;
 mod value;
+mod walk;
 
+pub use fault_core::{Fault, FaultKind};
+pub use laws::{direct_is_meaning, walk_is_filters};
+pub use outcome::Outcome;
+pub use receiver::Receiver;
 pub use value::{Style, Value};

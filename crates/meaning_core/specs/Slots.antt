@@ -1,0 +1,37 @@
+-- The slots of a walk over a struct of texts.
+use Rattle.std.specs.Prelude.{◌≢◌, Bool, true, false, IsTrue, List, [], ◌∷◌, map, Option, Some, None, Ok, Err, Result}
+use Rattle.std.specs.List.{list_any}
+use Rattle.base_core.specs.declared.text.Text.{Text}
+use Rattle.fault_core.specs.declared.fault.Fault.{Fault}
+use Rattle.fault_core.specs.Outcome.{Outcome, Value, Faults}
+use Rattle.meaning_core.specs.declared.value.Value.{Value as Datum}
+use Rattle.meaning_core.specs.declared.value.Value.TheVariants as value
+use Rattle.meaning_core.specs.declared.walk.Slot.{Slot as Held}
+use Rattle.meaning_core.specs.declared.walk.Slot.TheVariants.{Unseen, Failed, Read}
+use Rattle.meaning_core.specs.Value.{no_value}
+use Rattle.meaning_core.specs.Decl.{TextType}
+use Rattle.meaning_core.specs.State.{Slot, One, State}
+
+-- a text, or the one fault that stands in its way
+abbrev pub text_outcome : Result Text Fault → Outcome Datum
+text_outcome (Ok text) = Value (value.Text text)
+text_outcome (Err fault) = Faults fault []
+
+-- the place of one text
+abbrev pub slot_of : Held → Slot
+slot_of Unseen = One TextType false None
+slot_of Failed = One TextType true None
+slot_of (Read text) = One TextType true (Some (value.Text text))
+
+-- the state of a walk with these slots and faults
+abbrev pub state_of : List Held → List Fault → State
+state_of slots faults = record { slots = map slot_of slots; faults = faults; kept = []; whole = no_value }
+
+abbrev pub has_failed : Held → Bool
+has_failed Unseen = false
+has_failed Failed = true
+has_failed (Read text) = false
+
+-- a slot that failed has left a fault
+abbrev pub IsTold : List Held → List Fault → Type 0
+IsTold slots faults = IsTrue (list_any has_failed slots) → faults ≢ []

@@ -1,0 +1,210 @@
+ghost use Rattle.std.specs.Prelude.{◌≡◌, ◌++◌, ◌∷◌, [], ◌<◌, None, IfOk, OnOk, length, map, fold, replicate};
+ghost use Rattle.std.specs.Option.{ForSome};
+ghost use Rattle.meta_core.specs.declared.nested.NestedMeta.TheVariants as nested;
+ghost use Rattle.meaning_core.specs.Host.{no_host};
+ghost use Rattle.meaning_core.specs.Entries.{ItemEntry, has_name, entries_of, events, name_value_fault};
+ghost use Rattle.meaning_core.specs.Owners.{owner_named};
+ghost use Rattle.meaning_core.specs.Receiver.{no_earlier, receiver_decl, text_field};
+ghost use Rattle.meaning_core.specs.Slots.{IsTold, slot_of, state_of};
+ghost use Rattle.meaning_core.specs.State.{arm, arm_slot, arms, entry_step, put, rest, slot_at, step};
+ghost use Rattle.meaning_core.specs.Walk.{closed};
+
+use crate::node::{lit_span, meta_path, meta_span};
+use crate::outcome::Outcome;
+use crate::receiver::Receiver;
+use crate::text::{list_fault, read_text};
+use crate::value::{Style, Value};
+use fault_core::Fault;
+use meta_core::{parse_meta_list, NestedMeta};
+use node_core::{path_to_string, Attribute, Items, Mem, Meta, Text, TryClone};
+use std::alloc::Global;
+
+/// What the items so far have given a field.
+#[derive(Drop)]
+pub(crate) enum Slot {
+    Unseen,
+    Failed,
+    Read(Text),
+}
+
+/// One walk over the attributes of a subject: a slot for each field of the receiver, and all that is
+/// wrong so far.
+#[derive(Drop)]
+pub(crate) struct Walk {
+    slots: Items<Slot>,
+    faults: Items<Fault>,
+}
+
+impl Walk {
+    pub(crate) fn new(alloc: Global, fields: usize) -> Mem<Walk>
+        ensures { IfOk result (λ walk. (walk.slots ≡ replicate fields Slot.Unseen) × (walk.faults ≡ [])) }
+    {
+        let mut slots = Items::new(alloc);
+        for _field in 0..fields {
+            slots.push(Slot::Unseen)?;
+        }
+        Ok(Walk {
+            slots,
+            faults: Items::new(alloc),
+        })
+    }
+
+    /// Takes what stands in the attributes that the receiver reads.
+    pub(crate) fn take_attributes(
+        &mut self,
+        alloc: Global,
+        receiver: &Receiver,
+        attributes: &[Attribute],
+    ) -> Mem<()>
+        requires { length self.old.slots ≡ length receiver.now.fields }
+        ensures state { OnOk result (state_of self.new.slots self.new.faults ≡ fold (entry_step no_host no_earlier (receiver_decl receiver.now)) (state_of self.old.slots self.old.faults) (events receiver.now.attributes attributes.now)) }
+        ensures slots { OnOk result (length self.new.slots ≡ length receiver.now.fields) }
+        ensures told { OnOk result (IsTold self.old.slots self.old.faults → IsTold self.new.slots self.new.faults) }
+    {
+        for attribute in attributes {
+            let name = path_to_string(alloc, meta_path(&attribute.meta))?;
+            if has_name(receiver.attributes.as_slice(), name.as_str()) {
+                self.take_attribute(alloc, receiver, &attribute.meta)?;
+            }
+        }
+        Ok(())
+    }
+
+    fn take_attribute(&mut self, alloc: Global, receiver: &Receiver, meta: &Meta) -> Mem<()>
+        requires { length self.old.slots ≡ length receiver.now.fields }
+        ensures state { OnOk result (state_of self.new.slots self.new.faults ≡ fold (entry_step no_host no_earlier (receiver_decl receiver.now)) (state_of self.old.slots self.old.faults) (entries_of meta.now)) }
+        ensures slots { OnOk result (length self.new.slots ≡ length receiver.now.fields) }
+        ensures told { OnOk result (IsTold self.old.slots self.old.faults → IsTold self.new.slots self.new.faults) }
+    {
+        match meta {
+            Meta::Path(_) => Ok(()),
+            Meta::List(list) => match parse_meta_list(alloc, &list.tokens)? {
+                Some(items) => self.take_items(alloc, receiver, items.as_slice()),
+                None => {
+                    let fault = list_fault(alloc, &list.tokens)?;
+                    self.faults.push(fault)
+                }
+            },
+            Meta::NameValue(_) => {
+                let fault = name_value_fault(alloc, meta)?;
+                self.faults.push(fault)
+            }
+        }
+    }
+
+    fn take_items(&mut self, alloc: Global, receiver: &Receiver, items: &[NestedMeta]) -> Mem<()>
+        requires { length self.old.slots ≡ length receiver.now.fields }
+        ensures state { OnOk result (state_of self.new.slots self.new.faults ≡ fold (entry_step no_host no_earlier (receiver_decl receiver.now)) (state_of self.old.slots self.old.faults) (map ItemEntry items.now)) }
+        ensures slots { OnOk result (length self.new.slots ≡ length receiver.now.fields) }
+        ensures told { OnOk result (IsTold self.old.slots self.old.faults → IsTold self.new.slots self.new.faults) }
+    {
+        for item in items {
+            self.take_item(alloc, receiver, item)?;
+        }
+        Ok(())
+    }
+
+    fn take_item(&mut self, alloc: Global, receiver: &Receiver, item: &NestedMeta) -> Mem<()>
+        requires { length self.old.slots ≡ length receiver.now.fields }
+        ensures state { OnOk result (state_of self.new.slots self.new.faults ≡ step no_host no_earlier (arms (receiver_decl receiver.now)) (rest (receiver_decl receiver.now)) (state_of self.old.slots self.old.faults) item.now) }
+        ensures slots { OnOk result (length self.new.slots ≡ length receiver.now.fields) }
+        ensures told { OnOk result (IsTold self.old.slots self.old.faults → IsTold self.new.slots self.new.faults) }
+    {
+        match item {
+            NestedMeta::Lit(lit) => {
+                let fault = Fault::unexpected_format(alloc, "literal", lit_span(lit))?;
+                self.faults.push(fault)
+            }
+            NestedMeta::Meta(meta) => {
+                let name = path_to_string(alloc, meta_path(meta))?;
+                let fields = receiver.fields.as_slice();
+                match find_field(fields, name.as_str()) {
+                    Some(at) => self.fill(alloc, at, &fields[at], meta),
+                    None => {
+                        let span = meta_span(meta);
+                        let fault =
+                            Fault::unknown_field_with_alts(alloc, name.as_str(), fields, span)?;
+                        self.faults.push(fault)
+                    }
+                }
+            }
+        }
+    }
+
+    /// Reads an item into the slot at `at`, the place of the field `name`, where it is the first of
+    /// the field.
+    fn fill(&mut self, alloc: Global, at: usize, name: &Text, meta: &Meta) -> Mem<()>
+        requires { at < length self.old.slots }
+        ensures state { OnOk result (state_of self.new.slots self.new.faults ≡ put at (arm_slot no_host no_earlier (arm at (text_field name.now)) (nested.Meta meta.now) (slot_at (map slot_of self.old.slots) at)) (state_of self.old.slots self.old.faults)) }
+        ensures slots { OnOk result (length self.new.slots ≡ length self.old.slots) }
+        ensures told { OnOk result (IsTold self.old.slots self.old.faults → IsTold self.new.slots self.new.faults) }
+    {
+        if !matches!(self.slots.as_slice()[at], Slot::Unseen) {
+            let fault = Fault::duplicate_field(alloc, name.as_str(), meta_span(meta))?;
+            return self.faults.push(fault);
+        }
+        match read_text(alloc, meta)? {
+            Ok(text) => {
+                self.slots.set(at, Slot::Read(text));
+                Ok(())
+            }
+            Err(fault) => {
+                self.slots.set(at, Slot::Failed);
+                let fault = fault.located(alloc, name.as_str())?;
+                self.faults.push(fault)
+            }
+        }
+    }
+
+    /// The struct of the texts, or all that is wrong: a field that no item has named is missing.
+    pub(crate) fn finish(self, alloc: Global, receiver: &Receiver) -> Mem<Outcome>
+        requires slots { length self.slots ≡ length receiver.now.fields }
+        requires told { IsTold self.slots self.faults }
+        ensures { IfOk result (λ outcome. outcome ≡ closed no_host no_earlier (receiver_decl receiver.now) (state_of self.slots self.faults)) }
+    {
+        let Walk {
+            mut slots,
+            mut faults,
+        } = self;
+        let mut members = Items::new(alloc);
+        for at in 0..receiver.fields.len() {
+            let name = &receiver.fields.as_slice()[at];
+            match slots.replace(at, Slot::Unseen) {
+                Slot::Unseen => faults.push(Fault::missing_field(alloc, name.as_str())?)?,
+                Slot::Failed => {}
+                Slot::Read(text) => members.push((name.try_clone(alloc)?, Value::Text(text)))?,
+            }
+        }
+        if !faults.is_empty() {
+            return Ok(Outcome::refused(faults));
+        }
+        let name = receiver.name.try_clone(alloc)?;
+        let style = Style::Struct;
+        let fields = members;
+        Ok(Outcome::of(alloc, Value::Struct { name, style, fields }))
+    }
+}
+
+fn has_name(names: &[Text], name: &str) -> bool
+    ensures { result ≡ has_name names.now name.now }
+{
+    names.iter().any(|other| other.is(name))
+}
+
+/// The place of the field that has this name.
+fn find_field(fields: &[Text], name: &str) -> Option<usize>
+    ensures owner { result ≡ owner_named (map text_field fields.now) name.now }
+    ensures within { ForSome result (λ at. at < length fields.now) }
+{
+    fields.iter().position(|field| field.is(name))
+}
+
+fn name_value_fault(alloc: Global, meta: &Meta) -> Mem<Fault>
+    ensures { IfOk result (λ fault. fault ≡ name_value_fault meta.now) }
+{
+    let mut message = Text::from_str(alloc, "Name-value arguments are not supported. Use #[")?;
+    let name = path_to_string(alloc, meta_path(meta))?;
+    message.push_str(name.as_str())?;
+    message.push_str("(...)]")?;
+    Fault::custom(alloc, message.as_str(), meta_span(meta))
+}
