@@ -2,3 +2,4 @@ pub mod Filters
 pub mod Clean
 pub mod Direct
 pub mod Nodes
+pub mod SlotLemmas

@@ -1,12 +1,14 @@
-ghost use Rattle.std.specs.Prelude.{◌≡◌, ◌++◌, ◌∷◌, [], ◌<◌, None, IfOk, OnOk, length, map, fold, replicate};
+ghost use Rattle.std.specs.Prelude.{◌≡◌, ◌++◌, ◌∷◌, [], ◌<◌, None, IfOk, OnOk, length, map, fold, position, replicate};
+ghost use Rattle.std.specs.Str.{bytes_eq};
 ghost use Rattle.std.specs.Option.{ForSome};
 ghost use Rattle.meta_core.specs.declared.nested.NestedMeta.TheVariants as nested;
+ghost use Rattle.meaning_core.specs.Decl.{TextType};
 ghost use Rattle.meaning_core.specs.Host.{no_host};
+ghost use Rattle.meaning_core.specs.EntryFaults.{read_at};
 ghost use Rattle.meaning_core.specs.Entries.{ItemEntry, has_name, entries_of, events, name_value_fault};
-ghost use Rattle.meaning_core.specs.Owners.{owner_named};
 ghost use Rattle.meaning_core.specs.Receiver.{no_earlier, receiver_decl, text_field};
 ghost use Rattle.meaning_core.specs.Slots.{IsTold, slot_of, state_of};
-ghost use Rattle.meaning_core.specs.State.{arm, arm_slot, arms, entry_step, put, rest, slot_at, step};
+ghost use Rattle.meaning_core.specs.State.{arm, arm_slot, arms, entry_step, filled, put, rest, slot_at, step};
 ghost use Rattle.meaning_core.specs.Walk.{closed};
 
 use crate::node::{lit_span, meta_path, meta_span};
@@ -131,26 +133,38 @@ impl Walk {
         }
     }
 
-    /// Reads an item into the slot at `at`, the place of the field `name`, where it is the first of
-    /// the field.
+    /// Takes an item of the field `name`, whose place is `at`: its first item is read, a later one is
+    /// refused.
     fn fill(&mut self, alloc: Global, at: usize, name: &Text, meta: &Meta) -> Mem<()>
         requires { at < length self.old.slots }
         ensures state { OnOk result (state_of self.new.slots self.new.faults ≡ put at (arm_slot no_host no_earlier (arm at (text_field name.now)) (nested.Meta meta.now) (slot_at (map slot_of self.old.slots) at)) (state_of self.old.slots self.old.faults)) }
         ensures slots { OnOk result (length self.new.slots ≡ length self.old.slots) }
         ensures told { OnOk result (IsTold self.old.slots self.old.faults → IsTold self.new.slots self.new.faults) }
     {
-        if !matches!(self.slots.as_slice()[at], Slot::Unseen) {
-            let fault = Fault::duplicate_field(alloc, name.as_str(), meta_span(meta))?;
-            return self.faults.push(fault);
+        match self.slots.as_slice()[at] {
+            Slot::Unseen => self.read_first(alloc, at, name, meta),
+            Slot::Failed | Slot::Read(_) => {
+                let fault = Fault::duplicate_field(alloc, name.as_str(), meta_span(meta))?;
+                self.faults.push(fault)
+            }
         }
+    }
+
+    /// Reads an item into the slot at `at`.
+    fn read_first(&mut self, alloc: Global, at: usize, name: &Text, meta: &Meta) -> Mem<()>
+        requires { at < length self.old.slots }
+        ensures state { OnOk result (state_of self.new.slots self.new.faults ≡ put at (filled TextType name.now (read_at no_host no_earlier None None TextType (nested.Meta meta.now))) (state_of self.old.slots self.old.faults)) }
+        ensures slots { OnOk result (length self.new.slots ≡ length self.old.slots) }
+        ensures told { OnOk result (IsTold self.old.slots self.old.faults → IsTold self.new.slots self.new.faults) }
+    {
         match read_text(alloc, meta)? {
             Ok(text) => {
                 self.slots.set(at, Slot::Read(text));
                 Ok(())
             }
             Err(fault) => {
-                self.slots.set(at, Slot::Failed);
                 let fault = fault.located(alloc, name.as_str())?;
+                self.slots.set(at, Slot::Failed);
                 self.faults.push(fault)
             }
         }
@@ -193,7 +207,7 @@ fn has_name(names: &[Text], name: &str) -> bool
 
 /// The place of the field that has this name.
 fn find_field(fields: &[Text], name: &str) -> Option<usize>
-    ensures owner { result ≡ owner_named (map text_field fields.now) name.now }
+    ensures first { result ≡ position (λ field. bytes_eq field name.now) fields.now }
     ensures within { ForSome result (λ at. at < length fields.now) }
 {
     fields.iter().position(|field| field.is(name))
