@@ -13,11 +13,18 @@ use Rattle.darling_run.specs.ValueText.{value_text}
 abbrev pub fault_row : Fault → List ℕ
 fault_row fault = codes "  " ++ fault_line fault ++ codes "\n"
 
--- what an item of this name means: a line with the value, or a line with the number of faults and a line for each
+-- the line of a value
+abbrev pub ok_line : List ℕ → Data → List ℕ
+ok_line name value = codes "ok " ++ name ++ codes " " ++ value_text value ++ codes "\n"
+
+-- the line that tells how many faults follow
+abbrev pub err_line : List ℕ → ℕ → List ℕ
+err_line name count = codes "err " ++ name ++ codes " " ++ decimal count ++ codes "\n"
+
+-- what an item of this name means: the line of its value, or those of its faults
 abbrev pub outcome_text : List ℕ → Outcome Data → List ℕ
-outcome_text name (Value value) = codes "ok " ++ name ++ codes " " ++ value_text value ++ codes "\n"
-outcome_text name (Faults fault more) =
-    codes "err " ++ name ++ codes " " ++ decimal (length (fault ∷ more)) ++ codes "\n" ++ flat_map fault_row (fault ∷ more)
+outcome_text name (Value value) = ok_line name value
+outcome_text name (Faults fault more) = err_line name (length (fault ∷ more)) ++ flat_map fault_row (fault ∷ more)
 
 -- the lines of a subject
 abbrev pub subject_text : DeriveInput × Outcome Data → List ℕ
