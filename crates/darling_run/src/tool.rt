@@ -130,7 +130,7 @@ fn write_answer<K: Sink>(alloc: Global, answer: Result<Report, Status>, sink: &m
         };
     };
     match write_all(sink, text.as_str().as_bytes()) {
-        Ok(()) => ended(answer),
+        Ok(()) => ended_fully(answer),
         Err(_) => Ended {
             status: Status::WriteFault,
             report: answer.ok(),
@@ -150,7 +150,7 @@ fn answer_text(alloc: Global, answer: &Result<Report, Status>) -> Mem<Text>
     }
 }
 
-fn ended(answer: Result<Report, Status>) -> Ended
+fn ended_fully(answer: Result<Report, Status>) -> Ended
     ensures status { result.status ≡ status_of answer }
     ensures report { result.report ≡ report_of answer }
 {
