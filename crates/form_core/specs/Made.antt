@@ -20,10 +20,11 @@ use Rattle.meta_core.specs.Made.{path_of}
 -- `name(tokens)`
 abbrev pub meta_list_of : Ident → Group → MetaList
 meta_list_of name group = record {
-    path = path_of name;
-    delimiter = Parenthesis;
-    tokens = (out-Group group).stream;
-    span = joined name.span (out-Group group).span }
+  path = path_of name;
+  delimiter = Parenthesis;
+  tokens = (out-Group group).stream;
+  span = joined name.span (out-Group group).span;
+}
 
 -- the type that is one identifier
 abbrev pub type_of : Ident → TypePath
@@ -32,11 +33,12 @@ type_of name = roll-TypePath (record { qself = None; path = path_of name; span =
 -- `name: Type`
 abbrev pub field_of : Ident → Ident → Field
 field_of name type = record {
-    attrs = [];
-    vis = Inherited;
-    ident = Some name;
-    ty = ty.Path (type_of type);
-    span = joined name.span type.span }
+  attrs = [];
+  vis = Inherited;
+  ident = Some name;
+  ty = ty.Path (type_of type);
+  span = joined name.span type.span;
+}
 
 -- where an item begins: at its first attribute, or else at its keyword
 abbrev pub start_of : List Attribute → Span → Span
@@ -46,9 +48,10 @@ start_of (attr ∷ attrs) keyword = attr.span
 -- `struct Name body` without generics, which have no token and so no place; the body begins after the name
 abbrev pub struct_of : List Attribute → Ident → Ident → Fields → Span → DeriveInput
 struct_of attrs keyword name fields body_span = record {
-    attrs = attrs;
-    vis = Inherited;
-    ident = name;
-    generics = record { params = []; where_clause = None; span = CallSite };
-    body = body.Struct (record { fields = fields; span = body_span });
-    span = joined (start_of attrs keyword.span) body_span }
+  attrs = attrs;
+  vis = Inherited;
+  ident = name;
+  generics = record { params = []; where_clause = None; span = CallSite };
+  body = body.Struct (record { fields = fields; span = body_span });
+  span = joined (start_of attrs keyword.span) body_span;
+}

@@ -5,7 +5,7 @@ use Rattle.token_core.specs.declared.ident.Ident.{Ident}
 use Rattle.token_core.specs.declared.tree.TokenTree.{TokenTree}
 use Rattle.meta_core.specs.Tree.{◌>>=◌, same_text, word}
 
-abbrev pub keywords : List (List ℕ)
+unfoldable pub keywords : List (List ℕ)
 keywords =
     codes "abstract" ∷ codes "as" ∷ codes "async" ∷ codes "await" ∷ codes "become" ∷ codes "box" ∷
     codes "break" ∷ codes "const" ∷ codes "continue" ∷ codes "crate" ∷ codes "do" ∷ codes "dyn" ∷
@@ -18,12 +18,12 @@ keywords =
     codes "virtual" ∷ codes "where" ∷ codes "while" ∷ codes "yield" ∷ []
 
 -- the fields by which a declaration asks for parts of the item itself
-abbrev pub magic_names : List (List ℕ)
+unfoldable pub magic_names : List (List ℕ)
 magic_names =
     codes "ident" ∷ codes "attrs" ∷ codes "vis" ∷ codes "generics" ∷ codes "data" ∷ []
 
 -- the locals of the generated code, which a field would hide
-abbrev pub generated_names : List (List ℕ)
+unfoldable pub generated_names : List (List ℕ)
 generated_names =
     codes "__errors" ∷ codes "__items" ∷ codes "__item" ∷ codes "__flatten" ∷ codes "__fwd_attrs" ∷
     codes "__attr" ∷ codes "__default" ∷ codes "__di" ∷ codes "__field" ∷ codes "__variant" ∷
@@ -33,7 +33,7 @@ generated_names =
     codes "__body" ∷ codes "_darling" ∷ []
 
 -- whether the name is one of these
-abbrev pub is_among : List (List ℕ) → List ℕ → Bool
+unfoldable pub is_among : List (List ℕ) → List ℕ → Bool
 is_among names name = list_any (λ other. same_text other name) names
 
 -- an identifier: a word that is no keyword and not written with `r#`

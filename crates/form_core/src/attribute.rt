@@ -147,7 +147,10 @@ fn is_derive(trees: &[TokenTree]) -> bool
         return false;
     };
     word_named(name, "derive").is_some()
-        && is_word(contents(arguments, Delimiter::Parenthesis), "FromDeriveInput")
+        && is_word(
+            contents(arguments, Delimiter::Parenthesis),
+            "FromDeriveInput",
+        )
 }
 
 /// `darling(attributes(name))`

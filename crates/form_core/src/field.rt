@@ -49,13 +49,8 @@ fn listed_fields(alloc: Global, trees: &[TokenTree]) -> Mem<Option<Items<Field>>
 }
 
 #[tactic(auto, unfolding(crate::specs::Field::field))]
-fn field(
-    alloc: Global,
-    name: &TokenTree,
-    colon: &TokenTree,
-    ty: &TokenTree,
-) -> Mem<Option<Field>>
-    ensures { IfOk result (λ field. field ≡ field name.now colon.now ty.now) }
+fn field(alloc: Global, name: &TokenTree, colon: &TokenTree, ty: &TokenTree) -> Mem<Option<Field>>
+    ensures { IfOk result (λ made. made ≡ field name.now colon.now ty.now) }
 {
     let Some(ident) = field_name(name) else {
         return Ok(None);
@@ -82,6 +77,7 @@ fn are_distinct(fields: &[Field]) -> bool
     true
 }
 
+#[tactic(auto, unfolding(crate::specs::Name::is_among))]
 fn has_name(fields: &[Field], name: &str) -> bool
     ensures { result ≡ is_among (map name_of fields.now) name.now }
 {

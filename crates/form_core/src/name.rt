@@ -1,4 +1,4 @@
-ghost use Rattle.std.specs.Prelude.{◌≡◌};
+ghost use Rattle.std.specs.Prelude.{◌≡◌, map};
 ghost use Rattle.std.specs.Option.{option_copied};
 ghost use Rattle.form_core.specs.Name.{keywords, magic_names, generated_names, is_among, identifier, declared_name, field_name};
 
@@ -14,16 +14,36 @@ const KEYWORDS: [&str; 51] = [
 ];
 
 /// The fields by which a declaration asks for parts of the item itself.
-const MAGIC_NAMES: [&str; 5] = [
-    "ident", "attrs", "vis", "generics", "data",
-];
+const MAGIC_NAMES: [&str; 5] = ["ident", "attrs", "vis", "generics", "data"];
 
 /// The locals of the generated code, which a field of that name would hide.
 const GENERATED_NAMES: [&str; 26] = [
-    "__errors", "__items", "__item", "__flatten", "__fwd_attrs", "__attr", "__default", "__di",
-    "__field", "__variant", "__type_param", "__data", "__err", "__path", "__name", "__other",
-    "__inner", "__len", "__val", "__value", "__type_fallback", "__outer", "__nested",
-    "__validate_body", "__body", "_darling",
+    "__errors",
+    "__items",
+    "__item",
+    "__flatten",
+    "__fwd_attrs",
+    "__attr",
+    "__default",
+    "__di",
+    "__field",
+    "__variant",
+    "__type_param",
+    "__data",
+    "__err",
+    "__path",
+    "__name",
+    "__other",
+    "__inner",
+    "__len",
+    "__val",
+    "__value",
+    "__type_fallback",
+    "__outer",
+    "__nested",
+    "__validate_body",
+    "__body",
+    "_darling",
 ];
 
 /// An identifier: a word that is no keyword and not written with `r#`.
@@ -68,17 +88,29 @@ pub fn field_name(tree: &TokenTree) -> Option<&Ident>
 fn is_keyword(name: &str) -> bool
     ensures { result ≡ is_among keywords name.now }
 {
-    KEYWORDS.iter().any(|other| *other == name)
+    is_among(&KEYWORDS, name)
 }
 
 fn is_magic(name: &str) -> bool
     ensures { result ≡ is_among magic_names name.now }
 {
-    MAGIC_NAMES.iter().any(|other| *other == name)
+    is_among(&MAGIC_NAMES, name)
 }
 
 fn is_generated(name: &str) -> bool
     ensures { result ≡ is_among generated_names name.now }
 {
-    GENERATED_NAMES.iter().any(|other| *other == name)
+    is_among(&GENERATED_NAMES, name)
+}
+
+#[tactic(auto, unfolding(crate::specs::Name::is_among))]
+fn is_among(names: &[&str], name: &str) -> bool
+    ensures { result ≡ is_among (map (λ other. other.now) names.now) name.now }
+{
+    for other in names {
+        if *other == name {
+            return true;
+        }
+    }
+    false
 }

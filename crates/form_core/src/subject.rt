@@ -19,20 +19,20 @@ pub fn parse_subjects(alloc: Global, tokens: &TokenStream) -> Mem<Option<Items<D
     let mut attrs = Items::new(alloc);
     let mut trees = tokens.trees.as_slice();
     while let [first, second, after @ ..] = trees {
-        trees = if let Some(attr) = subject_attribute(alloc, first, second)? {
+        if let Some(attr) = subject_attribute(alloc, first, second)? {
             attrs.push(attr)?;
-            after
-        } else {
-            let Some((third, rest)) = after.split_first() else {
-                return Ok(None);
-            };
-            let done = std::mem::replace(&mut attrs, Items::new(alloc));
-            let Some(subject) = unit_struct(alloc, done, first, second, third)? else {
-                return Ok(None);
-            };
-            subjects.push(subject)?;
-            rest
+            trees = after;
+            continue;
+        }
+        let Some((third, rest)) = after.split_first() else {
+            return Ok(None);
         };
+        let done = std::mem::replace(&mut attrs, Items::new(alloc));
+        let Some(subject) = unit_struct(alloc, done, first, second, third)? else {
+            return Ok(None);
+        };
+        subjects.push(subject)?;
+        trees = rest;
     }
     if trees.is_empty() && attrs.is_empty() {
         Ok(Some(subjects))

@@ -11,7 +11,7 @@ abbrev pub put_before : {A : Type 0} → List A → Option (List A) → Option (
 put_before front rest = option_map (λ items. front ++ items) rest
 
 -- one more item before the rest
-put_before-cons : {A : Type 0} (front : List A) (first : A) (rest : Option (List A))
+pub put_before-cons : {A : Type 0} (front : List A) (first : A) (rest : Option (List A))
     → put_before front (rest >>= (λ others. Some (first ∷ others))) ≡ put_before (front ++ first ∷ []) rest
 put_before-cons front first None = refl
 put_before-cons front first (Some others) = ap Some (sym (append_assoc front (first ∷ []) others))

@@ -28,7 +28,7 @@ ends-by_last (ch ∷ text) e =
     let last : length (ch ∷ text) - 1 ≡ n = omega arith in
     let whole : take (n + 1) (ch ∷ text) ≡ ch ∷ text = rw add-one (take-length (ch ∷ text)) in
     rw last (sym whole ∙ take_more (ch ∷ text) n 0 (omega arith)
-      ∙ ap (λ x. take n (ch ∷ text) ++ x ∷ []) (rw last at e))
+    ∙ ap (λ x. take n (ch ∷ text) ++ x ∷ []) (rw last at e))
 
 before_quote-ended : (front : List ℕ) → before_quote (front ++ 34 ∷ []) ≡ Some front
 unfolding before_quote

@@ -27,7 +27,8 @@ string_of value token = record { value = value; token = token; span = token.span
 -- `name = "text"`
 abbrev pub name_value_of : Ident → Span → LitStr → MetaNameValue
 name_value_of name eq text = record {
-    path = path_of name;
-    eq_span = eq;
-    value = expr.Lit (lit.Str text);
-    span = joined name.span text.span }
+  path = path_of name;
+  eq_span = eq;
+  value = expr.Lit (lit.Str text);
+  span = joined name.span text.span;
+}

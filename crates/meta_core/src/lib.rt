@@ -3,6 +3,8 @@
 
 mod made;
 mod nested;
+#[cfg(test)]
+mod tests;
 mod tree;
 
 pub use made::{name_value, path_of};
