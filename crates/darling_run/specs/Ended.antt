@@ -3,7 +3,7 @@ use Rattle.std.specs.Prelude.{◌≡◌, ◌<◌, ◌≤◌, ◌⊎◌, ℕ, Boo
 use Rattle.edge_core.specs.Faults.{HasRisen}
 use Rattle.edge_core.specs.Sink.{Takes}
 use Rattle.node_core.specs.declared.derive.DeriveInput.{DeriveInput}
-use Rattle.meaning_core.specs.Meaning.{item_meaning}
+use Rattle.meaning_core.specs.Receiver.{item_meaning}
 use Rattle.darling_run.specs.declared.status.Status.{Status}
 use Rattle.darling_run.specs.declared.status.Status.TheVariants.{Done, Usage, ReadFault, TooLong, NotText, NoParts, Unbuilt, WriteFault, NoMemory}
 use Rattle.darling_run.specs.declared.report.Report.{Report}

@@ -8,8 +8,6 @@
 mod input;
 mod report;
 mod status;
-#[cfg(test)]
-mod tests;
 mod tool;
 mod values;
 

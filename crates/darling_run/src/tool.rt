@@ -1,12 +1,12 @@
 ghost use Rattle.std.specs.Prelude.{◌≡◌, ◌≤◌, ◌↔◌, length, map, string_bytes, ◌≢◌, IsTrue, IfOk, IfErr, OnOk};
 ghost use Rattle.node_core.specs.declared.derive.DeriveInput.{DeriveInput};
-ghost use Rattle.meaning_core.specs.Meaning.{item_meaning};
+ghost use Rattle.meaning_core.specs.Receiver.{item_meaning};
 
 use crate::input::{Input, read_input};
 use crate::report::{Report, report_text};
 use crate::status::{Status, refusal_text};
 use edge_core::{ReadAll, Sink, Source, read_all, write_all};
-use meaning_core::{Outcome, read_item};
+use meaning_core::{Outcome, Receiver};
 use node_core::DeriveInput;
 use std::alloc::{AllocError, Global};
 use token_core::{Items, Mem, Text};
@@ -76,9 +76,15 @@ fn is_run(words: &[String]) -> bool
     ensures { IsTrue result ↔ IsRun (map string_bytes words.now) }
 {
     match words {
-        [word] => word.as_str() == "run",
+        [word] => is_text(word, "run"),
         _ => false,
     }
+}
+
+fn is_text(word: &String, text: &str) -> bool
+    ensures { IsTrue result ↔ (string_bytes word.now ≡ text.now) }
+{
+    word.as_str() == text
 }
 
 fn run(alloc: Global, bytes: &[u8]) -> Result<Report, Status>
@@ -106,9 +112,10 @@ fn outcomes(
 ) -> Mem<Items<Outcome>>
     ensures { IfOk result (λ outcomes. outcomes ≡ map (item_meaning declaration.now) subjects.now) }
 {
+    let receiver = Receiver::new(alloc, declaration)?;
     let mut outcomes = Items::new(alloc);
     for subject in subjects {
-        let outcome = read_item(alloc, declaration, subject)?;
+        let outcome = receiver.read(alloc, subject)?;
         outcomes.push(outcome)?;
     }
     Ok(outcomes)

@@ -63,12 +63,12 @@ module _ (host : Host) (earlier : Earlier) where
     clean_item before n i (Some j) e on none k c =
         let P : List NestedMeta → Type 0 = λ is. Clean (field_at decl.fields k) is in
         let hit : j ≡ k → P (own decl.fields (before ++ i ∷ []) k) = λ q.
-          let faults : own_faults host earlier (field_at decl.fields k) (field_at decl.fields k).shape (own decl.fields before k) i ≡ [] = ap (λ x. own_faults host earlier (field_at decl.fields x) (field_at decl.fields x).shape (own decl.fields before x) i) (sym q) ∙ none in
-          let named : is_named_by (field_at decl.fields k).shape (field_at decl.fields k).skip ≡ true = ap (λ x. is_named_by (field_at decl.fields x).shape (field_at decl.fields x).skip) (sym q) ∙ on.1 in
-          subst P (sym (filter_one (λ x. is_this k (owner decl.fields x)) before i (ap (is_this k) e ∙ ap (λ x. is_this k (Some x)) q ∙ same k)))
-          (clean_more (field_at decl.fields k) (field_at decl.fields k).shape (own decl.fields before k) i named faults c) in
+        let faults : own_faults host earlier (field_at decl.fields k) (field_at decl.fields k).shape (own decl.fields before k) i ≡ [] = ap (λ x. own_faults host earlier (field_at decl.fields x) (field_at decl.fields x).shape (own decl.fields before x) i) (sym q) ∙ none in
+        let named : is_named_by (field_at decl.fields k).shape (field_at decl.fields k).skip ≡ true = ap (λ x. is_named_by (field_at decl.fields x).shape (field_at decl.fields x).skip) (sym q) ∙ on.1 in
+        subst P (sym (filter_one (λ x. is_this k (owner decl.fields x)) before i (ap (is_this k) e ∙ ap (λ x. is_this k (Some x)) q ∙ same k)))
+        (clean_more (field_at decl.fields k) (field_at decl.fields k).shape (own decl.fields before k) i named faults c) in
         let miss : ¬ (j ≡ k) → P (own decl.fields (before ++ i ∷ []) k) = λ ne.
-          subst P (sym (filter_none (λ x. is_this k (owner decl.fields x)) before i (ap (is_this k) e ∙ other j k ne))) c in
+        subst P (sym (filter_none (λ x. is_this k (owner decl.fields x)) before i (ap (is_this k) e ∙ other j k ne))) c in
         ⊎_elim (λ q. hit q.1) (λ q. miss q.1) (eqb_tells j k)
 
     clean_entry : (before : List NestedMeta) (e : Entry) → entry_faults host earlier decl before e ≡ [] → (k : ℕ) → Clean (field_at decl.fields k) (own decl.fields before k) → Clean (field_at decl.fields k) (own decl.fields (before ++ items (e ∷ [])) k)

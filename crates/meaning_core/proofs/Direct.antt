@@ -32,7 +32,7 @@ right_false : (b c : Bool) → cond b true c ≡ false → c ≡ false
 right_false true c e = absurd (true≢false e)
 right_false false c e = e
 
-settle_same : {A : Type 0} (fs : List Fault) (o r : Outcome A) → (fs ≡ [] → o ≡ r) → settle fs o ≡ settle fs r
+pub settle_same : {A : Type 0} (fs : List Fault) (o r : Outcome A) → (fs ≡ [] → o ≡ r) → settle fs o ≡ settle fs r
 settle_same [] o r e = e refl
 settle_same (f ∷ fs) o r e = refl
 
@@ -88,12 +88,12 @@ direct_is_meaning host earlier decl es nf =
     let f3 = joined (each (λ f x. missing host earlier decl f f.shape x) fs mine) in
     let slots = each (field_slot host earlier) fs mine in
     let faults : f1 ++ joined (with_slots (slot_missing host earlier decl) fs slots) ≡ collected host earlier decl es =
-      ap (λ x. f1 ++ joined x) (with_each (slot_missing host earlier decl) (field_slot host earlier) fs mine) ∙ ap (λ x. f1 ++ x) (missings host earlier decl is fs mine nf) ∙ ap (λ x. f1 ++ (x ++ f3)) (sym (no_flats host earlier decl is fs mine nf)) in
+    ap (λ x. f1 ++ joined x) (with_each (slot_missing host earlier decl) (field_slot host earlier) fs mine) ∙ ap (λ x. f1 ++ x) (missings host earlier decl is fs mine nf) ∙ ap (λ x. f1 ++ (x ++ f3)) (sym (no_flats host earlier decl is fs mine nf)) in
     let build : (Datum → List (Outcome Datum)) → Outcome Datum = λ os. transformed host earlier decl.transform (DeclaredType decl.number) (bind (whole_default host decl.number decl.default) (λ whole. on_value (λ vs. struct_of decl.name (labelled (map (λ f. f.member) fs) vs)) (in_order (os whole)))) in
     let by_slots : Datum → List (Outcome Datum) = λ whole. with_slots (slot_value host earlier decl whole) fs slots in
     let by_fields : Datum → List (Outcome Datum) = λ whole. each (λ f x. field_value host earlier decl whole is f f.shape x) fs mine in
     let same : collected host earlier decl es ≡ [] → build by_slots ≡ build by_fields = λ e.
-      ap build (fun_ext (λ whole. with_each (slot_value host earlier decl whole) (field_slot host earlier) fs mine ∙ values_here host earlier decl is whole fs mine nf (clean_all host earlier decl es (nil_left f1 (f2 ++ f3) e)))) in
+    ap build (fun_ext (λ whole. with_each (slot_value host earlier decl whole) (field_slot host earlier) fs mine ∙ values_here host earlier decl is whole fs mine nf (clean_all host earlier decl es (nil_left f1 (f2 ++ f3) e)))) in
     ap (closed host earlier decl) (walk_is_filters host earlier decl es)
     ∙ ap (λ x. settle x (build by_slots)) faults
     ∙ settle_same (collected host earlier decl es) (build by_slots) (build by_fields) same

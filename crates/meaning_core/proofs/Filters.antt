@@ -54,13 +54,14 @@ arm_from : (fs : List FieldDecl) (n : Text) (j : ℕ) → find_arm (arms_from j 
 arm_from [] n j = refl
 arm_from (f ∷ fs) n j =
     let next : find_arm (arms_from (suc j) fs) n ≡ option_map (λ k. arm (j + k) (field_at (f ∷ fs) k)) (option_map suc (owner_named fs n)) = arm_from fs n (suc j) ∙ arm_next f fs j (owner_named fs n) in
-    elim (is_named f) as (λ b. find_arm (cond b (arm j f ∷ arms_from (suc j) fs) (arms_from (suc j) fs)) n ≡ option_map (λ k. arm (j + k) (field_at (f ∷ fs) k)) (cond (cond b (bytes_eq f.name n) false) (Some zero) (option_map suc (owner_named fs n))))
-    [ true ↦
-        elim (bytes_eq f.name n) as (λ c. cond c (Some (arm j f)) (find_arm (arms_from (suc j) fs) n) ≡ option_map (λ k. arm (j + k) (field_at (f ∷ fs) k)) (cond c (Some zero) (option_map suc (owner_named fs n))))
-        [ true ↦ arm_first f fs j | false ↦ next ]
-    | false ↦ next ]
+    elim (is_named f) as (λ b. find_arm (cond b (arm j f ∷ arms_from (suc j) fs) (arms_from (suc j) fs)) n ≡ option_map (λ k. arm (j + k) (field_at (f ∷ fs) k)) (cond (cond b (bytes_eq f.name n) false) (Some zero) (option_map suc (owner_named fs n)))) [
+      | true ↦
+          elim (bytes_eq f.name n) as (λ c. cond c (Some (arm j f)) (find_arm (arms_from (suc j) fs) n) ≡ option_map (λ k. arm (j + k) (field_at (f ∷ fs) k)) (cond c (Some zero) (option_map suc (owner_named fs n))))
+          [ true ↦ arm_first f fs j | false ↦ next ]
+      | false ↦ next
+    ]
 
-arm_is_owner : (fs : List FieldDecl) (n : Text) → find_arm (arms_from zero fs) n ≡ option_map (λ k. arm k (field_at fs k)) (owner_named fs n)
+pub arm_is_owner : (fs : List FieldDecl) (n : Text) → find_arm (arms_from zero fs) n ≡ option_map (λ k. arm k (field_at fs k)) (owner_named fs n)
 arm_is_owner fs n = arm_from fs n zero ∙ ap (λ (g : ℕ → Arm). option_map g (owner_named fs n)) (fun_ext (λ k. ap (λ m. arm m (field_at fs k)) (zero-add k)))
 
 -- an owner is one of the fields, and has a name
@@ -122,8 +123,8 @@ module _ (host : Host) (earlier : Earlier) where
 
   module _ (decl : Decl) where
     rested : (b a : Bool) (ns : List Text) (n : Text) (i : NestedMeta) (xs : List Slot) (fs : List Fault) (before : List NestedMeta) → is_unclaimed decl.fields i ≡ true
-      → by_rest (rest_by b a ns) n i (record { slots = xs; faults = fs; kept = kept_by host earlier decl b before; whole = no_value })
-      ≡ record { slots = xs; faults = fs ++ cond b [] (cond a [] (at_span (UnknownField n (set_of ns)) (item_span i) ∷ [])); kept = kept_by host earlier decl b (before ++ i ∷ []); whole = no_value }
+        → by_rest (rest_by b a ns) n i (record { slots = xs; faults = fs; kept = kept_by host earlier decl b before; whole = no_value })
+        ≡ record { slots = xs; faults = fs ++ cond b [] (cond a [] (at_span (UnknownField n (set_of ns)) (item_span i) ∷ [])); kept = kept_by host earlier decl b (before ++ i ∷ []); whole = no_value }
     rested true a ns n i xs fs before e =
         ap₂ (λ fs is. let s : State = record { slots = xs; faults = fs; kept = is; whole = no_value } in s) (sym (append-nil fs)) (sym (filter_one (is_unclaimed decl.fields) before i e))
     rested false true ns n i xs fs before e = ap (λ fs. let s : State = record { slots = xs; faults = fs; kept = []; whole = no_value } in s) (sym (append-nil fs))
@@ -138,7 +139,7 @@ module _ (host : Host) (earlier : Earlier) where
     slots_stay before i e = ap (each (field_slot host earlier) decl.fields) (fun_ext (λ k. sym (filter_none (λ j. is_this k (owner decl.fields j)) before i (ap (is_this k) e))))
 
     one_item : (before : List NestedMeta) (fs : List Fault) (n : Text) (i : NestedMeta) (o : Option ℕ) → owner decl.fields i ≡ o → is_unclaimed decl.fields i ≡ is_none o → OnOwner decl.fields o
-      → by_arm host earlier (arms decl) (rest decl) n i (option_map (λ k. arm k (field_at decl.fields k)) o) (state_behind host earlier decl before fs) ≡ state_behind host earlier decl (before ++ i ∷ []) (fs ++ item_faults host earlier decl before n i o)
+        → by_arm host earlier (arms decl) (rest decl) n i (option_map (λ k. arm k (field_at decl.fields k)) o) (state_behind host earlier decl before fs) ≡ state_behind host earlier decl (before ++ i ∷ []) (fs ++ item_faults host earlier decl before n i o)
     one_item before fs n i None e u on =
         rested (has_flat decl.fields) decl.allows_unknown (names decl.fields) n i (each (field_slot host earlier) decl.fields (own decl.fields before)) fs before u
         ∙ ap (λ xs. let s : State = record { slots = xs; faults = fs ++ unknown host earlier decl n (item_span i); kept = kept_by host earlier decl (has_flat decl.fields) (before ++ i ∷ []); whole = no_value } in s) (slots_stay before i e)
@@ -147,10 +148,10 @@ module _ (host : Host) (earlier : Earlier) where
         let mine = own decl.fields before k in
         let more : own decl.fields (before ++ i ∷ []) k ≡ mine ++ i ∷ [] = filter_one (λ j. is_this k (owner decl.fields j)) before i (ap (is_this k) e ∙ same k) in
         let r : arm_slot host earlier (arm k f) i (slot_at (each (field_slot host earlier) decl.fields (own decl.fields before)) k) ≡ (field_slot host earlier f (mine ++ i ∷ []), own_faults host earlier f f.shape mine i) =
-          ap (arm_slot host earlier (arm k f) i) (each_at (field_slot host earlier) decl.fields k (own decl.fields before) on.0) ∙ arm_is f k i f.shape mine refl on.1 in
+        ap (arm_slot host earlier (arm k f) i) (each_at (field_slot host earlier) decl.fields k (own decl.fields before) on.0) ∙ arm_is f k i f.shape mine refl on.1 in
         let slots : set (each (field_slot host earlier) decl.fields (own decl.fields before)) k (field_slot host earlier f (mine ++ i ∷ [])) ≡ each (field_slot host earlier) decl.fields (own decl.fields (before ++ i ∷ [])) =
-          ap (λ is. set (each (field_slot host earlier) decl.fields (own decl.fields before)) k (field_slot host earlier f is)) (sym more)
-          ∙ sym (each_put (field_slot host earlier) decl.fields k (own decl.fields before) (own decl.fields (before ++ i ∷ [])) (λ j ne. filter_none (λ x. is_this j (owner decl.fields x)) before i (ap (is_this j) e ∙ other k j (λ q. ne (sym q))))) in
+        ap (λ is. set (each (field_slot host earlier) decl.fields (own decl.fields before)) k (field_slot host earlier f is)) (sym more)
+        ∙ sym (each_put (field_slot host earlier) decl.fields k (own decl.fields before) (own decl.fields (before ++ i ∷ [])) (λ j ne. filter_none (λ x. is_this j (owner decl.fields x)) before i (ap (is_this j) e ∙ other k j (λ q. ne (sym q))))) in
         ap (λ x. put k x (state_behind host earlier decl before fs)) r
         ∙ ap₂ (λ xs is. let s : State = record { slots = xs; faults = fs ++ own_faults host earlier f f.shape mine i; kept = is; whole = no_value } in s) slots (kept_claimed (has_flat decl.fields) before i u)
 

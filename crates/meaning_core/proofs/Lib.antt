@@ -3,3 +3,5 @@ pub mod Clean
 pub mod Direct
 pub mod Nodes
 pub mod SlotLemmas
+pub mod Arms
+pub mod Finish

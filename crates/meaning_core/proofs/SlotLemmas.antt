@@ -34,9 +34,10 @@ put-filled-text slots faults place name o text e =
     ∙ ap (λ x. put place (filled TextType name x) (state_of slots faults)) e
 
 -- a fault is kept behind the field's name
-pub put-filled-fault : (slots : List Held) (faults : List Fault) (place : ℕ) (name : Text) (o : Outcome Datum) (fault : Fault) → text_outcome (Err fault) ≡ o → state_of (set slots place Failed) (faults ++ located fault name ∷ []) ≡ put place (filled TextType name o) (state_of slots faults)
-put-filled-fault slots faults place name o fault e =
-    sym (put-state slots faults (located fault name ∷ []) place Failed)
+pub put-filled-fault : (slots new_slots : List Held) (faults new_faults : List Fault) (place : ℕ) (name : Text) (o : Outcome Datum) (fault : Fault) → text_outcome (Err fault) ≡ o → new_slots ≡ set slots place Failed → new_faults ≡ faults ++ located fault name ∷ [] → state_of new_slots new_faults ≡ put place (filled TextType name o) (state_of slots faults)
+put-filled-fault slots new_slots faults new_faults place name o fault e s f =
+    ap₂ state_of s f
+    ∙ sym (put-state slots faults (located fault name ∷ []) place Failed)
     ∙ ap (λ x. put place (filled TextType name x) (state_of slots faults)) e
 
 slot_at-map : (slots : List Held) (place : ℕ) (held : Held) → place < length slots → held ≡ get_or slots place held → slot_at (map slot_of slots) place ≡ slot_of held
@@ -85,7 +86,7 @@ failed-cons true b c f e = e
 failed-cons false b c f e = f e
 
 right-true : (a b : Bool) → IsTrue b → IsTrue (a || b)
-right-true true b e = tt
+right-true true b e = refl
 right-true false b e = e
 
 set-failed : (slots : List Held) (place : ℕ) (text : Text) → IsTrue (list_any has_failed (set slots place (Read text))) → IsTrue (list_any has_failed slots)

@@ -1,8 +1,10 @@
 -- The slots of a walk over a struct of texts.
-use Rattle.std.specs.Prelude.{◌≢◌, Bool, true, false, IsTrue, List, [], ◌∷◌, map, Option, Some, None, Ok, Err, Result}
+use Rattle.std.specs.Prelude.{◌≢◌, Bool, true, false, IsTrue, List, [], ◌∷◌, ◌++◌, map, Option, Some, None, Ok, Err, Result}
 use Rattle.std.specs.List.{list_any}
 use Rattle.base_core.specs.declared.text.Text.{Text}
 use Rattle.fault_core.specs.declared.fault.Fault.{Fault}
+use Rattle.fault_core.specs.declared.kind.FaultKind.TheVariants.{MissingField}
+use Rattle.fault_core.specs.Fault.{plain}
 use Rattle.fault_core.specs.Outcome.{Outcome, Value, Faults}
 use Rattle.meaning_core.specs.declared.value.Value.{Value as Datum}
 use Rattle.meaning_core.specs.declared.value.Value.TheVariants as value
@@ -35,3 +37,29 @@ has_failed (Read text) = false
 -- a slot that failed has left a fault
 abbrev pub IsTold : List Held → List Fault → Type 0
 IsTold slots faults = IsTrue (list_any has_failed slots) → faults ≢ []
+
+-- the fault of a field that no item has named
+abbrev pub missing_one : Text → Held → List Fault
+missing_one name Unseen = plain (MissingField name) ∷ []
+missing_one name Failed = []
+missing_one name (Read text) = []
+
+-- the member of a field that has a text
+abbrev pub member_one : Text → Held → List (Text × Datum)
+member_one name Unseen = []
+member_one name Failed = []
+member_one name (Read text) = (name, value.Text text) ∷ []
+
+-- what each field and its slot give, one after another
+abbrev pub by_slot : {A : Type 0} → (Text → Held → List A) → List Text → List Held → List A
+by_slot f [] slots = []
+by_slot f (name ∷ names) [] = []
+by_slot f (name ∷ names) (slot ∷ slots) = f name slot ++ by_slot f names slots
+
+-- the faults of the fields that no item has named
+abbrev pub missing_of : List Text → List Held → List Fault
+missing_of = by_slot missing_one
+
+-- the texts that were read, by their fields
+abbrev pub members_of : List Text → List Held → List (Text × Datum)
+members_of = by_slot member_one

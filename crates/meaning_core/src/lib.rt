@@ -12,7 +12,7 @@ mod text;
 mod value;
 mod walk;
 
-pub use fault_core::{Fault, FaultKind};
+pub use fault_core::{Fault, FaultKind, Items, Mem, Span, Text, TryClone};
 pub use laws::{direct_is_meaning, walk_is_filters};
 pub use outcome::Outcome;
 pub use receiver::Receiver;

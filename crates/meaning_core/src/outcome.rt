@@ -3,8 +3,8 @@ ghost use Rattle.std.specs.Option.{option_copied};
 ghost use Rattle.fault_core.specs.Outcome as outcome;
 
 use crate::value::Value;
-use fault_core::Fault;
 use base_core::{Items, Mem, TryClone};
+use fault_core::Fault;
 use std::alloc::Global;
 use std::marker::Model;
 
@@ -21,7 +21,6 @@ impl Model for Outcome {
     ghost use Rattle.std.specs.Prelude.{IsTrue};
     ghost use Rattle.fault_core.specs.Outcome.{Outcome};
     ghost use Rattle.meaning_core.specs.declared.value.Value.{Value as Datum};
-
     ghost use Rattle.meaning_core.specs.contracts.value.Value as contents;
     ghost use Rattle.std.specs.Coded.{codes};
 

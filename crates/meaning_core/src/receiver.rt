@@ -4,8 +4,8 @@ ghost use Rattle.meaning_core.specs.Receiver.{receiver_of, receiver_decl, subjec
 use crate::outcome::Outcome;
 use crate::walk::Walk;
 use node_core::{
-    path_to_string, Attribute, Data, DeriveInput, Fields, Items, Mem, Meta, Text, TokenTree,
-    TryClone,
+    Attribute, Data, DeriveInput, Fields, Items, Mem, Meta, Text, TokenTree, TryClone,
+    path_to_string,
 };
 use std::alloc::Global;
 

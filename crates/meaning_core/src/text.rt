@@ -13,7 +13,7 @@ ghost use Rattle.meta_core.specs.declared.nested.NestedMeta.TheVariants as neste
 use crate::node::{lit_kind, lit_span, meta_span, tokens_span};
 use fault_core::{Fault, FaultKind};
 use meta_core::parse_meta_list;
-use node_core::{Expr, Lit, Meta, Mem, Span, Text, TokenStream, TryClone};
+use node_core::{Expr, Lit, Mem, Meta, Span, Text, TokenStream, TryClone};
 use std::alloc::Global;
 
 /// The fault of a list whose tokens are no nested items.
@@ -27,11 +27,7 @@ fn unexpected_type(alloc: Global, kind: &str, span: Span) -> Mem<Result<Text, Fa
     ensures { IfOk result (λ read. read ≡ Err (at_span (FaultKind.UnexpectedType kind.now) span)) }
 {
     let kind = Text::from_str(alloc, kind)?;
-    Ok(Err(Fault::at_span(
-        alloc,
-        FaultKind::UnexpectedType(kind),
-        span,
-    )))
+    Ok(Err(Fault::at_span(alloc, FaultKind::UnexpectedType(kind), span)))
 }
 
 /// The text of a string; a literal of another kind is refused where it stands.

@@ -7,7 +7,7 @@ ghost use Rattle.meaning_core.specs.Host.{no_host};
 ghost use Rattle.meaning_core.specs.EntryFaults.{read_at};
 ghost use Rattle.meaning_core.specs.Entries.{ItemEntry, has_name, entries_of, events, name_value_fault};
 ghost use Rattle.meaning_core.specs.Receiver.{no_earlier, receiver_decl, text_field};
-ghost use Rattle.meaning_core.specs.Slots.{IsTold, slot_of, state_of};
+ghost use Rattle.meaning_core.specs.Slots.{IsTold, member_one, missing_one, slot_of, state_of};
 ghost use Rattle.meaning_core.specs.State.{arm, arm_slot, arms, entry_step, filled, put, rest, slot_at, step};
 ghost use Rattle.meaning_core.specs.Walk.{closed};
 
@@ -17,8 +17,8 @@ use crate::receiver::Receiver;
 use crate::text::{list_fault, read_text};
 use crate::value::{Style, Value};
 use fault_core::Fault;
-use meta_core::{parse_meta_list, NestedMeta};
-use node_core::{path_to_string, Attribute, Items, Mem, Meta, Text, TryClone};
+use meta_core::{NestedMeta, parse_meta_list};
+use node_core::{Attribute, Items, Mem, Meta, Text, TryClone, path_to_string};
 use std::alloc::Global;
 
 /// What the items so far have given a field.
@@ -124,8 +124,12 @@ impl Walk {
                     Some(at) => self.fill(alloc, at, &fields[at], meta),
                     None => {
                         let span = meta_span(meta);
-                        let fault =
-                            Fault::unknown_field_with_alts(alloc, name.as_str(), fields, span)?;
+                        let fault = Fault::unknown_field_with_alts(
+                            alloc,
+                            name.as_str(),
+                            fields,
+                            span,
+                        )?;
                         self.faults.push(fault)
                     }
                 }
@@ -182,20 +186,49 @@ impl Walk {
         } = self;
         let mut members = Items::new(alloc);
         for at in 0..receiver.fields.len() {
-            let name = &receiver.fields.as_slice()[at];
-            match slots.replace(at, Slot::Unseen) {
-                Slot::Unseen => faults.push(Fault::missing_field(alloc, name.as_str())?)?,
-                Slot::Failed => {}
-                Slot::Read(text) => members.push((name.try_clone(alloc)?, Value::Text(text)))?,
-            }
+            let slot = slots.replace(at, Slot::Unseen);
+            slot.close(
+                alloc,
+                &receiver.fields.as_slice()[at],
+                &mut members,
+                &mut faults,
+            )?;
         }
         if !faults.is_empty() {
             return Ok(Outcome::refused(faults));
         }
-        let name = receiver.name.try_clone(alloc)?;
-        let style = Style::Struct;
-        let fields = members;
-        Ok(Outcome::of(alloc, Value::Struct { name, style, fields }))
+        let value = Value::Struct {
+            name: receiver.name.try_clone(alloc)?,
+            style: Style::Struct,
+            fields: members,
+        };
+        Ok(Outcome::of(alloc, value))
+    }
+}
+
+impl Slot {
+    /// Adds the text as the member `name`, or that the field is missing.
+    fn close(
+        self,
+        alloc: Global,
+        name: &Text,
+        members: &mut Items<(Text, Value)>,
+        faults: &mut Items<Fault>,
+    ) -> Mem<()>
+        ensures faults { OnOk result (faults.new ≡ faults.old ++ missing_one name.now self) }
+        ensures members { OnOk result (members.new ≡ members.old ++ member_one name.now self) }
+    {
+        match self {
+            Slot::Unseen => {
+                let fault = Fault::missing_field(alloc, name.as_str())?;
+                faults.push(fault)
+            }
+            Slot::Failed => Ok(()),
+            Slot::Read(text) => {
+                let name = name.try_clone(alloc)?;
+                members.push((name, Value::Text(text)))
+            }
+        }
     }
 }
 
