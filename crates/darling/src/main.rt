@@ -3,10 +3,9 @@
 
 use darling_run::run_tool;
 use edge_core::{StdSink, StdSource};
-use std::env;
-use std::io;
 use std::process::ExitCode;
 use std::sync::Wait;
+use std::{env, io};
 
 /// Where memory runs out before the tool is called.
 const NO_MEMORY: u8 = 6;

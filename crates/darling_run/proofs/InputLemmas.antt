@@ -82,7 +82,7 @@ unbuilt_span bytes span more a b =
     let Q : List ℕ → Type 0 = λ second. IsUnbuilt a.first second b.table more in
     let moved : IsUnbuilt a.first b.second b.table more = subst P (sym (first_same e)) b.unbuilt in
     same_unbuilt a.first a.second a.table b.table span more (rest_same (rest_same e)) a.unbuilt
-        (subst Q (sym (first_same (rest_same e))) moved)
+    (subst Q (sym (first_same (rest_same e))) moved)
 
 -- what is an input is not refused
 pub input_is_not_refused : (bytes : List ℕ) (declaration : DeriveInput) (subjects : List DeriveInput) (status : Status)

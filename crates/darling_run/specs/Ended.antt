@@ -113,18 +113,14 @@ pub record Ends (words : List (List ℕ)) (reading : Reading) (writing : Writing
   -- a report comes with its lines, and is that of the bytes that were read
   pub done : ended.status ≡ Done
       → (report : Report) × (ended.report ≡ Some report) × Reports words reading report × Wrote writing (report_text report.subjects report.outcomes)
-
   -- a refusal comes by its cause, and with its line
   pub refused : (ended.status ≡ Done → ⊥) → (ended.status ≡ WriteFault → ⊥) → (ended.status ≡ NoMemory → ⊥)
       → (ended.report ≡ None) × Causes words reading ended.status × Wrote writing (refusal_text ended.status)
-
   -- after a fault of the sink a front of the text is written, of a report that is kept or of a refusal
   pub write_fault : ended.status ≡ WriteFault
       → HasRisen writing.faults writing.faults_after × ((answer : Result Report Status) × Answered words reading answer × (ended.report ≡ report_of answer) × WroteFront writing (text_of answer))
-
   -- memory runs out before anything is written
   pub no_memory : ended.status ≡ NoMemory → (ended.report ≡ None) × (writing.taken_after ≡ writing.taken)
-
   -- each cause is answered, in this order
   pub usage : ¬ IsRun words → EndsAs reading writing ended Usage
   pub too_long : IsRun words → IfSome reading.left (λ told. limit < length told → EndsAs reading writing ended TooLong)

@@ -26,7 +26,9 @@ pub(crate) fn read_input(alloc: Global, bytes: &[u8]) -> Result<Input, Status>
 {
     let text = match as_text(bytes) {
         Ok(text) => text,
-        Err(fault) => return Err(Status::NotText { at: fault.at as u32 }),
+        Err(fault) => return Err(Status::NotText {
+            at: fault.at as u32,
+        }),
     };
     let Some(parts) = divide(text) else {
         return Err(Status::NoParts);

@@ -48,10 +48,8 @@ impl Status {
         match self {
             Status::Done => 0,
             Status::Usage => 2,
-            Status::TooLong
-            | Status::NotText { .. }
-            | Status::NoParts
-            | Status::Unbuilt { .. } => 3,
+            Status::TooLong | Status::NotText { .. } | Status::NoParts | Status::Unbuilt { .. } =>
+                3,
             Status::ReadFault => 4,
             Status::WriteFault => 5,
             Status::NoMemory => 6,

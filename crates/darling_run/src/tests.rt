@@ -32,7 +32,11 @@ const REFUSALS: [(&[u8], &str, u8); 6] = [
     (b"struct A;\n", "refused: no parts\n", 3),
     (b"%%\n%%\n%%\n", "refused: no parts\n", 3),
     (b"%%\n\xFF", "refused: not UTF-8 at 3\n", 3),
-    (b"struct A { a: u8 }\n%%\n%%\n", "refused: unbuilt at 0..19\n", 3),
+    (
+        b"struct A { a: u8 }\n%%\n%%\n",
+        "refused: unbuilt at 0..19\n",
+        3,
+    ),
     (b"", "refused: no parts\n", 3),
 ];
 
@@ -59,8 +63,17 @@ fn ends(
     let mut source = MemorySource::new(bytes, 65536, reads);
     let mut sink = MemorySink::new(alloc, 8, 4096, writes)?;
     let ended = run_tool(alloc, all.as_slice(), &mut source, &mut sink);
-    assert_eq!(rt; ended.status.exit_code(), wanted.1, "the number for {}", wanted.0);
-    assert!(rt; sink.bytes() == wanted.0.as_bytes(), "the text {}", wanted.0);
+    assert_eq!(rt;
+        ended.status.exit_code(),
+        wanted.1,
+        "the number for {}",
+        wanted.0
+    );
+    assert!(rt;
+        sink.bytes() == wanted.0.as_bytes(),
+        "the text {}",
+        wanted.0
+    );
     assert!(rt; ended.report.is_some() == matches!(ended.status, Status::Done) || wanted.1 == 5);
     Ok(())
 }
@@ -83,7 +96,14 @@ fn what_is_no_input_is_refused(rt: HostRuntime) -> Result<(), Fail> {
         ends(&rt, alloc, &["run"], bytes, (0, 0), (line, number))?;
     }
     let usage = ("refused: usage\n", 2);
-    ends(&rt, alloc, &["run", "extra"], Vec::new(alloc), (0, 0), usage)?;
+    ends(
+        &rt,
+        alloc,
+        &["run", "extra"],
+        Vec::new(alloc),
+        (0, 0),
+        usage,
+    )?;
     ends(&rt, alloc, &[], Vec::new(alloc), (0, 0), usage)
 }
 
@@ -92,8 +112,22 @@ fn faults_and_limits_are_told(rt: HostRuntime) -> Result<(), Fail> {
     let alloc = rt.alloc();
     let row = input(alloc, "(name = \"a\")")?;
     let bytes = Vec::from_slice(alloc, row.as_bytes())?;
-    ends(&rt, alloc, &["run"], bytes, (2, 0), ("refused: read fault\n", 4))?;
-    ends(&rt, alloc, &["run"], row.into_bytes(), (0, 2), ("ok S Opt", 5))?;
+    ends(
+        &rt,
+        alloc,
+        &["run"],
+        bytes,
+        (2, 0),
+        ("refused: read fault\n", 4),
+    )?;
+    ends(
+        &rt,
+        alloc,
+        &["run"],
+        row.into_bytes(),
+        (0, 2),
+        ("ok S Opt", 5),
+    )?;
     let spaces = Vec::from_elem(alloc, b' ', 16_777_217)?;
     let line = "refused: input over 16777216 bytes\n";
     ends(&rt, alloc, &["run"], spaces, (0, 0), (line, 3))

@@ -41,12 +41,18 @@ pub fn run_tool<S: Source, K: Sink>(
     ensures { Ends
         (map string_bytes words.now)
         (record {
-            left = S.left source.old; left_after = S.left source.new;
-            faults = S.faults source.old; faults_after = S.faults source.new })
+          left = S.left source.old;
+          left_after = S.left source.new;
+          faults = S.faults source.old;
+          faults_after = S.faults source.new;
+        })
         (record {
-            may_fall_silent = K.may_fall_silent;
-            taken = K.taken sink.old; taken_after = K.taken sink.new;
-            faults = K.faults sink.old; faults_after = K.faults sink.new })
+          may_fall_silent = K.may_fall_silent;
+          taken = K.taken sink.old;
+          taken_after = K.taken sink.new;
+          faults = K.faults sink.old;
+          faults_after = K.faults sink.new;
+        })
         result }
 {
     let answer = answer(alloc, words, source);
@@ -57,8 +63,11 @@ fn answer<S: Source>(alloc: Global, words: &[String], source: &mut S) -> Result<
     ensures { Answered
         (map string_bytes words.now)
         (record {
-            left = S.left source.old; left_after = S.left source.new;
-            faults = S.faults source.old; faults_after = S.faults source.new })
+          left = S.left source.old;
+          left_after = S.left source.new;
+          faults = S.faults source.old;
+          faults_after = S.faults source.new;
+        })
         result }
 {
     if !is_run(words) {
@@ -124,9 +133,12 @@ fn outcomes(
 fn write_answer<K: Sink>(alloc: Global, answer: Result<Report, Status>, sink: &mut K) -> Ended
     ensures { IsWritten
         (record {
-            may_fall_silent = K.may_fall_silent;
-            taken = K.taken sink.old; taken_after = K.taken sink.new;
-            faults = K.faults sink.old; faults_after = K.faults sink.new })
+          may_fall_silent = K.may_fall_silent;
+          taken = K.taken sink.old;
+          taken_after = K.taken sink.new;
+          faults = K.faults sink.old;
+          faults_after = K.faults sink.new;
+        })
         answer
         result }
 {

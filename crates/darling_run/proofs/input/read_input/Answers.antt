@@ -18,7 +18,8 @@ returns-in_default-3-clause-err c =
       utf8 = c.in-Ok.ensures.ok.0 refl;
       division = subst P c.in-Ok.ensures.same c.in-Some.ensures.division;
       unbuilt = inr (inl (
-          (c.in-Some-2.declaration, IfSome-at _ _ (IsDeclaration parts.declarations.now) c.in-Some-2.is c.in_ok-declaration.ensures.some),
-          IfNone-at _ (¬ HasSubjects parts.subjects.now) c.in_default-3.is c.in_ok-subjects.ensures.none,
-          refl));
+        (c.in-Some-2.declaration, IfSome-at _ _ (IsDeclaration parts.declarations.now) c.in-Some-2.is c.in_ok-declaration.ensures.some),
+        IfNone-at _ (¬ HasSubjects parts.subjects.now) c.in_default-3.is c.in_ok-subjects.ensures.none,
+        refl,
+      ));
     }))

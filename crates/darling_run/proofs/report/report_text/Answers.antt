@@ -8,8 +8,8 @@ use Rattle.darling_run.proofs.report.report_text.Goals as goal
 pub returns : goal.returns
 returns c =
     let end = YieldsList-end
-        (YieldsList-from_zip
-            (YieldsList-from_slice c.args.report.now.subjects cc)
-            (YieldsList-from_slice c.args.report.now.outcomes cc))
-        c.loop-subject.yielded _ c.loop-subject.yielded_by c.next.result c.next.new.self c.in-None.is c.next.ensures.steps in
+    (YieldsList-from_zip
+    (YieldsList-from_slice c.args.report.now.subjects cc)
+    (YieldsList-from_slice c.args.report.now.outcomes cc))
+    c.loop-subject.yielded _ c.loop-subject.yielded_by c.next.result c.next.new.self c.in-None.is c.next.ensures.steps in
     c.loop-subject.invariant ∙ ap (flat_map subject_text) end.0

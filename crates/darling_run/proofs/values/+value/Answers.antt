@@ -8,5 +8,5 @@ pub push_value-returns-in_ok-push_str-in-Struct : goal.push_value-returns-in_ok-
 push_value-returns-in_ok-push_str-in-Struct t c =
     rw (c.in-Struct.is, value_text-Struct c.in-Struct.name c.in-Struct.style c.in-Struct.fields)
     (OnOk-append _ _ _ _ _ _
-        (c.in_ok-push_str-in-Struct.ensures.ok ∙ ap (λ name. c.args.out.now ++ name) c.as_str-in-Struct.ensures)
-        (rw c.as_slice-in-Struct.ensures at c.push_members.ensures))
+    (c.in_ok-push_str-in-Struct.ensures.ok ∙ ap (λ name. c.args.out.now ++ name) c.as_str-in-Struct.ensures)
+    (rw c.as_slice-in-Struct.ensures at c.push_members.ensures))
