@@ -11,6 +11,9 @@ mod status;
 mod tool;
 mod values;
 
+#[cfg(test)]
+mod tests;
+
 pub use fault_core::{Fault, FaultKind, fault_line};
 pub use meaning_core::{Outcome, Style, Value};
 pub use report::{Report, report_text};
