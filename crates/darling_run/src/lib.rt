@@ -8,11 +8,10 @@
 mod input;
 mod report;
 mod status;
-mod tool;
-mod values;
-
 #[cfg(test)]
 mod tests;
+mod tool;
+mod values;
 
 pub use fault_core::{Fault, FaultKind, fault_line};
 pub use meaning_core::{Outcome, Style, Value};
