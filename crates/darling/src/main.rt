@@ -3,6 +3,7 @@
 
 use darling_run::run_tool;
 use edge_core::{StdSink, StdSource};
+use std::env::Env;
 use std::process::ExitCode;
 use std::{env, io};
 
