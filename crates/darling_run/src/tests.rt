@@ -1,7 +1,6 @@
-use crate::{Status, run_tool};
+use crate::run_tool;
 use edge_core::{MemorySink, MemorySource};
 use std::alloc::Global;
-use std::process::Abort;
 use std::test::Fail;
 
 const DECLARATION: &str = "\
@@ -26,56 +25,43 @@ const LISTS: [(&str, &str); 5] = [
     ),
 ];
 
-// Inputs that are refused, with the line and the program's number.
-const REFUSALS: [(&[u8], &str, u8); 6] = [
-    (b"struct A;\n%%\n", "refused: unbuilt at 0..10\n", 3),
-    (b"struct A;\n", "refused: no parts\n", 3),
-    (b"%%\n%%\n%%\n", "refused: no parts\n", 3),
-    (b"%%\n\xFF", "refused: not UTF-8 at 3\n", 3),
+// Inputs that are refused, with the line.
+const REFUSALS: [(&[u8], &str); 6] = [
+    (b"struct A;\n%%\n", "refused: unbuilt at 0..10\n"),
+    (b"struct A;\n", "refused: no parts\n"),
+    (b"%%\n%%\n%%\n", "refused: no parts\n"),
+    (b"%%\n\xFF", "refused: not UTF-8 at 3\n"),
     (
         b"struct A { a: u8 }\n%%\n%%\n",
         "refused: unbuilt at 0..19\n",
-        3,
     ),
-    (b"", "refused: no parts\n", 3),
+    (b"", "refused: no parts\n"),
 ];
 
 fn input(alloc: Global, list: &str) -> Result<String, Fail> {
     Ok(format!(in alloc; "{DECLARATION}#[my{list}] struct S;\n")?)
 }
 
-/// Runs the tool on `bytes` in pieces of `piece`, with the fault at the read and the write of these
-/// numbers, and compares what it writes and the program's number.
-fn ends(
-    rt: &impl Abort,
+/// The program's number and what is written, where the tool runs on `bytes` and the read and the
+/// write of these numbers fail.
+fn end_of(
     alloc: Global,
     words: &[&str],
     bytes: Vec<u8>,
-    fails: (u64, u64),
-    wanted: (&str, u8),
-) -> Result<(), Fail> {
+    failing_read: u64,
+    failing_write: u64,
+) -> Result<(u8, Vec<u8>), Fail> {
     let mut all = Vec::new(alloc);
     for word in words {
         all.push(word.to_string(alloc)?)?;
     }
-    let reads = Vec::from_slice(alloc, &[fails.0])?;
-    let writes = Vec::from_slice(alloc, &[fails.1])?;
+    let reads = Vec::from_slice(alloc, &[failing_read])?;
+    let writes = Vec::from_slice(alloc, &[failing_write])?;
     let mut source = MemorySource::new(bytes, 65536, reads);
     let mut sink = MemorySink::new(alloc, 8, 4096, writes)?;
     let ended = run_tool(alloc, all.as_slice(), &mut source, &mut sink);
-    assert_eq!(rt;
-        ended.status.exit_code(),
-        wanted.1,
-        "the number for {}",
-        wanted.0
-    );
-    assert!(rt;
-        sink.bytes() == wanted.0.as_bytes(),
-        "the text {}",
-        wanted.0
-    );
-    assert!(rt; ended.report.is_some() == matches!(ended.status, Status::Done) || wanted.1 == 5);
-    Ok(())
+    let text = Vec::from_slice(alloc, sink.bytes())?;
+    Ok((ended.status.exit_code(), text))
 }
 
 #[test]
@@ -83,7 +69,9 @@ fn items_are_read(rt: HostRuntime) -> Result<(), Fail> {
     let alloc = rt.alloc();
     for (list, output) in LISTS {
         let bytes = input(alloc, list)?.into_bytes();
-        ends(&rt, alloc, &["run"], bytes, (0, 0), (output, 0))?;
+        let (number, text) = end_of(alloc, &["run"], bytes, 0, 0)?;
+        assert_eq!(rt; number, 0);
+        assert!(rt; text.as_slice() == output.as_bytes());
     }
     Ok(())
 }
@@ -91,20 +79,16 @@ fn items_are_read(rt: HostRuntime) -> Result<(), Fail> {
 #[test]
 fn what_is_no_input_is_refused(rt: HostRuntime) -> Result<(), Fail> {
     let alloc = rt.alloc();
-    for (bytes, line, number) in REFUSALS {
+    for (bytes, line) in REFUSALS {
         let bytes = Vec::from_slice(alloc, bytes)?;
-        ends(&rt, alloc, &["run"], bytes, (0, 0), (line, number))?;
+        let (number, text) = end_of(alloc, &["run"], bytes, 0, 0)?;
+        assert_eq!(rt; number, 3);
+        assert!(rt; text.as_slice() == line.as_bytes());
     }
-    let usage = ("refused: usage\n", 2);
-    ends(
-        &rt,
-        alloc,
-        &["run", "extra"],
-        Vec::new(alloc),
-        (0, 0),
-        usage,
-    )?;
-    ends(&rt, alloc, &[], Vec::new(alloc), (0, 0), usage)
+    let (number, text) = end_of(alloc, &["run", "extra"], Vec::new(alloc), 0, 0)?;
+    assert_eq!(rt; number, 2);
+    assert!(rt; text.as_slice() == b"refused: usage\n".as_slice());
+    Ok(())
 }
 
 #[test]
@@ -112,23 +96,15 @@ fn faults_and_limits_are_told(rt: HostRuntime) -> Result<(), Fail> {
     let alloc = rt.alloc();
     let row = input(alloc, "(name = \"a\")")?;
     let bytes = Vec::from_slice(alloc, row.as_bytes())?;
-    ends(
-        &rt,
-        alloc,
-        &["run"],
-        bytes,
-        (2, 0),
-        ("refused: read fault\n", 4),
-    )?;
-    ends(
-        &rt,
-        alloc,
-        &["run"],
-        row.into_bytes(),
-        (0, 2),
-        ("ok S Opt", 5),
-    )?;
+    let (number, text) = end_of(alloc, &["run"], bytes, 2, 0)?;
+    assert_eq!(rt; number, 4);
+    assert!(rt; text.as_slice() == b"refused: read fault\n".as_slice());
+    let (number, text) = end_of(alloc, &["run"], row.into_bytes(), 0, 2)?;
+    assert_eq!(rt; number, 5);
+    assert!(rt; text.as_slice() == b"ok S Opt".as_slice());
     let spaces = Vec::from_elem(alloc, b' ', 16_777_217)?;
-    let line = "refused: input over 16777216 bytes\n";
-    ends(&rt, alloc, &["run"], spaces, (0, 0), (line, 3))
+    let (number, text) = end_of(alloc, &["run"], spaces, 0, 0)?;
+    assert_eq!(rt; number, 3);
+    assert!(rt; text.as_slice() == b"refused: input over 16777216 bytes\n".as_slice());
+    Ok(())
 }
