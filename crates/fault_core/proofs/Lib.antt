@@ -1,3 +1,3 @@
 mod NameLemmas
 pub mod OutcomeLemmas
-mod TextLemmas
+pub mod TextLemmas

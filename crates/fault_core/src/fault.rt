@@ -62,7 +62,8 @@ impl Fault {
         alts: &[Text],
         span: Span,
     ) -> Mem<Fault>
-        ensures { IfOk result (λ fault. fault ≡ at_span (FaultKind.UnknownField name.now (set_of alts.now)) span) }
+        ensures { IfOk result (λ fault. fault
+            ≡ at_span (FaultKind.UnknownField name.now (set_of alts.now)) span) }
     {
         let name = Text::from_str(alloc, name)?;
         let alts = add_names(alloc, BTreeSet::new(alloc), alts)?;

@@ -1,5 +1,5 @@
 -- One more turn over the trees of the subjects.
-use Rattle.std.proofs.Common.{◌≡◌, ◌≤◌, ◌-◌, List, [], ◌∷◌, ◌++◌, length, take, drop, get_or, Option, Some, None, refl, ap, ◌∙◌, arith}
+use Rattle.std.proofs.Common.{◌≡◌, ◌≤◌, ◌-◌, List, [], ◌∷◌, ◌++◌, length, take, drop, get_or, Some, None, refl, ap, ◌∙◌, arith}
 use Rattle.std.specs.List.{IsFirstAndRest}
 use Rattle.std.proofs.Math.Seq.{take-length}
 use Rattle.token_core.specs.declared.tree.TokenTree.{TokenTree}

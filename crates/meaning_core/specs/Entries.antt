@@ -11,7 +11,7 @@ use Rattle.meta_core.specs.declared.nested.NestedMeta.{NestedMeta}
 use Rattle.fault_core.specs.declared.fault.Fault.{Fault}
 use Rattle.fault_core.specs.declared.kind.FaultKind.TheVariants.{Custom}
 use Rattle.fault_core.specs.Fault.{at_span}
-use Rattle.meaning_core.specs.Node.{meta_name, meta_span}
+use Rattle.meaning_core.specs.Node.{meta_name, meta_path_text, meta_span}
 use Rattle.meaning_core.specs.Convert.{list_fault}
 
 pub data Entry : Type 0 where
@@ -22,10 +22,10 @@ pub data Entry : Type 0 where
 abbrev pub has_name : List Text → Text → Bool
 has_name names name = list_any (λ other. bytes_eq other name) names
 
--- `name = value` in the place of `name(items)`
+-- `name = value` in the place of `name(items)`; the message has the path with the `::` that it may begin with
 abbrev pub name_value_fault : Meta → Fault
 name_value_fault it =
-    at_span (Custom (codes "Name-value arguments are not supported. Use #[" ++ meta_name it ++ codes "(...)]")) (meta_span it)
+    at_span (Custom (codes "Name-value arguments are not supported. Use #[" ++ meta_path_text it ++ codes "(...)]")) (meta_span it)
 
 -- the items of a list, or the fault of one that has none
 abbrev pub list_entries : Fault → Option (List NestedMeta) → List Entry

@@ -1,5 +1,5 @@
 -- What a reading asks of a node: its text, the name of its kind, and its place.
-use Rattle.std.specs.Prelude.{List, [], ◌∷◌, codes}
+use Rattle.std.specs.Prelude.{if◌then◌else◌, List, [], ◌∷◌, ◌++◌, codes}
 use Rattle.base_core.specs.declared.text.Text.{Text}
 use Rattle.token_core.specs.Span.{joined}
 use Rattle.token_core.specs.declared.span.Span.{Span}
@@ -52,6 +52,13 @@ meta_path (meta.NameValue pair) = pair.path
 -- the text of that path
 abbrev pub meta_name : Meta → Text
 meta_name it = path_text (meta_path it)
+
+-- the text of a path with the `::` that it may begin with
+abbrev pub full_path_text : Path → Text
+full_path_text path = (if (out-Path path).leading_colon then codes "::" else []) ++ path_text path
+
+abbrev pub meta_path_text : Meta → Text
+meta_path_text it = full_path_text (meta_path it)
 
 -- where a meta stands
 abbrev pub meta_span : Meta → Span

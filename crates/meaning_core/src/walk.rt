@@ -9,6 +9,7 @@ ghost use Rattle.meaning_core.specs.Entries.{ItemEntry, has_name, entries_of, ev
 ghost use Rattle.meaning_core.specs.Receiver.{no_earlier, receiver_decl, text_field};
 ghost use Rattle.meaning_core.specs.Slots.{IsTold, member_one, missing_one, slot_of, state_of};
 ghost use Rattle.meaning_core.specs.State.{arm, arm_slot, arms, entry_step, filled, put, rest, slot_at, step};
+ghost use Rattle.meaning_core.specs.Node.{full_path_text};
 ghost use Rattle.meaning_core.specs.Walk.{closed};
 
 use crate::node::{lit_span, meta_path, meta_span};
@@ -18,7 +19,7 @@ use crate::text::{list_fault, read_text};
 use crate::value::{Style, Value};
 use fault_core::Fault;
 use meta_core::{NestedMeta, parse_meta_list};
-use node_core::{Attribute, Items, Mem, Meta, Text, TryClone, path_to_string};
+use node_core::{Attribute, Items, Mem, Meta, Path, Text, TryClone, path_to_string};
 use std::alloc::Global;
 
 /// What the items so far have given a field.
@@ -250,8 +251,18 @@ pub(crate) fn name_value_fault(alloc: Global, meta: &Meta) -> Mem<Fault>
     ensures { IfOk result (λ fault. fault ≡ name_value_fault meta.now) }
 {
     let mut message = Text::from_str(alloc, "Name-value arguments are not supported. Use #[")?;
-    let name = path_to_string(alloc, meta_path(meta))?;
-    message.push_str(name.as_str())?;
+    push_path(alloc, &mut message, meta_path(meta))?;
     message.push_str("(...)]")?;
     Fault::custom(alloc, message.as_str(), meta_span(meta))
+}
+
+/// Writes a path behind `text`, with the `::` that it may begin with.
+fn push_path(alloc: Global, text: &mut Text, path: &Path) -> Mem<()>
+    ensures { OnOk result (text.new ≡ text.old ++ full_path_text path.now) }
+{
+    if path.leading_colon {
+        text.push_str("::")?;
+    }
+    let name = path_to_string(alloc, path)?;
+    text.push_str(name.as_str())
 }

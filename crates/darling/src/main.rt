@@ -1,0 +1,65 @@
+//! The program: the tool over standard input and output.
+#![tactic(auto)]
+
+use darling_run::run_tool;
+use edge_core::{StdSink, StdSource};
+use std::env::Env;
+use std::process::ExitCode;
+use std::{env, io};
+
+/// The number for a failed write of the help or the version.
+const WRITE_FAULT: u8 = 5;
+
+/// The number for want of memory before the tool is called.
+const NO_MEMORY: u8 = 6;
+
+const HELP: &str = "\
+usage: darling run < INPUT
+
+Reads a declaration that derives FromDeriveInput, a line `%%`, and annotated items. Writes for each
+item its value, or all its faults with their places.
+
+Status: 0 done, 2 usage, 3 refused, 4 read fault, 5 write fault, 6 out of memory.
+";
+
+const VERSION: &str = "darling 0.1.0\n";
+
+fn main(rt: HostRuntime) -> ExitCode {
+    let words = match words(&rt) {
+        Ok(words) => words,
+        Err(error) if error.kind() == io::ErrorKind::OutOfMemory => {
+            return ExitCode::from(NO_MEMORY);
+        }
+        // Words that are no text are none of the commands.
+        Err(_) => Vec::new(rt.alloc()),
+    };
+    if let [word] = words.as_slice() {
+        match word.as_str() {
+            "--help" => return say(&rt, HELP),
+            "--version" => return say(&rt, VERSION),
+            _ => {}
+        }
+    }
+    let mut source = StdSource::new(rt.stdin());
+    let mut sink = StdSink::new(rt.stdout());
+    let ended = run_tool(rt.alloc(), words.as_slice(), &mut source, &mut sink);
+    ExitCode::from(ended.status.exit_code())
+}
+
+/// The words behind the program's name.
+fn words<R: Env + AllocGlobal>(rt: &R) -> io::Result<Vec<String>> {
+    let mut words = Vec::new(rt.alloc());
+    for word in env::args(rt)?.skip(1) {
+        words
+            .push(word)
+            .map_err(|_| io::Error::from(io::ErrorKind::OutOfMemory))?;
+    }
+    Ok(words)
+}
+
+fn say(rt: &impl Print, text: &str) -> ExitCode {
+    match print!(rt; "{text}") {
+        Ok(()) => ExitCode::SUCCESS,
+        Err(_) => ExitCode::from(WRITE_FAULT),
+    }
+}

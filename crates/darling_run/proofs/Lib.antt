@@ -1,0 +1,4 @@
+mod EndsLemmas
+mod InputLemmas
+mod ValueLemmas
+mod WordLemmas

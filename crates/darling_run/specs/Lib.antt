@@ -1,0 +1,5 @@
+pub mod Ended
+pub mod Input
+pub mod Report
+pub mod Status
+pub mod ValueText

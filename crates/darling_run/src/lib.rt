@@ -1,0 +1,21 @@
+//! The derived parsers of a text of declarations, run over a text of annotated items.
+//!
+//! [`run_tool`] reads an input of two parts, a declaration and the items, and writes a line for
+//! each item: its value, or its faults with their places. So far one form of declaration is read,
+//! a struct of required `String` fields that derives `FromDeriveInput`.
+#![tactic(auto)]
+
+mod input;
+mod report;
+mod status;
+#[cfg(test)]
+mod tests;
+mod tool;
+mod values;
+
+pub use fault_core::{Fault, FaultKind, fault_line};
+pub use meaning_core::{Outcome, Style, Value};
+pub use report::{Report, report_text};
+pub use status::{Status, refusal_text};
+pub use tool::{Ended, run_tool};
+pub use values::value_text;

@@ -1,0 +1,83 @@
+ghost use Rattle.std.specs.Prelude.{◌≡◌, ◌++◌, flat_map, IfOk, OnOk};
+ghost use Rattle.token_core.specs.Ident.{ident_text};
+ghost use Rattle.darling_run.specs.Report.{fault_row, ok_line, err_line, outcome_text, report_text};
+
+use crate::values::push_value;
+use fault_core::{Fault, push_fault_line};
+use meaning_core::{Outcome, Value};
+use node_core::DeriveInput;
+use std::alloc::Global;
+use token_core::{Ident, Items, Mem, Text};
+
+/// What was read, and what it means.
+#[derive(Drop)]
+pub struct Report {
+    /// The trees of the first part.
+    pub declarations: Items<DeriveInput>,
+    /// The trees of the second part.
+    pub subjects: Items<DeriveInput>,
+    /// What the last declaration makes of each subject, in order.
+    pub outcomes: Items<Outcome>,
+}
+
+/// The lines of a report, one or more for each subject.
+pub fn report_text(alloc: Global, report: &Report) -> Mem<Text>
+    ensures { IfOk result (λ text. text ≡ report_text report.now.subjects report.now.outcomes) }
+{
+    let mut text = Text::new(alloc);
+    let outcomes = report.outcomes.as_slice().iter();
+    for (subject, outcome) in report.subjects.as_slice().iter().zip(outcomes) {
+        push_outcome(alloc, &mut text, &subject.ident, outcome)?;
+    }
+    Ok(text)
+}
+
+fn push_outcome(alloc: Global, out: &mut Text, name: &Ident, outcome: &Outcome) -> Mem<()>
+    ensures { OnOk result (out.new ≡ out.old ++ outcome_text (ident_text name.now) outcome.now) }
+{
+    match outcome.value() {
+        Some(value) => push_ok_line(out, name, value),
+        None => {
+            push_err_line(alloc, out, name, outcome.faults().len())?;
+            push_fault_rows(alloc, out, outcome.faults())
+        }
+    }
+}
+
+fn push_ok_line(out: &mut Text, name: &Ident, value: &Value) -> Mem<()>
+    ensures { OnOk result (out.new ≡ out.old ++ ok_line (ident_text name.now) value.now) }
+{
+    out.push_str("ok ")?;
+    name.push_to(out)?;
+    out.push_str(" ")?;
+    push_value(out, value)?;
+    out.push_str("\n")
+}
+
+fn push_err_line(alloc: Global, out: &mut Text, name: &Ident, count: usize) -> Mem<()>
+    ensures { OnOk result (out.new ≡ out.old ++ err_line (ident_text name.now) count) }
+{
+    out.push_str("err ")?;
+    name.push_to(out)?;
+    out.push_str(" ")?;
+    let digits = count.to_string(alloc)?;
+    out.push_str(digits.as_str())?;
+    out.push_str("\n")
+}
+
+fn push_fault_rows(alloc: Global, out: &mut Text, faults: &[Fault]) -> Mem<()>
+    ensures { OnOk result (out.new ≡ out.old ++ flat_map fault_row faults.now) }
+{
+    for fault in faults {
+        push_fault_row(alloc, out, fault)?;
+    }
+    Ok(())
+}
+
+fn push_fault_row(alloc: Global, out: &mut Text, fault: &Fault) -> Mem<()>
+    ensures { OnOk result (out.new ≡ out.old ++ fault_row fault.now) }
+{
+    out.push_str("  ")?;
+    push_fault_line(alloc, out, fault)?;
+    out.push_str("\n")
+}

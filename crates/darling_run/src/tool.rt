@@ -1,0 +1,186 @@
+ghost use Rattle.std.specs.Prelude.{◌≡◌, ◌≤◌, ◌↔◌, length, map, string_bytes, ◌≢◌, IsTrue, IfOk, IfErr, OnOk};
+ghost use Rattle.node_core.specs.declared.derive.DeriveInput.{DeriveInput};
+ghost use Rattle.meaning_core.specs.Receiver.{item_meaning};
+
+use crate::input::{Input, read_input};
+use crate::report::{Report, report_text};
+use crate::status::{Status, refusal_text};
+use edge_core::{ReadAll, Sink, Source, read_all, write_all};
+use meaning_core::{Outcome, Receiver};
+use node_core::DeriveInput;
+use std::alloc::{AllocError, Global};
+use token_core::{Items, Mem, Text};
+
+/// How many bytes an input has at most.
+const LIMIT: u64 = 16_777_216;
+
+/// How a run ended, and its report where one was made.
+#[derive(Drop)]
+pub struct Ended {
+    pub status: Status,
+    /// Some exactly where the status is [`Status::Done`], or [`Status::WriteFault`] after a
+    /// completed run.
+    pub report: Option<Report>,
+}
+
+ghost use Rattle.darling_run.specs.Ended.{limit, IsRun, WereRead, Causes, IsReport, Reports, Answered, IsWritten, Ends, text_of, status_of, report_of};
+ghost use Rattle.darling_run.specs.declared.status.Status.TheVariants.{NoMemory};
+ghost use Rattle.darling_run.specs.Input.{Refuses};
+
+/// Runs the tool: reads the source to its end, runs the declared parser over each item, and writes
+/// a line for each, or the line of a refusal.
+///
+/// `words` are those behind the program's name. The one command is `run`. All text is made before
+/// the first byte is written.
+pub fn run_tool<S: Source, K: Sink>(
+    alloc: Global,
+    words: &[String],
+    source: &mut S,
+    sink: &mut K,
+) -> Ended
+    ensures { Ends
+        (map string_bytes words.now)
+        (record {
+          left = S.left source.old;
+          left_after = S.left source.new;
+          faults = S.faults source.old;
+          faults_after = S.faults source.new;
+        })
+        (record {
+          may_fall_silent = K.may_fall_silent;
+          taken = K.taken sink.old;
+          taken_after = K.taken sink.new;
+          faults = K.faults sink.old;
+          faults_after = K.faults sink.new;
+        })
+        result }
+{
+    let answer = answer(alloc, words, source);
+    write_answer(alloc, answer, sink)
+}
+
+fn answer<S: Source>(alloc: Global, words: &[String], source: &mut S) -> Result<Report, Status>
+    ensures { Answered
+        (map string_bytes words.now)
+        (record {
+          left = S.left source.old;
+          left_after = S.left source.new;
+          faults = S.faults source.old;
+          faults_after = S.faults source.new;
+        })
+        result }
+{
+    if !is_run(words) {
+        return Err(Status::Usage);
+    }
+    match read_all(alloc, source, LIMIT) {
+        Ok(bytes) => run(alloc, bytes.as_slice()),
+        Err(ReadAll::ReadFault) => Err(Status::ReadFault),
+        Err(ReadAll::TooLong) => Err(Status::TooLong),
+        Err(ReadAll::NoMemory) => Err(Status::NoMemory),
+    }
+}
+
+fn is_run(words: &[String]) -> bool
+    ensures { IsTrue result ↔ IsRun (map string_bytes words.now) }
+{
+    match words {
+        [word] => is_text(word, "run"),
+        _ => false,
+    }
+}
+
+fn is_text(word: &String, text: &str) -> bool
+    ensures { IsTrue result ↔ (string_bytes word.now ≡ text.now) }
+{
+    word.as_str() == text
+}
+
+fn run(alloc: Global, bytes: &[u8]) -> Result<Report, Status>
+    requires { length bytes.now ≤ limit }
+    ensures ok { IfOk result (IsReport bytes.now) }
+    ensures err { IfErr result (Refuses bytes.now) }
+{
+    let Input {
+        declaration,
+        subjects,
+    } = read_input(alloc, bytes)?;
+    let outcomes = outcomes(alloc, &declaration, subjects.as_slice())?;
+    let declarations = Items::of(alloc, declaration)?;
+    Ok(Report {
+        declarations,
+        subjects,
+        outcomes,
+    })
+}
+
+fn outcomes(
+    alloc: Global,
+    declaration: &DeriveInput,
+    subjects: &[DeriveInput],
+) -> Mem<Items<Outcome>>
+    ensures { IfOk result (λ outcomes. outcomes ≡ map (item_meaning declaration.now) subjects.now) }
+{
+    let receiver = Receiver::new(alloc, declaration)?;
+    let mut outcomes = Items::new(alloc);
+    for subject in subjects {
+        let outcome = receiver.read(alloc, subject)?;
+        outcomes.push(outcome)?;
+    }
+    Ok(outcomes)
+}
+
+fn write_answer<K: Sink>(alloc: Global, answer: Result<Report, Status>, sink: &mut K) -> Ended
+    ensures { IsWritten
+        (record {
+          may_fall_silent = K.may_fall_silent;
+          taken = K.taken sink.old;
+          taken_after = K.taken sink.new;
+          faults = K.faults sink.old;
+          faults_after = K.faults sink.new;
+        })
+        answer
+        result }
+{
+    let Ok(text) = answer_text(alloc, &answer) else {
+        return Ended {
+            status: Status::NoMemory,
+            report: None,
+        };
+    };
+    match write_all(sink, text.as_str().as_bytes()) {
+        Ok(()) => ended_fully(answer),
+        Err(_) => Ended {
+            status: Status::WriteFault,
+            report: answer.ok(),
+        },
+    }
+}
+
+/// The text of an answer. There is none for want of memory.
+fn answer_text(alloc: Global, answer: &Result<Report, Status>) -> Mem<Text>
+    ensures text { IfOk result (λ text. text ≡ text_of answer.now) }
+    ensures memory { OnOk result (status_of answer.now ≢ NoMemory) }
+{
+    match answer {
+        Ok(report) => report_text(alloc, report),
+        Err(Status::NoMemory) => Err(AllocError),
+        Err(status) => refusal_text(alloc, status),
+    }
+}
+
+fn ended_fully(answer: Result<Report, Status>) -> Ended
+    ensures status { result.status ≡ status_of answer }
+    ensures report { result.report ≡ report_of answer }
+{
+    match answer {
+        Ok(report) => Ended {
+            status: Status::Done,
+            report: Some(report),
+        },
+        Err(status) => Ended {
+            status,
+            report: None,
+        },
+    }
+}

@@ -1,0 +1,11 @@
+pub mod Lists
+pub mod Bytes
+pub mod Heads
+pub mod Answers
+pub mod White
+pub mod Names
+pub mod Literals
+pub mod Marks
+pub mod Delimiters
+pub mod Pieces
+pub mod OnePiece

@@ -1,0 +1,16 @@
+//! Cuts a text, as a list of characters, into its pieces: tokens, and the gaps between them.
+#![tactic(auto)]
+
+mod class;
+mod delimiter;
+mod kind;
+mod scan;
+#[cfg(test)]
+mod tests;
+mod text;
+
+pub use delimiter::{closing, opening};
+pub use kind::{Found, Kind};
+pub use scan::piece;
+pub use text::{byte_length, characters, text_of};
+pub use token_core::Delimiter;

@@ -1,0 +1,21 @@
+use Rattle.std.proofs.Common.{◌≡◌, ◌+◌, length, arith}
+use Rattle.std.specs.Str.{encode_utf8_all}
+use Rattle.tok_core.proofs.Before.{Before-step, Before-fits, piece_moved}
+use Rattle.tok_core.proofs.reading.read.Goals as goal
+
+pub overflow_cast-end : goal.overflow_cast-end
+overflow_cast-end c =
+    let i = piece_moved _ _ _ _ _ _ c.in-Some.ensures.found c.split_at.ensures.front c.split_at.ensures.back in
+    omega (arith, c.byte_length.ensures, Before-fits _ _ _ _ c.split_at.result.0.now c.split_at.result.1.now _ c.loop-rest.invariant c.requires i.split)
+
+pub overflow_add-end : goal.overflow_add-end
+overflow_add-end c =
+    let i = piece_moved _ _ _ _ _ _ c.in-Some.ensures.found c.split_at.ensures.front c.split_at.ensures.back in
+    omega (arith, c.byte_length.ensures, Before-fits _ _ _ _ c.split_at.result.0.now c.split_at.result.1.now _ c.loop-rest.invariant c.requires i.split)
+
+pub loop-rest-preserved : goal.loop-rest-preserved
+loop-rest-preserved c =
+    let i = piece_moved _ _ _ _ _ _ c.in-Some.ensures.found c.split_at.ensures.front c.split_at.ensures.back in
+    let end : c.loop-rest.at + c.byte_length.result ≡ c.loop-rest.at + length (encode_utf8_all c.split_at.result.0.now) = omega (arith, c.byte_length.ensures) in
+    let step = c.in_ok-nest.ensures in
+    Before-step c.args.source c.loop-rest.at _ _ _ _ _ _ _ _ c.loop-rest.invariant i end step.flat step.matched

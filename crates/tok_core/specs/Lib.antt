@@ -1,0 +1,5 @@
+pub mod Endings
+pub mod Flat
+pub mod Nests
+pub mod Respan
+pub mod Spells

@@ -1,0 +1,24 @@
+//! Reads a text into tokens.
+//!
+//! A text is cut into pieces, each the longest that starts at its byte. The tokens of the pieces
+//! are the text's; what stands between two matched delimiters is a group. [`lex`] answers with
+//! exactly that stream, or with the byte at which the text stops being one.
+#![tactic(auto)]
+
+mod error;
+mod laws;
+mod nest;
+mod reading;
+mod spans;
+#[cfg(test)]
+mod tests;
+mod token;
+
+pub use error::LexError;
+pub use laws::{flat_tokens_tell_the_stream, pieces_stand_at_their_bytes, text_has_one_reading};
+pub use reading::lex;
+pub use spans::respan;
+pub use token_core::{
+    Boxed, Delimiter, Group, Ident, Items, Lifetime, Literal, Mem, Punct, Span, Text, TokenStream,
+    TokenTree, TryClone,
+};

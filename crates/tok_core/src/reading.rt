@@ -1,0 +1,57 @@
+ghost use Rattle.std.specs.Prelude.{◌≡◌, ◌≤◌, ℕ, length, IfOk, IfErr, Ok, Err};
+ghost use Rattle.std.specs.Str.{chars, encode_utf8_all};
+ghost use Rattle.tok_core.specs.Endings.{Answers, Closes, EndsAt, IsWithin, Refused, deep, wrong};
+ghost use Rattle.tok_core.specs.Spells.{Spells};
+ghost use Rattle.token_core.specs.declared.tree.TokenStream.{TokenStream};
+
+use crate::error::LexError;
+use crate::nest::Nest;
+use scan_core::{byte_length, characters, piece};
+use std::alloc::Global;
+use token_core::TokenStream;
+
+fn read(alloc: Global, source: u32, text: &[char]) -> Result<TokenStream, LexError>
+    requires { length (encode_utf8_all text.now) ≤ 16777216 }
+    ensures spelled { IfOk result (Spells source text.now) }
+    ensures closed { IfOk result Closes }
+    ensures err { IfErr result (Refused source text.now) }
+{
+    let mut rest = text;
+    let mut at = 0u32;
+    let mut nest = Nest::new(alloc);
+    while !rest.is_empty() {
+        let Some(found) = piece(rest) else {
+            return Err(LexError::Syntax { at });
+        };
+        let (front, after) = rest.split_at(found.length);
+        let end = at + byte_length(front) as u32;
+        nest = nest.step(alloc, source, found.kind, front, at, end)?;
+        rest = after;
+        at = end;
+    }
+    nest.finish(at)
+}
+
+/// The tokens of a text of at most 16 MiB. Their spans are bytes of the text, which has the number
+/// `source`.
+///
+/// The first byte at which the text breaks a rule is told: see [`LexError`].
+pub fn lex(alloc: Global, source: u32, text: &str) -> Result<TokenStream, LexError>
+    requires { length text.now ≤ 16777216 }
+
+    // What is read is spelled so, and an error comes where it says.
+    ensures spelled { IfOk result (Spells source (chars text.now)) }
+    ensures within { IfOk result IsWithin }
+    ensures err { IfErr result (Refused source (chars text.now)) }
+
+    // What is spelled so is read, and what is wrong is refused there, unless memory runs out.
+    ensures only { (s : TokenStream) → Spells source (chars text.now) s → IsWithin s
+        → Answers result (Ok s) }
+    ensures too_deep { (at : ℕ) → EndsAt source (chars text.now) at deep
+        → Answers result (Err (LexError.TooDeep at)) }
+    ensures syntax { (at : ℕ) → EndsAt source (chars text.now) at wrong
+        → Answers result (Err (LexError.Syntax at)) }
+{
+    let characters = characters(alloc, text)?;
+    read(alloc, source, characters.as_slice())
+}
