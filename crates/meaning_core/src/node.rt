@@ -8,13 +8,13 @@ pub(crate) fn lit_kind(lit: &Lit) -> &'static str
     ensures { result.now ≡ lit_kind lit.now }
 {
     match lit {
-        Lit::Str(_) => "string",
-        Lit::ByteStr(_) => "byte string",
-        Lit::Byte(_) => "byte",
+        Lit::Bool(_) => "bool",
         Lit::Char(_) => "char",
+        Lit::Str(_) => "string",
+        Lit::Byte(_) => "byte",
+        Lit::ByteStr(_) => "byte string",
         Lit::Int(_) => "int",
         Lit::Float(_) => "float",
-        Lit::Bool(_) => "bool",
         Lit::Verbatim(_) => "verbatim",
     }
 }
