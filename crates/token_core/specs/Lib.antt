@@ -1,2 +1,3 @@
 pub mod Ident
+pub mod Names
 pub mod Span
