@@ -1,105 +1,103 @@
 use crate::{expr_within, type_within};
 use node_core::{
-    Boxed, Expr, ExprPath, GenericArgument, Ident, Items, Mem, Path, PathArguments, PathSegment,
-    Span, Text, TraitBound, Type, TypeArray, TypeInfer, TypeParamBound, TypeTraitObject,
+    Boxed, Expr, GenericArgument, Ident, Items, Mem, Path, PathArguments, PathSegment, Span, Text,
+    TraitBound, Type, TypeInfer, TypeParamBound, TypePath,
 };
 use std::alloc::Global;
 use std::test::Fail;
 
 const SPAN: Span = Span::CallSite;
 
-fn infer() -> Expr {
-    Expr::Infer { span: SPAN }
-}
-
-fn paren(alloc: Global, expr: Expr) -> Mem<Expr> {
-    let expr = Boxed::new(alloc, expr)?;
-    Ok(Expr::Paren { expr, span: SPAN })
-}
-
-fn ident(alloc: Global) -> Mem<Ident> {
-    Ok(Ident {
-        text: Text::from_str(alloc, "a")?,
-        raw: false,
-        span: SPAN,
-    })
+/// `_` in so many parentheses.
+fn in_parentheses(alloc: Global, count: u32) -> Mem<Expr> {
+    let mut node = Expr::Infer { span: SPAN };
+    for _ in 0..count {
+        let expr = Boxed::new(alloc, node)?;
+        node = Expr::Paren { expr, span: SPAN };
+    }
+    Ok(node)
 }
 
 /// The path `a<argument>`.
 fn path_with(alloc: Global, argument: GenericArgument) -> Mem<Path> {
+    let arguments = PathArguments::AngleBracketed(Items::of(alloc, argument)?);
+    let text = Text::new(alloc);
+    let raw = false;
+    let span = SPAN;
     let segment = PathSegment {
-        ident: ident(alloc)?,
-        arguments: PathArguments::AngleBracketed(Items::of(alloc, argument)?),
-        span: SPAN,
+        ident: Ident { text, raw, span },
+        arguments,
+        span,
     };
+    let segments = Items::of(alloc, segment)?;
+    let leading_colon = false;
     Ok(Path {
-        leading_colon: false,
-        segments: Items::of(alloc, segment)?,
-        span: SPAN,
+        leading_colon,
+        segments,
+        span,
     })
 }
 
-/// The argument `a: path`.
-fn bounded(alloc: Global, path: Path) -> Mem<GenericArgument> {
-    let bound = TraitBound {
-        maybe: false,
-        lifetimes: Items::new(alloc),
+/// The argument `a: a<argument>`.
+fn bounded(alloc: Global, argument: GenericArgument) -> Mem<GenericArgument> {
+    let path = path_with(alloc, argument)?;
+    let maybe = false;
+    let lifetimes = Items::new(alloc);
+    let span = SPAN;
+    let bound = TypeParamBound::Trait(TraitBound {
+        maybe,
+        lifetimes,
+        path,
+        span,
+    });
+    let bounds = Items::of(alloc, bound)?;
+    let text = Text::new(alloc);
+    let raw = false;
+    let ident = Ident { text, raw, span };
+    Ok(GenericArgument::Constraint {
+        ident,
+        bounds,
+        span,
+    })
+}
+
+/// The type `a<a: a<a: a<_>>>` with so many bounds.
+fn with_bounds(alloc: Global, count: u32) -> Mem<Type> {
+    let mut argument = GenericArgument::Ty(Type::Infer(TypeInfer { span: SPAN }));
+    for _ in 0..count {
+        argument = bounded(alloc, argument)?;
+    }
+    let path = path_with(alloc, argument)?;
+    let qself = None;
+    Ok(Type::Path(TypePath {
+        qself,
         path,
         span: SPAN,
-    };
-    Ok(GenericArgument::Constraint {
-        ident: ident(alloc)?,
-        bounds: Items::of(alloc, TypeParamBound::Trait(bound))?,
-        span: SPAN,
-    })
-}
-
-fn is_deep(expr: &Expr, depth: u32) -> bool {
-    expr_within(expr, depth) && (depth == 0 || !expr_within(expr, depth - 1))
+    }))
 }
 
 #[test]
-fn expressions(rt: HostRuntime) -> Result<(), Fail> {
+fn parentheses_are_levels(rt: HostRuntime) -> Result<(), Fail> {
     let alloc = rt.alloc();
-    assert!(rt; is_deep(&infer(), 1));
-    assert!(rt; is_deep(&paren(alloc, infer())?, 2));
-    // `(_, (_))`
-    let mut elems = Items::of(alloc, infer())?;
-    elems.push(paren(alloc, infer())?)?;
-    assert!(rt; is_deep(&Expr::Tuple { elems, span: SPAN }, 3));
-    // `a<[_; (_)]>`, where the array is 3 deep
-    let array = Type::Array(TypeArray {
-        elem: Boxed::new(alloc, Type::Infer(TypeInfer { span: SPAN }))?,
-        len: paren(alloc, infer())?,
-        span: SPAN,
-    });
-    let path = ExprPath {
-        qself: None,
-        path: path_with(alloc, GenericArgument::Ty(array))?,
-        span: SPAN,
-    };
-    assert!(rt; is_deep(&Expr::Path(path), 4));
+    for (count, limit, expected) in [
+        (0, 0, false),
+        (0, 1, true),
+        (1, 1, false),
+        (255, 256, true),
+        (256, 256, false),
+    ] {
+        let node = in_parentheses(alloc, count)?;
+        assert_eq!(rt; expr_within(&node, limit), expected, "{count} in {limit}");
+    }
     Ok(())
 }
 
 #[test]
-fn bounds_within_bounds(rt: HostRuntime) -> Result<(), Fail> {
+fn paths_and_bounds_are_levels(rt: HostRuntime) -> Result<(), Fail> {
     let alloc = rt.alloc();
-    // `dyn a<a: a<a: a<_>>>`, as deep as `dyn a<a = impl a<a = impl a<_>>>`
-    let innermost = GenericArgument::Ty(Type::Infer(TypeInfer { span: SPAN }));
-    let inner = bounded(alloc, path_with(alloc, innermost)?)?;
-    let outer = bounded(alloc, path_with(alloc, inner)?)?;
-    let bound = TraitBound {
-        maybe: false,
-        lifetimes: Items::new(alloc),
-        path: path_with(alloc, outer)?,
-        span: SPAN,
-    };
-    let ty = Type::TraitObject(TypeTraitObject {
-        bounds: Items::of(alloc, TypeParamBound::Trait(bound))?,
-        span: SPAN,
-    });
-    assert!(rt; type_within(&ty, 4));
-    assert!(rt; !type_within(&ty, 3));
+    for (count, limit, expected) in [(0, 1, false), (0, 2, true), (2, 3, false), (2, 4, true)] {
+        let node = with_bounds(alloc, count)?;
+        assert_eq!(rt; type_within(&node, limit), expected, "{count} in {limit}");
+    }
     Ok(())
 }
