@@ -1,3 +1,4 @@
+pub mod Error
 pub mod Folds
 pub mod Layers
 pub mod PathText
