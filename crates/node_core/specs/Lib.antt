@@ -1,1 +1,3 @@
+pub mod Error
+pub mod Layers
 pub mod PathText

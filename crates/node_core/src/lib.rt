@@ -14,6 +14,7 @@
 mod attr;
 mod data;
 mod derive;
+mod error;
 mod expr;
 mod generics;
 mod lit;
@@ -28,6 +29,7 @@ pub use data::{
     Visibility,
 };
 pub use derive::DeriveInput;
+pub use error::SynError;
 pub use expr::{BinOp, Expr, ExprArray, ExprClosure, ExprPath, ExprRange, Member, UnOp};
 pub use generics::{
     ConstParam, GenericParam, Generics, LifetimeParam, TraitBound, TypeParam, TypeParamBound,
