@@ -12,6 +12,9 @@ mod fail;
 mod flatten;
 mod iter;
 mod siblings;
+mod text;
+#[cfg(test)]
+mod tests;
 
 pub use accumulator::Accumulator;
 pub use error::Error;
