@@ -35,7 +35,7 @@ flat_shown (told ∷ errors) = ap (λ rest. (codes ", " ++ error_text told) ++ r
 
 pub error_text-of_many : (errors : List Told) (path : List Text) (span : Option Span) → 2 ≤ length errors
     → error_text (of_many errors path span)
-      ≡ (codes "Multiple errors: (" ++ join_by error_text (codes ", ") errors ++ codes ")") ++ path_text path
+    ≡ (codes "Multiple errors: (" ++ join_by error_text (codes ", ") errors ++ codes ")") ++ path_text path
 error_text-of_many [] path span two = absurd (omega arith)
 error_text-of_many (a ∷ []) path span two = absurd (omega arith)
 error_text-of_many (a ∷ b ∷ more) path span two =
@@ -47,5 +47,5 @@ pub OnOk-root : {T E : Type 0} (r : Result T E) (old one two three new lead midd
     → OnOk r (new ≡ old ++ ((lead ++ middle ++ close) ++ path))
 OnOk-root r old one two three new lead middle close path first second third last =
     let whole = third ∙ ap (λ text. text ++ close) (second ∙ ap (λ text. text ++ middle) first ∙ append_assoc old lead middle)
-            ∙ append_assoc old (lead ++ middle) close in
+    ∙ append_assoc old (lead ++ middle) close in
     OnOk-append r old three new (lead ++ middle ++ close) path whole last

@@ -3,3 +3,5 @@ pub mod Changes
 pub mod View
 pub mod Falls
 pub mod Answers
+pub mod NodeKinds
+pub mod Syn

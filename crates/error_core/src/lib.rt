@@ -11,10 +11,10 @@ mod error;
 mod fail;
 mod flatten;
 mod iter;
+mod nodes;
 mod siblings;
+mod syn;
 mod text;
-#[cfg(test)]
-mod tests;
 
 pub use accumulator::Accumulator;
 pub use error::Error;
