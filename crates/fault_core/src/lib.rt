@@ -15,8 +15,9 @@ mod text;
 pub use base_core::{Items, Mem, Text, TryClone};
 pub use fault::Fault;
 pub use kind::FaultKind;
+pub use names::name_set;
 pub use text::{
-    escaped, fault_line, fault_text, push_escaped, push_escaped_char, push_fault_line,
-    push_fault_text, push_span, span_text,
+    escaped, fault_line, fault_text, kind_text, path_text, push_escaped, push_escaped_char,
+    push_fault_line, push_fault_text, push_span, span_text,
 };
 pub use token_core::Span;

@@ -1,5 +1,5 @@
 ghost use Rattle.std.specs.Prelude.{◌≡◌, IfOk};
-ghost use Rattle.fault_core.specs.Kind.{with_names};
+ghost use Rattle.fault_core.specs.Kind.{with_names, set_of};
 
 use base_core::{Mem, Text, TryClone};
 use std::alloc::Global;
@@ -26,4 +26,11 @@ pub(crate) fn add_names(alloc: Global, names: BTreeSet<Text>, more: &[Text]) -> 
         names.insert(name)?;
     }
     Ok(names)
+}
+
+/// The set of copies of the names.
+pub fn name_set(alloc: Global, names: &[Text]) -> Mem<BTreeSet<Text>>
+    ensures { IfOk result (λ set. set ≡ set_of names.now) }
+{
+    add_names(alloc, BTreeSet::new(alloc), names)
 }

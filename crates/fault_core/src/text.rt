@@ -107,6 +107,24 @@ pub fn push_escaped_char(out: &mut Text, c: char) -> Mem<()>
     }
 }
 
+/// What is wrong, without the field.
+pub fn kind_text(alloc: Global, kind: &FaultKind) -> Mem<Text>
+    ensures { IfOk result (λ text. text ≡ kind_text kind.now) }
+{
+    let mut text = Text::new(alloc);
+    push_kind(alloc, &mut text, kind)?;
+    Ok(text)
+}
+
+/// The fields that lead to a fault, as ` at outer/inner`; nothing of no field.
+pub fn path_text(alloc: Global, path: &[Text]) -> Mem<Text>
+    ensures { IfOk result (λ text. text ≡ path_text path.now) }
+{
+    let mut text = Text::new(alloc);
+    push_path(&mut text, path)?;
+    Ok(text)
+}
+
 fn push_kind(alloc: Global, out: &mut Text, kind: &FaultKind) -> Mem<()>
     ensures { OnOk result (out.new ≡ out.old ++ kind_text kind.now) }
 {

@@ -1,0 +1,29 @@
+-- How an error is made, and what each call makes of one.
+use Rattle.std.specs.Prelude.{List, [], ◌∷◌, map, None}
+use Rattle.base_core.specs.declared.text.Text.{Text}
+use Rattle.token_core.specs.declared.span.Span.{Span}
+use Rattle.fault_core.specs.declared.kind.FaultKind.{FaultKind}
+use Rattle.fault_core.specs.Fault.{plain, or_span, span_or}
+use Rattle.fault_core.specs.Fault as faults
+use Rattle.error_core.specs.Told.{Told, One, Several, part_of}
+
+-- the one fault of this kind, in no field and at no place
+abbrev pub leaf : FaultKind → Told
+leaf kind = One (plain kind)
+
+-- the root's span is set where it has none
+abbrev pub spanned : Told → Span → Told
+spanned (One fault) span = One (or_span fault span)
+spanned (Several path own a b more) span = Several path (span_or own span) a b more
+
+-- the location in front of the root's
+abbrev pub located : Told → Text → Told
+located (One fault) name = One (faults.located fault name)
+located (Several path span a b more) name = Several (name ∷ path) span a b more
+
+-- the one error of a list of one; the errors of a longer list as the children of a root in no field and
+-- at no place (of no errors nothing is made: `other` stands there)
+abbrev pub joined : List Told → Told → Told
+joined [] other = other
+joined (a ∷ []) other = a
+joined (a ∷ b ∷ more) other = Several [] None (part_of a) (part_of b) (map part_of more)

@@ -1,0 +1,33 @@
+-- What an error's fields show, and what they keep.
+use Rattle.std.specs.Prelude.{◌≡◌, ◌≤◌, List, [], ◌∷◌, length, map, Option}
+use Rattle.base_core.specs.declared.text.Text.{Text}
+use Rattle.token_core.specs.declared.span.Span.{Span}
+use Rattle.fault_core.specs.declared.kind.FaultKind.TheVariants.{Custom}
+use Rattle.error_core.specs.declared.error.Node.{Node}
+use Rattle.error_core.specs.declared.error.Node.TheVariants.{Leaf, Many}
+use Rattle.error_core.specs.declared.error.Error.TheInside.{Inside}
+use Rattle.error_core.specs.Told.{Told, One, Several, part_of, leaves}
+
+-- a root over these children, of which there are two at least
+abbrev pub of_many : List Told → List Text → Option Span → Told
+of_many (a ∷ b ∷ more) path span = Several path span (part_of a) (part_of b) (map part_of more)
+of_many _ path span = One (record { kind = Custom []; path = path; span = span })
+
+-- a root of this node
+abbrev pub of_node : Node → List Text → Option Span → Told
+of_node (Leaf kind) path span = One (record { kind = kind; path = path; span = span })
+of_node (Many kids) path span = of_many kids.items path span
+
+-- the error that the fields show
+abbrev pub told : Inside → Told
+told inside = of_node inside.node inside.locations inside.span
+
+-- an inner node has two children at least
+abbrev pub IsNode : Node → Type 0
+IsNode (Leaf kind) = Unit {0}
+IsNode (Many kids) = 2 ≤ length kids.items
+
+-- what every error keeps
+pub record IsError (inside : Inside) : Type 0 where
+  pub node : IsNode inside.node
+  pub counted : inside.count ≡ length (leaves (told inside))

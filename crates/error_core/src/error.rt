@@ -1,0 +1,151 @@
+ghost use Rattle.std.specs.Prelude.{◌≡◌, ◌+◌, ◌<◌, ◌≤◌, [], ◌∷◌, length, flat_map, IfOk, IsTrue, ◌↔◌, IsSome, sum_by};
+ghost use Rattle.std.specs.Option.{unwrap_or};
+ghost use Rattle.fault_core.specs.Faults.{span_one, at};
+ghost use Rattle.error_core.specs.Told.{One, leaves, span_of, held};
+ghost use Rattle.error_core.specs.Changes.{spanned, located, joined};
+
+use fault_core::{Fault, FaultKind, Items, Mem, Span, Text};
+use std::alloc::{AllocError, Global};
+use std::marker::Model;
+
+/// What is wrong with an input: at least one fault. An error is a leaf with one fault, or a root over
+/// at least two errors; either has the names of the fields that lead to it, and perhaps a place.
+#[cycle(error)]
+#[derive(Drop)]
+pub struct Error {
+    pub(crate) node: Node,
+    pub(crate) locations: Items<Text>,
+    pub(crate) span: Option<Span>,
+    // The number of leaves: `len` takes no memory, and a sum over the tree might not fit.
+    pub(crate) count: usize,
+}
+
+#[cycle(error)]
+#[derive(Drop)]
+pub(crate) enum Node {
+    Leaf(FaultKind),
+    Many(Vec<Error>),
+}
+
+impl Model for Error {
+    ghost use Rattle.std.specs.Prelude.{length};
+    ghost use Rattle.error_core.specs.Told.{Told, leaves};
+
+    ghost Value = { Told };
+
+    ghost use Rattle.error_core.specs.View.{told, IsError};
+
+    ghost view = { told };
+
+    ghost invariant = { IsError };
+
+    ghost size = { λ told. length (leaves told) };
+
+    ghost use Rattle.error_core.specs.Falls.{falls};
+
+    ghost size_decreases = { λ inside is. falls inside.node inside.locations inside.span is.node };
+}
+
+impl Error {
+    pub(crate) fn from_fault(fault: Fault) -> Error
+        ensures { result ≡ One fault }
+    {
+        let Fault { kind, path, span } = fault;
+        Error {
+            node: Node::Leaf(kind),
+            locations: path,
+            span,
+            count: 1,
+        }
+    }
+
+    /// The one error of a list of one; the errors of a longer list as the children of one root. A
+    /// number of faults that no `usize` holds is want of memory, which drops the errors.
+    pub fn multiple(alloc: Global, errors: Vec<Error>) -> Mem<Error>
+        requires { 0 < length errors.items }
+        ensures told { IfOk result (λ error. error ≡ joined errors.items error) }
+        ensures leaves { IfOk result (λ error. leaves error ≡ flat_map leaves errors.items) }
+    {
+        if errors.len() == 1 {
+            return Ok(only(errors));
+        }
+        let count = count_all(&errors)?;
+        Ok(Error {
+            node: Node::Many(errors),
+            locations: Items::new(alloc),
+            span: None,
+            count,
+        })
+    }
+
+    /// The number of faults; never 0.
+    pub fn len(&self) -> usize
+        ensures { result ≡ length (leaves self.now) }
+    {
+        self.count
+    }
+
+    /// Whether the root has a place.
+    pub fn has_span(&self) -> bool
+        ensures { IsTrue result ↔ IsSome (span_of self.now) }
+    {
+        self.span.is_some()
+    }
+
+    /// The place of the root, where it has one.
+    pub fn explicit_span(&self) -> Option<Span>
+        ensures { result ≡ span_of self.now }
+    {
+        self.span
+    }
+
+    /// The place of the root, or [`Span::CallSite`].
+    pub fn span(&self) -> Span
+        ensures { result ≡ unwrap_or (span_of self.now) Span.CallSite }
+    {
+        self.span.unwrap_or(Span::CallSite)
+    }
+
+    /// Puts the root at this place, where it has none; children keep theirs.
+    pub fn with_span_at(mut self, span: Span) -> Error
+        ensures told { result ≡ spanned self span }
+        ensures leaves { leaves result ≡ span_one (leaves self) span }
+    {
+        if self.span.is_none() {
+            self.span = Some(span);
+        }
+        self
+    }
+
+    /// The error one field further in: the location stands in front of the root's. Want of memory
+    /// drops the error.
+    pub fn at(mut self, alloc: Global, location: &str) -> Mem<Error>
+        ensures told { IfOk result (λ error. error ≡ located self location.now) }
+        ensures leaves { IfOk result (λ error. leaves error ≡ at (leaves self) location.now) }
+    {
+        let name = Text::from_str(alloc, location)?;
+        self.locations.insert(0, name)?;
+        Ok(self)
+    }
+}
+
+fn only(errors: Vec<Error>) -> Error
+    requires { length errors.items ≡ 1 }
+    ensures { errors.items ≡ result ∷ [] }
+{
+    let mut errors = errors;
+    match errors.pop() {
+        Some(error) => error,
+        None => unreachable!(),
+    }
+}
+
+fn count_all(errors: &[Error]) -> Mem<usize>
+    ensures { IfOk result (λ count. count ≡ sum_by (λ told. length (leaves told)) errors.now) }
+{
+    let mut count: usize = 0;
+    for error in errors {
+        count = count.checked_add(error.len()).ok_or(AllocError)?;
+    }
+    Ok(count)
+}

@@ -1,0 +1,53 @@
+ghost use Rattle.std.specs.Prelude.{◌≡◌, ◌++◌, map, length, IfOk, OnOk};
+ghost use Rattle.error_core.specs.Told.{leaves, below};
+
+use crate::error::{Error, Node};
+use fault_core::{Fault, Items, Mem, Text};
+use std::alloc::Global;
+
+impl Error {
+    /// The faults from left to right, each with the locations from the root inwards and with its own
+    /// place.
+    pub fn into_faults(self, alloc: Global) -> Mem<Items<Fault>>
+        ensures { IfOk result (λ faults. faults ≡ leaves self) }
+    {
+        let mut faults = Items::new(alloc);
+        gather(self, alloc, &[], &mut faults)?;
+        Ok(faults)
+    }
+
+    /// The same faults, each a child of the root.
+    pub fn flatten(self, alloc: Global) -> Mem<Error>
+        ensures { IfOk result (λ error. leaves error ≡ leaves self) }
+    {
+        let faults = self.into_faults(alloc)?;
+        let mut errors = Vec::new(alloc);
+        for fault in faults.into_vec() {
+            errors.push(Error::from_fault(fault))?;
+        }
+        Error::multiple(alloc, errors)
+    }
+}
+
+/// Puts the faults of the error behind the others, each with the path `above` in front of its own.
+fn gather(error: Error, alloc: Global, above: &[Text], faults: &mut Items<Fault>) -> Mem<()>
+    ensures { OnOk result (faults.new ≡ faults.old ++ map (below above.now) (leaves error)) }
+{
+    let Error {
+        node,
+        locations,
+        span,
+        count: _,
+    } = error;
+    let mut path = Items::from_slice(alloc, above)?;
+    path.append(locations)?;
+    match node {
+        Node::Leaf(kind) => faults.push(Fault { kind, path, span }),
+        Node::Many(errors) => {
+            for child in errors {
+                gather(child, alloc, path.as_slice(), faults)?;
+            }
+            Ok(())
+        }
+    }
+}

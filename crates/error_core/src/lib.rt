@@ -1,0 +1,23 @@
+//! Errors: one fault or many, collected while a whole input is read.
+//!
+//! An [`Error`] is a tree that is never empty, and contracts see its faults from left to right. An
+//! [`Accumulator`] collects errors and must be spent. [`Fail`] is why a call gives no value: faults,
+//! or want of memory, which is never collected as a fault.
+#![tactic(auto)]
+
+mod accumulator;
+mod create;
+mod error;
+mod fail;
+mod flatten;
+mod iter;
+mod nodes;
+mod siblings;
+mod syn;
+mod text;
+
+pub use accumulator::Accumulator;
+pub use error::Error;
+pub use fail::{Fail, Result};
+pub use fault_core::{Fault, FaultKind, Items, Mem, Span, Text, TryClone};
+pub use iter::IntoIter;
