@@ -33,7 +33,29 @@ pub(crate) fn continues_name(c: char) -> bool
 pub(crate) fn is_mark(c: char) -> bool
     ensures { result ≡ characters.is_mark c }
 {
-    "+-*/%^!&|=<>@.,;:#$?~".contains(c)
+    matches!(
+        c,
+        '+' | '-'
+            | '*'
+            | '/'
+            | '%'
+            | '^'
+            | '!'
+            | '&'
+            | '|'
+            | '='
+            | '<'
+            | '>'
+            | '@'
+            | '.'
+            | ','
+            | ';'
+            | ':'
+            | '#'
+            | '$'
+            | '?'
+            | '~'
+    )
 }
 
 /// Whether a line goes on with this character.

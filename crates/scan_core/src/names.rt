@@ -1,5 +1,5 @@
 //! Identifiers and lifetimes.
-ghost use Rattle.std.specs.Prelude.{◌≡◌, ◌≤◌, ◌<◌, ◌+◌, ℕ, Option, length, take, drop, slice_index, IfSome};
+ghost use Rattle.std.specs.Prelude.{◌≡◌, ◌+◌, ℕ, Option, false, length, take, drop, slice_index};
 ghost use Rattle.scan_core.specs.Names as names;
 ghost use Rattle.scan_core.specs.Scan as spec;
 

@@ -1,5 +1,5 @@
 //! Numbers.
-ghost use Rattle.std.specs.Prelude.{◌≡◌, ◌≤◌, ◌<◌, ◌+◌, ◌^◌, ℕ, length, take, drop, slice_index, IfSome, nat_lt, ◌==◌};
+ghost use Rattle.std.specs.Prelude.{◌≡◌, ◌≤◌, ◌<◌, ◌+◌, ◌^◌, ℕ, length, take, drop, slice_index, IfSome, nat_lt, nat_le, ◌==◌, true};
 ghost use Rattle.std.specs.List.{list_any, list_all, count_by};
 ghost use Rattle.std.specs.Char.{digit_value, is_digit, is_ascii_hexdigit};
 ghost use Rattle.scan_core.specs.Characters as characters;
@@ -49,20 +49,24 @@ fn is_scalar(n: u128) -> bool
     n < 0xD800 || (0xE000 <= n && n < 0x11_0000)
 }
 
-fn count_hex(digits: &[char]) -> usize
-    ensures { result ≡ count_by is_ascii_hexdigit digits.now }
+/// Whether there are six hexadecimal digits at most.
+fn has_few_digits(digits: &[char]) -> bool
+    ensures { result ≡ nat_le (count_by is_ascii_hexdigit digits.now) 6 }
 {
-    digits.iter().filter(|c| c.is_ascii_hexdigit()).count()
+    digits.iter().filter(|c| c.is_ascii_hexdigit()).count() <= 6
 }
 
 /// Whether these digits are the number of a character that an escape may have.
 pub(crate) fn is_number_of_character(digits: &[char]) -> bool
     ensures { result ≡ escapes.is_number_of_character digits.now }
 {
-    begins_hex(digits)
-        && digits.iter().all(|c| in_hex(*c))
-        && count_hex(digits) <= 6
-        && is_scalar_number(digits)
+    begins_hex(digits) && all_hex(digits) && has_few_digits(digits) && is_scalar_number(digits)
+}
+
+fn all_hex(digits: &[char]) -> bool
+    ensures { result ≡ list_all escapes.in_hex digits.now }
+{
+    digits.iter().all(|c| in_hex(*c))
 }
 
 fn begins_hex(text: &[char]) -> bool

@@ -1,5 +1,5 @@
 //! Literals between quotes.
-ghost use Rattle.std.specs.Prelude.{◌≡◌, ◌≤◌, ◌<◌, ◌+◌, ◌-◌, ℕ, length, take, drop, slice_index, IfSome, ◌==◌, ◌&&◌};
+ghost use Rattle.std.specs.Prelude.{◌≡◌, ◌≤◌, ◌<◌, ◌+◌, ◌-◌, ℕ, length, take, drop, slice_index, IfSome, ◌==◌, ◌&&◌, false, true};
 ghost use Rattle.scan_core.specs.Strings as strings;
 ghost use Rattle.scan_core.specs.Escapes as escapes;
 ghost use Rattle.scan_core.specs.Scan as spec;
@@ -59,7 +59,7 @@ pub(crate) fn string_length(byte: bool, text: &[char]) -> Option<usize>
 {
     let mut i = 1;
     while i < text.len() {
-        let c = text[i];
+        let c = at(text, i);
         if c == '"' {
             return Some(i + 1);
         }
@@ -81,6 +81,7 @@ pub(crate) fn string_length(byte: bool, text: &[char]) -> Option<usize>
 /// Whether a `"` and so many `#` begin the text.
 fn closes(hashes: usize, text: &[char]) -> bool
     ensures value { result ≡ strings.closes hashes text.now }
+    ensures within { result ≡ true → hashes < length text.now }
 {
     match text {
         [] => false,

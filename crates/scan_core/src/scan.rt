@@ -1,5 +1,5 @@
 //! The piece at the front of a text.
-ghost use Rattle.std.specs.Prelude.{◌≡◌, ◌≤◌, ◌<◌, ℕ, length, take, drop, slice_index, IfSome, IfNone};
+ghost use Rattle.std.specs.Prelude.{◌≡◌, ◌≤◌, ◌<◌, ℕ, length, take, drop, slice_index, IfSome, IfNone, false};
 ghost use Rattle.scan_core.specs.Characters.{Characters};
 ghost use Rattle.scan_core.specs.Pieces.{IsPieceAt};
 ghost use Rattle.scan_core.specs.Pieces as pieces;
