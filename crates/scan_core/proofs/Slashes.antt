@@ -31,7 +31,7 @@ front-mark c after h =
       | true ↦ λ e.
           let other : (eqb (slice_index after 0) 47 || eqb (slice_index after 0) 42) ≡ false = sym (ap (λ b. b && (eqb (slice_index after 0) 47 || eqb (slice_index after 0) 42)) e) ∙ none in
           subst (λ c. front (c ∷ after) ≡ found (kind.Mark (goes_on after)) 1) (sym (eqb-true c 47 e)) (
-            front-head 47 after head.Slash head_of-slash ∙ no_comment (eqb (slice_index after 0) 47) (eqb (slice_index after 0) 42) _ _ _ other,
+          front-head 47 after head.Slash head_of-slash ∙ no_comment (eqb (slice_index after 0) 47) (eqb (slice_index after 0) 42) _ _ _ other
           )
       | false ↦ λ e. front-head c after head.Mark (head_of-mark c parts.0 e)
     ] refl
@@ -70,9 +70,9 @@ Finds-line doc text after h =
     let size : 2 + prefix_len is_in_line (body ++ after) ≡ length (47 ∷ 47 ∷ body) = omega (arith, run) in
     let is : documents (47 ∷ 47 ∷ (body ++ after)) ≡ doc = documents-append body after h.3 ∙ ap documents (sym h.1) ∙ h.4 in
     subst (λ (t : Characters). Finds (cond doc kind.Doc kind.Comment) t after) (sym h.1) (
-      front-head 47 (47 ∷ (body ++ after)) head.Slash head_of-slash
-      ∙ ap (λ b. found (cond b kind.Doc kind.Comment) (2 + prefix_len is_in_line (body ++ after))) is
-      ∙ ap (found (cond doc kind.Doc kind.Comment)) size,
+    front-head 47 (47 ∷ (body ++ after)) head.Slash head_of-slash
+    ∙ ap (λ b. found (cond b kind.Doc kind.Comment) (2 + prefix_len is_in_line (body ++ after))) is
+    ∙ ap (found (cond doc kind.Doc kind.Comment)) size
     )
 
 Sound-line : (cs : Characters) → Sound (47 ∷ 47 ∷ cs) (record { kind = cond (documents (47 ∷ 47 ∷ cs)) kind.Doc kind.Comment; length = 2 + prefix_len is_in_line cs })
@@ -116,7 +116,7 @@ Finds-block text after h =
     let body : Characters = h.0 in
     let size : 2 + length body ≡ length (47 ∷ 42 ∷ body) = omega arith in
     subst (λ (t : Characters). Finds kind.Comment t after) (sym h.1) (
-      front-head 47 (42 ∷ (body ++ after)) head.Slash head_of-slash ∙ ap comment (comment_end-more 1 2 (2 + length body) body after h.2) ∙ ap (found kind.Comment) size,
+    front-head 47 (42 ∷ (body ++ after)) head.Slash head_of-slash ∙ ap comment (comment_end-more 1 2 (2 + length body) body after h.2) ∙ ap (found kind.Comment) size
     )
 
 pub Finds-comment : (text after : Characters) → IsPiece kind.Comment text after → Finds kind.Comment text after
