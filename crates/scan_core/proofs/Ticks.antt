@@ -28,7 +28,10 @@ ticked_length-append byte text after h = ⊎_elim (λ s. subst P (sym s.1) (sing
     P text = ticked_length byte (text ++ after) ≡ Some (length text)
 
     single : (c : ℕ) → is_single byte c ≡ true → P (39 ∷ c ∷ 39 ∷ [])
-    single c h = rw (single-other byte c 92 h (single-backslash byte), h) refl
+    single c h = pick _ _ _ _ _ (single-other byte c 92 h (single-backslash byte)) h
+      where
+        pick : {A : Type 0} (b d : Bool) (x y z : A) → b ≡ false → d ≡ true → cond b x (cond (d && true) y z) ≡ y
+        pick b d x y z h k = rw (h, k) refl
 
     escape : (e : Characters) → IsEscape byte e → P (39 ∷ 92 ∷ (e ++ 39 ∷ []))
     escape e i =
