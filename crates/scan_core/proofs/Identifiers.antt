@@ -1,23 +1,22 @@
 -- Identifiers, and literals with a prefix, are found, and what is found as such is.
-use Rattle.std.proofs.Common.{◌≡◌, ℕ, zero, suc, ◌+◌, ◌<◌, ◌≤◌, ◌⊎◌, inl, inr, ⊎_elim, Bool, true, false, not, cond, ◌&&◌, eqb, nat_le, [], ◌∷◌, ◌++◌, length, take, drop, slice_index, Option, Some, None, refl, sym, ap, ◌∙◌, subst, arith, length-append}
+use Rattle.std.proofs.Common.{◌≡◌, ℕ, zero, suc, ◌+◌, ◌<◌, ◌≤◌, inl, inr, ⊎_elim, Bool, true, false, not, cond, ◌&&◌, eqb, nat_le, [], ◌∷◌, ◌++◌, length, take, drop, slice_index, Option, Some, None, refl, sym, ap, ◌∙◌, subst, arith}
 use Rattle.std.proofs.Math.Seq.{take-append_seam}
-use Rattle.std.proofs.lemmas.Bool.{and_parts, and_from, not-true, eqb-true, true≢false, false≢true}
+use Rattle.std.proofs.lemmas.Bool.{and_parts, and_from, not-true, eqb-true, false≢true}
 use Rattle.std.proofs.lemmas.List.{take-append-drop}
 use Rattle.std.proofs.lemmas.List.Folds.{length-prefix_len}
 use Rattle.std.specs.List.{concat, list_all, prefix_len}
 use Rattle.scan_core.specs.Names.{starts_name, continues_name, is_name, is_reserved}
-use Rattle.scan_core.specs.Characters.{Characters, begins, continues}
+use Rattle.scan_core.specs.Characters.{Characters, begins}
 use Rattle.scan_core.specs.Strings.{IsString, IsRaw, IsTicked, IsPrefixed, is_hash, hashes}
-use Rattle.scan_core.specs.Pieces.{IsPiece, IsRawName}
-use Rattle.scan_core.specs.Scan.{found, front, plus, raw_end, raw_length, string_length, ticked_length, prefixed_length, raw_name_length, named, worded}
+use Rattle.scan_core.specs.Pieces.{IsRawName}
+use Rattle.scan_core.specs.Scan.{front, plus, raw_end, raw_length, string_length, ticked_length, prefixed_length, raw_name_length, named, worded}
 use Rattle.scan_core.proofs.Answers.{Finds, Reaches, Sound, Sound-same, front-head}
 use Rattle.scan_core.proofs.Heads.{head_of-name, head_of-r, head_of-b, starts-continues, starts-other, hash-starts, quote-starts, hash-continues, quote-continues, tick-continues}
 use Rattle.scan_core.proofs.Items.{string_length-append, string-front}
-use Rattle.scan_core.proofs.Lists.{prefix_len-run, prefix_len-le_one, prefix_len-le_two, length-le-prefix_len, list_all-take_prefix, begins-drop_prefix, drop-get}
+use Rattle.scan_core.proofs.Lists.{prefix_len-run, prefix_len-le_one, prefix_len-le_two, length-le-prefix_len, list_all-take_prefix, begins-drop_prefix}
 use Rattle.scan_core.proofs.Raws.{raw_length-append, raw-front}
 use Rattle.scan_core.proofs.Ticks.{ticked_length-append, ticked-front}
 use Rattle.scan_core.specs.declared.kind.Found.{Found}
-use Rattle.scan_core.specs.declared.kind.Kind.{Kind}
 use Rattle.scan_core.specs.declared.kind.Kind.TheVariants as kind
 use Rattle.scan_core.specs.declared.scan.Head.TheVariants as head
 
@@ -126,6 +125,9 @@ prefixed-longer text after h = ⊎_elim
 
     after_two : (c : ℕ) (cs : Characters) → text ≡ 98 ∷ 114 ∷ c ∷ cs → continues_name c ≡ false → prefix_len continues_name (text ++ after) < length text
     after_two c cs e h = omega (arith, ap length e, ap (λ z. prefix_len continues_name (z ++ after)) e, prefix_len-le_two continues_name 98 114 c (cs ++ after) h)
+
+pub prefixed-nonempty : (text : Characters) → IsPrefixed text → 1 ≤ length text
+prefixed-nonempty text h = omega (arith, prefixed-longer text [] h)
 
 -- it is read whole
 prefixed_length-append : (text after : Characters) → IsPrefixed text → prefixed_length (text ++ after) ≡ Some (length text)

@@ -1,16 +1,16 @@
 -- Strings are read whole, and what is read as such is one.
-use Rattle.std.proofs.Common.{◌≡◌, ℕ, zero, suc, ◌+◌, ◌<◌, ◌≤◌, ◌⊎◌, inl, inr, ⊎_elim, Bool, true, false, not, cond, ◌&&◌, ◌||◌, eqb, List, [], ◌∷◌, ◌++◌, length, take, drop, slice_index, Option, Some, None, refl, sym, ap, ◌∙◌, subst, arith, length-append, append_assoc}
+use Rattle.std.proofs.Common.{◌≡◌, ℕ, zero, suc, ◌+◌, ◌<◌, ◌≤◌, ◌⊎◌, inl, inr, ⊎_elim, Bool, true, false, cond, eqb, List, [], ◌∷◌, ◌++◌, length, take, drop, slice_index, Some, None, refl, sym, ap, ◌∙◌, subst, arith, length-append, append_assoc}
 use Rattle.std.proofs.Math.Seq.{drop-append_seam}
-use Rattle.std.proofs.lemmas.Bool.{and_parts, and_from, or_parts, not-true, eqb-true, true≢false, false≢true}
+use Rattle.std.proofs.lemmas.Bool.{and_parts, or_parts, not-true, eqb-true, true≢false}
 use Rattle.std.proofs.lemmas.Bool.Decides.{nat_tests}
 use Rattle.std.proofs.lemmas.List.{take-append-drop}
 use Rattle.std.proofs.lemmas.List.Folds.{length-prefix_len}
-use Rattle.std.specs.List.{concat, list_all, list_any, prefix_len}
+use Rattle.std.specs.List.{concat, list_all, prefix_len}
 use Rattle.scan_core.specs.Characters.{Characters, begins}
 use Rattle.scan_core.specs.Escapes.{IsEscape, is_short}
 use Rattle.scan_core.specs.Strings.{IsItem, AreItems, IsString, fits, is_plain, is_blank}
 use Rattle.scan_core.specs.Scan.{escape_length, item_length, string_end, string_length}
-use Rattle.scan_core.proofs.Escapes.{escape_length-append, escape-nonempty, EscapeFront, escape-front}
+use Rattle.scan_core.proofs.Escapes.{escape_length-append, escape-nonempty, escape-front}
 use Rattle.scan_core.proofs.Lists.{prefix_len-run, list_all-take_prefix, begins-drop_prefix}
 use Rattle.scan_core.proofs.Steps.{string_end-skip}
 

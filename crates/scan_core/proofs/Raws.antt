@@ -1,10 +1,10 @@
 -- Raw forms are read whole, and what is read as such is one.
-use Rattle.std.proofs.Common.{◌≡◌, ℕ, zero, suc, ◌+◌, ◌<◌, ◌≤◌, Bool, true, false, not, cond, ◌&&◌, ◌||◌, eqb, nat_le, List, [], ◌∷◌, ◌++◌, length, take, drop, get_or, slice_index, Option, Some, None, refl, sym, ap, ◌∙◌, subst, arith, length-append, append_assoc, replicate}
+use Rattle.std.proofs.Common.{◌≡◌, ℕ, zero, suc, ◌+◌, ◌≤◌, Bool, true, false, not, cond, ◌&&◌, eqb, nat_le, [], ◌∷◌, ◌++◌, length, drop, slice_index, Some, None, refl, sym, ap, ◌∙◌, subst, arith, length-append, append_assoc}
 use Rattle.std.proofs.Math.Seq.{drop-append_seam}
-use Rattle.std.proofs.lemmas.Bool.{and_parts, and_from, not-true, eqb-true, true≢false, false≢true, leb-true, le-leb}
-use Rattle.std.proofs.lemmas.List.{take-append-drop, length-replicate}
+use Rattle.std.proofs.lemmas.Bool.{and_parts, and_from, not-true, eqb-true, leb-true, le-leb}
+use Rattle.std.proofs.lemmas.List.{length-replicate}
 use Rattle.std.specs.List.{list_all, prefix_len}
-use Rattle.scan_core.specs.Characters.{Characters, begins}
+use Rattle.scan_core.specs.Characters.{Characters}
 use Rattle.scan_core.specs.Strings.{IsRaw, fits, is_hash, hashes, closes, stays_open}
 use Rattle.scan_core.specs.Scan.{raw_end, raw_length}
 use Rattle.scan_core.proofs.Lists.{prefix_len-append_all, prefix_len-begins, get_or-append_length, drop-get}

@@ -1,9 +1,9 @@
 -- Comments and marks are found, and what is found as such is.
-use Rattle.std.proofs.Common.{◌≡◌, ℕ, zero, suc, ◌+◌, ◌-◌, ◌≤◌, ◌⊎◌, inl, inr, ⊎_elim, Bool, true, false, not, cond, ◌&&◌, ◌||◌, eqb, [], ◌∷◌, ◌++◌, length, take, drop, get_or, slice_index, Option, Some, None, refl, sym, ap, ◌∙◌, subst, arith}
+use Rattle.std.proofs.Common.{◌≡◌, ℕ, ◌+◌, ◌-◌, inl, inr, ⊎_elim, Bool, true, false, not, cond, ◌&&◌, ◌||◌, eqb, [], ◌∷◌, ◌++◌, length, take, drop, slice_index, Option, Some, None, refl, sym, ap, ◌∙◌, subst, arith}
 use Rattle.std.proofs.lemmas.Bool.{and_parts, not-true, eqb-true, true≢false}
 use Rattle.std.proofs.lemmas.List.{take-append-drop}
 use Rattle.std.proofs.lemmas.List.Folds.{length-prefix_len}
-use Rattle.std.specs.List.{list_all, prefix_len}
+use Rattle.std.specs.List.{prefix_len}
 use Rattle.scan_core.specs.Characters.{Characters, begins, is_mark}
 use Rattle.scan_core.specs.Comments.{IsLineComment, IsBlockComment, is_in_line, ends_line, documents, comment_end}
 use Rattle.scan_core.specs.Pieces.{IsPiece, begins_mark, goes_on}
@@ -12,7 +12,6 @@ use Rattle.scan_core.proofs.Answers.{Finds, Finds-one, Sound, Sound-same, front-
 use Rattle.scan_core.proofs.Heads.{head_of-mark, head_of-slash}
 use Rattle.scan_core.proofs.Lists.{prefix_len-run, list_all-take_prefix, begins-drop_prefix}
 use Rattle.scan_core.specs.declared.kind.Found.{Found}
-use Rattle.scan_core.specs.declared.kind.Kind.{Kind}
 use Rattle.scan_core.specs.declared.kind.Kind.TheVariants as kind
 use Rattle.scan_core.specs.declared.scan.Head.TheVariants as head
 

@@ -1,11 +1,10 @@
 -- Characters and bytes are read whole, and what is read as such is one.
-use Rattle.std.proofs.Common.{◌≡◌, ℕ, zero, suc, ◌+◌, ◌<◌, ◌≤◌, ◌⊎◌, inl, inr, ⊎_elim, Bool, true, false, not, cond, ◌&&◌, ◌||◌, eqb, nat_lt, List, [], ◌∷◌, ◌++◌, length, take, drop, get_or, slice_index, Option, Some, None, refl, sym, ap, ◌∙◌, subst, arith, length-append, append_assoc}
-use Rattle.std.proofs.lemmas.Bool.{and_parts, and_from, not-true, eqb-true, true≢false, false≢true}
+use Rattle.std.proofs.Common.{◌≡◌, ℕ, suc, ◌+◌, ◌<◌, inl, inr, ⊎_elim, Bool, true, false, cond, ◌&&◌, eqb, nat_lt, [], ◌∷◌, ◌++◌, length, drop, get_or, slice_index, Some, None, refl, sym, ap, ◌∙◌, subst, arith, length-append, append_assoc}
+use Rattle.std.proofs.lemmas.Bool.{and_parts, and_from, eqb-true, true≢false, false≢true}
 use Rattle.std.proofs.lemmas.Bool.Decides.{nat_tests}
-use Rattle.std.specs.List.{list_any}
 use Rattle.scan_core.specs.Characters.{Characters}
 use Rattle.scan_core.specs.Escapes.{IsEscape}
-use Rattle.scan_core.specs.Strings.{IsTicked, fits, is_single}
+use Rattle.scan_core.specs.Strings.{IsTicked, is_single}
 use Rattle.scan_core.specs.Scan.{escape_length, ticked_length}
 use Rattle.scan_core.proofs.Escapes.{escape_length-append, escape-nonempty, escape-front}
 use Rattle.scan_core.proofs.Lists.{get_or-append_length, drop-get}
