@@ -4,6 +4,7 @@
 mod class;
 mod comments;
 mod delimiter;
+mod ends;
 mod kind;
 mod names;
 mod numbers;
