@@ -1,5 +1,6 @@
 pub mod Endings
 pub mod Flat
 pub mod Nests
+pub mod Printing
 pub mod Respan
 pub mod Spells

@@ -8,6 +8,7 @@
 mod error;
 mod laws;
 mod nest;
+mod printing;
 mod reading;
 mod spans;
 #[cfg(test)]
@@ -16,6 +17,7 @@ mod token;
 
 pub use error::LexError;
 pub use laws::{flat_tokens_tell_the_stream, pieces_stand_at_their_bytes, text_has_one_reading};
+pub use printing::to_text;
 pub use reading::lex;
 pub use spans::respan;
 pub use token_core::{
