@@ -6,3 +6,4 @@ pub mod Trees
 pub mod Outcomes
 pub mod Lists
 pub mod AtBytes
+pub mod Respanned

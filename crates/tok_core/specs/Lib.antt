@@ -1,3 +1,4 @@
+pub mod Bare
 pub mod Endings
 pub mod Flat
 pub mod Nests

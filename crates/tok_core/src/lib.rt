@@ -16,7 +16,10 @@ mod tests;
 mod token;
 
 pub use error::LexError;
-pub use laws::{flat_tokens_tell_the_stream, pieces_stand_at_their_bytes, text_has_one_reading};
+pub use laws::{
+    flat_tokens_tell_the_stream, one_span_keeps_the_tokens, pieces_stand_at_their_bytes,
+    text_has_one_reading,
+};
 pub use printing::to_text;
 pub use reading::lex;
 pub use spans::respan;
