@@ -7,3 +7,4 @@ pub mod Outcomes
 pub mod Lists
 pub mod AtBytes
 pub mod Respanned
+pub mod SmallTexts

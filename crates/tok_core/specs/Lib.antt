@@ -4,4 +4,5 @@ pub mod Flat
 pub mod Nests
 pub mod Printing
 pub mod Respan
+pub mod Small
 pub mod Spells

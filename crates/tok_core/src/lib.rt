@@ -10,6 +10,7 @@ mod laws;
 mod nest;
 mod printing;
 mod reading;
+mod small;
 mod spans;
 #[cfg(test)]
 mod tests;
@@ -22,6 +23,7 @@ pub use laws::{
 };
 pub use printing::to_text;
 pub use reading::lex;
+pub use small::is_small;
 pub use spans::respan;
 pub use token_core::{
     Boxed, Delimiter, Group, Ident, Items, Lifetime, Literal, Mem, Punct, Span, Text, TokenStream,
