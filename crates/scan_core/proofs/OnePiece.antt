@@ -3,9 +3,9 @@ use Rattle.std.proofs.Common.{◌≡◌, ◌≤◌, [], ◌++◌, length, take, 
 use Rattle.std.proofs.Math.Seq.{take-append_seam, drop-append_seam}
 use Rattle.scan_core.specs.Characters.{Characters}
 use Rattle.scan_core.specs.Pieces.{IsPieceAt}
-use Rattle.scan_core.specs.Scan.{found}
-use Rattle.scan_core.proofs.Answers.{Finds, found-kind, found-length}
-use Rattle.scan_core.proofs.Pieces.{piece-complete, piece-sound, piece-found}
+use Rattle.scan_core.specs.Scan.{found, piece}
+use Rattle.scan_core.proofs.Answers.{found-kind, found-length}
+use Rattle.scan_core.proofs.Pieces.{IsPiece-nonempty, piece-complete, piece-found}
 use Rattle.scan_core.specs.declared.kind.Kind.{Kind}
 
 same-found : (k l : Kind) (text f a g b : Characters) → IsPieceAt k text f a → IsPieceAt l text g b → found k (length f) ≡ found l (length g)
@@ -33,15 +33,15 @@ same-after k l text f a g b i j =
 
 -- a piece has a character
 pub IsPieceAt-nonempty : (k : Kind) (text front after : Characters) → IsPieceAt k text front after → 1 ≤ length front
-IsPieceAt-nonempty k text front after i = (piece-sound text (record { kind = k; length = length front }) (piece-complete k text front after i)).moves
+IsPieceAt-nonempty k text front after i = IsPiece-nonempty k front after i.piece
 
 -- no piece stands at the end of a text
 pub no-IsPieceAt-nil : (k : Kind) (front after : Characters) → IsPieceAt k [] front after → ⊥
 no-IsPieceAt-nil k front after i = omega (arith, IsPieceAt-nonempty k [] front after i, ap length i.split, length-append front after)
 
 -- what is found is a piece there
-pub Finds-IsPieceAt : (k : Kind) (front after : Characters) → Finds k front after → IsPieceAt k (front ++ after) front after
-Finds-IsPieceAt k front after h =
+pub IsPieceAt-found : (k : Kind) (front after : Characters) → piece (front ++ after) ≡ found k (length front) → IsPieceAt k (front ++ after) front after
+IsPieceAt-found k front after h =
     let i = piece-found (front ++ after) (record { kind = k; length = length front }) h in
     let P : Characters → Type 0 = λ f. IsPieceAt k (front ++ after) f after in
     let Q : Characters → Type 0 = λ a. IsPieceAt k (front ++ after) (take (length front) (front ++ after)) a in
