@@ -8,3 +8,8 @@ pub mod Lists
 pub mod AtBytes
 pub mod Respanned
 pub mod SmallTexts
+pub mod Escapes
+pub mod FlatTexts
+pub mod Assumed
+pub mod Spelled
+pub mod Reread

@@ -25,7 +25,7 @@ abbrev pub is_small_string : Characters → Bool
 is_small_string [] = false
 is_small_string (c ∷ cs) = c == 34 && list_all is_printed (c ∷ cs)
 
--- a piece of the small text
+-- a piece of the small text: no comment, no raw identifier, no lifetime
 abbrev pub is_small_piece : Kind → Characters → Bool
 is_small_piece kind.White text = list_all is_white text
 is_small_piece kind.Ident text = list_all is_ascii text
@@ -33,6 +33,10 @@ is_small_piece (kind.Mark joint) text = list_all is_mark text
 is_small_piece kind.Literal text = is_small_string text
 is_small_piece (kind.Open d) text = true
 is_small_piece (kind.Close d) text = true
+is_small_piece kind.Comment text = false
+is_small_piece kind.Doc text = false
+is_small_piece kind.RawIdent text = false
+is_small_piece kind.Lifetime text = false
 
 -- The text is these pieces, one after another, and each is small.
 abbrev pub AreSmall : Characters → List (Kind × Characters) → Type 0

@@ -9,6 +9,7 @@ mod error;
 mod laws;
 mod nest;
 mod printing;
+mod quoting;
 mod reading;
 mod small;
 mod spans;
@@ -21,7 +22,8 @@ pub use laws::{
     flat_tokens_tell_the_stream, one_span_keeps_the_tokens, pieces_stand_at_their_bytes,
     text_has_one_reading,
 };
-pub use printing::to_text;
+pub use printing::{read_again, to_text};
+pub use quoting::quoted;
 pub use reading::lex;
 pub use small::is_small;
 pub use spans::respan;

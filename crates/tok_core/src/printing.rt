@@ -1,8 +1,12 @@
 //! The text of tokens.
-ghost use Rattle.std.specs.Prelude.{◌≡◌, ◌++◌, true, map, IfOk, OnOk};
+ghost use Rattle.std.specs.Prelude.{◌≡◌, ◌≤◌, ◌++◌, true, length, map, IfOk, OnOk, MatchResult};
+ghost use Rattle.tok_core.specs.Bare.{SameButSpans};
 ghost use Rattle.tok_core.specs.Flat.{tree_view, trees_of};
+ghost use Rattle.tok_core.specs.Readable.{IsReadable};
 ghost use Rattle.tok_core.specs.Printing.{stream_text, text_of, texts_of, tree_joins};
 
+use crate::error::LexError;
+use crate::reading::lex;
 use scan_core::{closing, opening};
 use std::alloc::Global;
 use token_core::{Mem, Text, TokenStream, TokenTree};
@@ -17,6 +21,21 @@ pub fn to_text(alloc: Global, tokens: &TokenStream) -> Mem<Text>
     let mut text = Text::new(alloc);
     push_trees(&mut text, tokens.trees.as_slice())?;
     Ok(text)
+}
+
+/// The tokens of the text of the tokens: the same, all but their spans, where that text can be read
+/// again.
+///
+/// It can where each token has a text of its kind, each joint mark stands directly before a mark of
+/// its own list and begins no comment with it, no group is invisible, and at most 128 groups are
+/// open at once. The text takes at most 16 MiB.
+pub fn read_again(alloc: Global, source: u32, tokens: &TokenStream) -> Result<TokenStream, LexError>
+    requires { length (stream_text tokens.now) ≤ 16777216 }
+    ensures { IsReadable tokens.now
+        → MatchResult result (λ read. SameButSpans read tokens.now) (λ e. e ≡ LexError.NoMemory) }
+{
+    let text = to_text(alloc, tokens)?;
+    lex(alloc, source, text.as_str())
 }
 
 /// Whether the tree is a mark that the next one follows directly.

@@ -45,6 +45,7 @@ fn is_small_piece(kind: Kind, text: &[char]) -> bool
         Kind::Mark { .. } => are_marks(text),
         Kind::Literal => is_small_string(text),
         Kind::Open(_) | Kind::Close(_) => true,
+        Kind::Comment | Kind::Doc | Kind::RawIdent | Kind::Lifetime => false,
     }
 }
 
