@@ -10,6 +10,5 @@ pub mod Respanned
 pub mod SmallTexts
 pub mod Escapes
 pub mod FlatTexts
-pub mod Assumed
 pub mod Spelled
 pub mod Reread

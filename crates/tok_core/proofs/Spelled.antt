@@ -5,12 +5,12 @@ use Rattle.std.proofs.lemmas.Str.{encodes-append}
 use lib.Utf8.{encode}
 use Rattle.std.specs.List.{AllByRecursion}
 use Rattle.std.specs.Str.{encode_utf8_all}
-use Rattle.scan_core.proofs.Delimiters.{Finds-open, Finds-close}
-use Rattle.scan_core.proofs.OnePiece.{Finds-IsPieceAt}
-use Rattle.scan_core.proofs.White.{Finds-white}
+use Rattle.scan_core.proofs.Apart.{IsPieceAt-Finds, name_kind, IsPieceAt-name, IsPieceAt-literal, IsPieceAt-lifetime, begins_mark-apart, begins_mark-joined, IsPieceAt-mark_apart, IsPieceAt-mark_joined, name-plain, name-raw}
+use Rattle.scan_core.proofs.Breaks.{IsApart}
+use Rattle.scan_core.proofs.White.{Finds-white, Finds-open, Finds-close}
 use Rattle.scan_core.specs.Characters as characters
-use Rattle.scan_core.specs.Characters.{Characters, is_mark, begins_mark}
-use Rattle.scan_core.specs.Pieces.{IsPieceAt}
+use Rattle.scan_core.specs.Characters.{Characters, is_mark}
+use Rattle.scan_core.specs.Pieces.{begins_mark, IsPieceAt}
 use Rattle.scan_core.specs.declared.kind.Kind.{Kind}
 use Rattle.scan_core.specs.declared.kind.Kind.TheVariants as kind
 use Rattle.token_core.specs.declared.ident.Ident.{Ident}
@@ -24,7 +24,6 @@ use Rattle.tok_core.specs.Flat.{Flat, token, ident, lifetime, punct, literal, op
 use Rattle.tok_core.specs.Printing.{between}
 use Rattle.tok_core.specs.Readable.{IsTextOf, IsIdentifier, IsSpelled, IsVisible, is_joint, mark_next, IsJoined, begins_comment, EachWithRest}
 use Rattle.tok_core.specs.Spells.{Piece, Stand, kept, ident_of, token_of, tokens_of}
-use Rattle.tok_core.proofs.Assumed.{IsApart, name_kind, IsPieceAt-name, IsPieceAt-literal, IsPieceAt-lifetime, begins_mark-apart, begins_mark-joined, IsPieceAt-mark_apart, IsPieceAt-mark_joined, name-plain, name-raw}
 use Rattle.tok_core.proofs.FlatTexts.{flat_bytes, closes, joins_next, flat_text}
 
 -- ---- the characters of tokens
@@ -151,10 +150,10 @@ piece_of (token (punct it)) fs h v j n = joint_mark it fs h.1 h.0 v.1 j n
 piece_of (token (literal it)) fs h v j n = IsPieceAt-literal h.0.0 (all_chars false fs h.1) h.0.2 (all_chars-apart fs h.1 v.1)
 piece_of (opening d place) fs h v j n =
     let after = all_chars true fs h.1 in
-    Finds-IsPieceAt (kind.Open d) (characters.opening d) after (Finds-open d (characters.opening d) after (refl, (visible_length d v.0).0))
+    IsPieceAt-Finds (kind.Open d) (characters.opening d) after (Finds-open d (characters.opening d) after (refl, (visible_length d v.0).0)) refl
 piece_of (closing d place) fs h v j n =
     let after = all_chars false fs h.1 in
-    Finds-IsPieceAt (kind.Close d) (characters.closing d) after (Finds-close d (characters.closing d) after (refl, (visible_length d v.0).1))
+    IsPieceAt-Finds (kind.Close d) (characters.closing d) after (Finds-close d (characters.closing d) after (refl, (visible_length d v.0).1)) refl
 
 -- ---- the same tokens
 
@@ -211,7 +210,7 @@ with_space : (source from : ℕ) (fs : List Flat) (after : Characters) → Reads
 unfolding encode
 with_space source from fs after more =
     let p : Piece = record { kind = kind.White; text = 32 ∷ []; after = after; start = from; end = from + 1 } in
-    (p ∷ more.0, more.1, (refl, refl, Finds-IsPieceAt kind.White (32 ∷ []) after (Finds-white (32 ∷ []) after (32, refl, refl)), more.2), more.3)
+    (p ∷ more.0, more.1, (refl, refl, IsPieceAt-Finds kind.White (32 ∷ []) after (Finds-white (32 ∷ []) after (32, refl, refl)) refl, more.2), more.3)
 
 -- what is printed is read as these tokens
 pub reads_all : (source from : ℕ) (joint : Bool) (fs : List Flat) (h : AllByRecursion IsSpelled fs) → AllByRecursion IsVisible fs → EachWithRest IsJoined fs
