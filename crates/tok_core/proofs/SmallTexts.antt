@@ -1,6 +1,6 @@
 -- A text is small exactly where what follows a small piece of it is.
-use Rattle.std.proofs.Common.{◌≡◌, ℕ, ◌<◌, true, false, List, [], ◌∷◌, length, refl, sym, ap, ◌∙◌, subst, arith}
-use Rattle.scan_core.proofs.OnePiece.{same-kind, same-front, same-after, IsPieceAt-nonempty, no-IsPieceAt-nil}
+use Rattle.std.proofs.Common.{◌≡◌, ◌<◌, true, false, List, [], ◌∷◌, length, refl, ap, subst, arith}
+use Rattle.scan_core.proofs.OnePiece.{same-kind, same-front, same-after, no-IsPieceAt-nil}
 use Rattle.scan_core.specs.Characters.{Characters}
 use Rattle.scan_core.specs.Pieces.{IsPieceAt}
 use Rattle.scan_core.specs.declared.kind.Kind.{Kind}

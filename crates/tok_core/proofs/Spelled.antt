@@ -1,5 +1,5 @@
 -- Tokens that texts spell: their characters, and how they are read.
-use Rattle.std.proofs.Common.{◌≡◌, inl, inr, ℕ, ◌+◌, ◌<◌, Bool, true, false, cond, ◌&&◌, ◌||◌, eqb, List, [], ◌∷◌, ◌++◌, length, map, refl, sym, ap, ◌∙◌, subst, arith, lit<}
+use Rattle.std.proofs.Common.{◌≡◌, inl, inr, ℕ, ◌+◌, ◌<◌, Bool, true, false, cond, ◌&&◌, ◌||◌, eqb, List, [], ◌∷◌, ◌++◌, length, map, refl, sym, ap, ◌∙◌, subst, arith}
 use Rattle.std.proofs.lemmas.List.{append-nil, map-append}
 use Rattle.std.proofs.lemmas.Str.{encodes-append}
 use lib.Utf8.{encode}
@@ -22,7 +22,7 @@ use Rattle.token_core.specs.declared.tree.Punct.{Punct}
 use Rattle.tok_core.specs.Bare.{flat_at}
 use Rattle.tok_core.specs.Flat.{Flat, token, ident, lifetime, punct, literal, opening, closing}
 use Rattle.tok_core.specs.Printing.{between}
-use Rattle.tok_core.specs.Readable.{IsTextOf, IsIdentifier, IsSpelled, IsVisible, is_joint, mark_next, IsJoined, begins_comment, EachWithRest}
+use Rattle.tok_core.specs.Readable.{IsSpelled, IsVisible, mark_next, IsJoined, begins_comment, EachWithRest}
 use Rattle.tok_core.specs.Spells.{Piece, Stand, kept, ident_of, token_of, tokens_of}
 use Rattle.tok_core.proofs.FlatTexts.{flat_bytes, closes, joins_next, flat_text}
 

@@ -1,5 +1,5 @@
 -- The text of tokens.
-use Rattle.std.specs.Prelude.{ℕ, Bool, true, false, if◌then◌else◌, List, [], ◌∷◌, ◌++◌, codes, encode_utf8}
+use Rattle.std.specs.Prelude.{ℕ, Bool, true, false, if◌then◌else◌, List, [], ◌++◌, codes, encode_utf8}
 use Rattle.std.specs.Str.{encode_utf8_all}
 use Rattle.scan_core.specs.Characters as characters
 use Rattle.token_core.specs.Ident.{ident_text}

@@ -1,5 +1,5 @@
 -- When the text of tokens is read as the same tokens.
-use Rattle.std.specs.Prelude.{◌≡◌, ℕ, Bool, true, false, ◌&&◌, ◌||◌, ◌==◌, if◌then◌else◌, List, [], ◌∷◌, length, codes, encode_utf8}
+use Rattle.std.specs.Prelude.{◌≡◌, ℕ, Bool, true, false, ◌&&◌, ◌||◌, ◌==◌, if◌then◌else◌, List, [], ◌∷◌}
 use Rattle.std.specs.List.{AllByRecursion}
 use Rattle.std.specs.Str.{encode_utf8_all}
 use Rattle.scan_core.specs.Characters.{Characters, is_mark}
@@ -8,7 +8,6 @@ use Rattle.scan_core.specs.declared.kind.Kind.{Kind}
 use Rattle.scan_core.specs.declared.kind.Kind.TheVariants as kind
 use Rattle.token_core.specs.Ident.{ident_text}
 use Rattle.token_core.specs.declared.ident.Ident.{Ident}
-use Rattle.token_core.specs.declared.tree.Delimiter.{Delimiter}
 use Rattle.token_core.specs.declared.tree.Delimiter.TheVariants as delimiter
 use Rattle.token_core.specs.declared.tree.TokenStream.{TokenStream}
 use Rattle.tok_core.specs.Endings.{IsWithin}

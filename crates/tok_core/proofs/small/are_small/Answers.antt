@@ -1,6 +1,6 @@
 use Rattle.std.proofs.Common.{rules}
 use Rattle.tok_core.proofs.Before.{piece_moved}
-use Rattle.tok_core.proofs.SmallTexts.{AreAlike-step, not_small_piece, no_small_piece, small_end}
+use Rattle.tok_core.proofs.SmallTexts.{AreAlike-step, not_small_piece, no_small_piece}
 use Rattle.tok_core.proofs.small.are_small.Goals as goal
 
 pub returns-in_default : goal.returns-in_default
