@@ -130,7 +130,7 @@ pub prefixed-nonempty : (text : Characters) → IsPrefixed text → 1 ≤ length
 prefixed-nonempty text h = omega (arith, prefixed-longer text [] h)
 
 -- it is read whole
-prefixed_length-append : (text after : Characters) → IsPrefixed text → prefixed_length (text ++ after) ≡ Some (length text)
+pub prefixed_length-append : (text after : Characters) → IsPrefixed text → prefixed_length (text ++ after) ≡ Some (length text)
 prefixed_length-append text after h = ⊎_elim
     (λ r. subst P (sym r.1) (ap (plus 1) (raw_length-append false r.0 after r.2) ∙ ap Some (omega arith)))
     (λ h. ⊎_elim

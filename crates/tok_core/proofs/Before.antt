@@ -11,7 +11,7 @@ use Rattle.token_core.specs.declared.tree.TokenStream.{TokenStream}
 use Rattle.tok_core.specs.Endings.{open_after, open_after_one, Closes, EndsAt, Refused, deep, wrong}
 use Rattle.tok_core.specs.Flat.{Flat, flat_stream}
 use Rattle.tok_core.specs.Nests.{flat_nest, open_in, Cause, IsFull, IsAmiss}
-use Rattle.tok_core.specs.Spells.{Piece, Stand, token_of, tokens_of, Spells}
+use Rattle.tok_core.specs.Spells.{Piece, Stand, kept, token_of, tokens_of, Spells}
 use Rattle.tok_core.specs.declared.error.LexError.{LexError}
 use Rattle.tok_core.specs.declared.error.LexError.TheVariants.{TooDeep, Syntax, NoMemory}
 use Rattle.tok_core.specs.declared.nest.Nest.{Nest}
@@ -27,7 +27,7 @@ pub record Before (source : ℕ) (text rest : Characters) (at : ℕ) (nest : Nes
 pub tokens_of-append : (source : ℕ) (ps qs : List Piece) → tokens_of source (ps ++ qs) ≡ tokens_of source ps ++ tokens_of source qs
 tokens_of-append source [] qs = refl
 tokens_of-append source (p ∷ ps) qs =
-    let t = token_of source p.kind p.text p.start p.end in
+    let t = token_of source p.kind (kept p.kind p.text p.after) p.start p.end in
     ap (λ r. t ++ r) (tokens_of-append source ps qs) ∙ sym (append_assoc t (tokens_of source ps) (tokens_of source qs))
 
 after_one : (fs gs : List Flat) → ((s : List Delimiter) → open_after (fs ++ gs) s ≡ option_and_then (open_after gs) (open_after fs s)) → (o : Option (List Delimiter))
@@ -40,28 +40,32 @@ open_after-append [] gs stack = refl
 open_after-append (f ∷ fs) gs stack = after_one fs gs (open_after-append fs gs) (open_after_one f stack)
 
 -- one piece more stands there
-pub Stand-push : (from at : ℕ) (text rest after : Characters) (ps : List Piece) (p : Piece) → Stand from text ps at rest → p.start ≡ at → p.end ≡ at + length (encode_utf8_all p.text)
-    → IsPieceAt p.kind rest p.text after → Stand from text (ps ++ p ∷ []) p.end after
-Stand-push from at text rest after [] p s e f i =
-    let P : Characters → Type 0 = λ text. IsPieceAt p.kind text p.text after in
-    (after, omega (arith, s.0, e), omega (arith, s.0, f), subst P (sym s.1) i, (refl, refl))
-Stand-push from at text rest after (q ∷ ps) p s e f i =
-    (s.0, s.1, s.2, s.3, Stand-push q.end at s.0 rest after ps p s.4 e f i)
+pub Stand-push : (from at : ℕ) (text rest : Characters) (ps : List Piece) (p : Piece) → Stand from text ps at rest → p.start ≡ at → p.end ≡ at + length (encode_utf8_all p.text)
+    → IsPieceAt p.kind rest p.text p.after → Stand from text (ps ++ p ∷ []) p.end p.after
+Stand-push from at text rest [] p s e f i =
+    let P : Characters → Type 0 = λ text. IsPieceAt p.kind text p.text p.after in
+    (omega (arith, s.0, e), omega (arith, s.0, f), subst P (sym s.1) i, (refl, refl))
+Stand-push from at text rest (q ∷ ps) p s e f i =
+    (s.0, s.1, s.2, Stand-push q.end at q.after rest ps p s.3 e f i)
 
 pub Before-start : (source : ℕ) (text : Characters) (nest : Nest) → flat_nest source nest ≡ [] → open_in nest ≡ [] → Before source text text 0 nest
 Before-start source text nest f s = record { pieces = []; stand = (refl, refl); flat = f; matched = ap Some (sym s); bytes = omega arith }
 
-pub Before-step : (source at end : ℕ) (text rest front after : Characters) (k : Kind) (old new : Nest) → Before source text rest at old → IsPieceAt k rest front after
-    → end ≡ at + length (encode_utf8_all front) → flat_nest source new ≡ flat_nest source old ++ token_of source k front at end
-    → open_after (token_of source k front at end) (open_in old) ≡ Some (open_in new) → Before source text after end new
-Before-step source at end text rest front after k old new b i e f o =
-    let p : Piece = record { kind = k; text = front; start = at; end = end } in
-    let t = token_of source k front at end in
+pub Before-step : (source at end : ℕ) (text rest front after some : Characters) (k : Kind) (old new : Nest) → Before source text rest at old → IsPieceAt k rest front after
+    → end ≡ at + length (encode_utf8_all front) → some ≡ kept k front after → flat_nest source new ≡ flat_nest source old ++ token_of source k some at end
+    → open_after (token_of source k some at end) (open_in old) ≡ Some (open_in new) → Before source text after end new
+Before-step source at end text rest front after some k old new b i e s given opened =
+    let P : Characters → Type 0 = λ some. flat_nest source new ≡ flat_nest source old ++ token_of source k some at end in
+    let Q : Characters → Type 0 = λ some. open_after (token_of source k some at end) (open_in old) ≡ Some (open_in new) in
+    let f = subst P s given in
+    let o = subst Q s opened in
+    let p : Piece = record { kind = k; text = front; after = after; start = at; end = end } in
+    let t = token_of source k (kept k front after) at end in
     let tokens : tokens_of source (b.pieces ++ p ∷ []) ≡ tokens_of source b.pieces ++ t =
     tokens_of-append source b.pieces (p ∷ []) ∙ ap (λ r. tokens_of source b.pieces ++ r) (append-nil t) in
     record {
       pieces = b.pieces ++ p ∷ [];
-      stand = Stand-push 0 at text rest after b.pieces p b.stand refl e i;
+      stand = Stand-push 0 at text rest b.pieces p b.stand refl e i;
       flat = f ∙ ap (λ r. r ++ t) b.flat ∙ sym tokens;
       matched = ap (λ r. open_after r []) tokens ∙ open_after-append (tokens_of source b.pieces) t [] ∙ ap (option_and_then (open_after t)) b.matched ∙ o;
       bytes = omega (arith, b.bytes, e, ap (λ r. length (encode_utf8_all r)) i.split, ap length (encodes-append front after), length-append (encode_utf8_all front) (encode_utf8_all after));

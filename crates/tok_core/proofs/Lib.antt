@@ -6,3 +6,9 @@ pub mod Trees
 pub mod Outcomes
 pub mod Lists
 pub mod AtBytes
+pub mod Respanned
+pub mod SmallTexts
+pub mod Escapes
+pub mod FlatTexts
+pub mod Spelled
+pub mod Reread

@@ -10,7 +10,7 @@ use Rattle.token_core.specs.declared.tree.Delimiter.{Delimiter}
 use Rattle.token_core.specs.declared.tree.TokenStream.{TokenStream}
 use Rattle.tok_core.specs.Endings.{limit, is_top, open_after, starts_group, Ending, done, deep, wrong, Stops, EndsAt}
 use Rattle.tok_core.specs.Flat.{Flat}
-use Rattle.tok_core.specs.Spells.{Piece, Stand, token_of, tokens_of, Spells}
+use Rattle.tok_core.specs.Spells.{Piece, Stand, kept, token_of, tokens_of, Spells}
 use Rattle.tok_core.proofs.Before.{open_after-append}
 use Rattle.tok_core.proofs.Trees.{flat_stream-same}
 
@@ -55,6 +55,7 @@ same_ending s r wrong wrong h k = refl
 fails_open : (source : ℕ) (k : Kind) (front : Characters) (start end : ℕ) (s : List Delimiter) → starts_group k ≡ true → nat_lt (length s) limit ≡ false
     → open_after (token_of source k front start end) s ≡ None
 fails_open source (kind.Open d) front start end s e h = rw h refl
+fails_open source kind.Doc front start end s e h = rw h refl
 fails_open source k front start end s e h = absurd (cc)
 
 fails_close : (source : ℕ) (d : Delimiter) (k : Kind) (front : Characters) (start end : ℕ) (s : List Delimiter) → k ≡ kind.Close d → is_top d s ≡ false
@@ -66,31 +67,36 @@ fails_close source d k front start end s e h =
 stays_failed : (fs gs : List Flat) (s t : List Delimiter) → open_after fs s ≡ None → open_after (fs ++ gs) s ≡ Some t → ⊥
 stays_failed fs gs s t n h = let e : Some t ≡ None = sym h ∙ open_after-append fs gs s ∙ ap (option_and_then (open_after gs)) n in cc
 
-stuck : (source : ℕ) (s t : List Delimiter) (text front after : Characters) (k : Kind) (start end : ℕ) (more : List Flat) (e : Ending) → Stops s text e → IsPieceAt k text front after
-    → open_after (token_of source k front start end ++ more) s ≡ Some t → ⊥
-stuck source s t text front after k start end more done h i o = not_at_end k text front after h.0 i
-stuck source s t text front after k start end more deep h i o =
+stuck : (source : ℕ) (s t : List Delimiter) (text front after : Characters) (k : Kind) (some : Characters) (start end : ℕ) (more : List Flat) (e : Ending) → Stops s text e → IsPieceAt k text front after
+    → open_after (token_of source k some start end ++ more) s ≡ Some t → ⊥
+stuck source s t text front after k some start end more done h i o = not_at_end k text front after h.0 i
+stuck source s t text front after k some start end more deep h i o =
     let same = same-kind h.0 k text h.1 h.2 front after h.3 i in
-    stays_failed (token_of source k front start end) more s t (fails_open source k front start end s (subst (λ k. starts_group k ≡ true) same h.4) h.5) o
-stuck source s t text front after k start end more wrong h i o = ⊎_elim
+    stays_failed (token_of source k some start end) more s t (fails_open source k some start end s (subst (λ k. starts_group k ≡ true) same h.4) h.5) o
+stuck source s t text front after k some start end more wrong h i o = ⊎_elim
     (λ w. not_at_end k text front after w.0 i)
     (⊎_elim
     (λ w. w.1 k front after i)
-    (λ w. stays_failed (token_of source k front start end) more s t
-    (fails_close source w.0 k front start end s (same-kind k (kind.Close w.0) text front after w.1 w.2 i w.3) w.4) o))
+    (λ w. stays_failed (token_of source k some start end) more s t
+    (fails_close source w.0 k some start end s (same-kind k (kind.Close w.0) text front after w.1 w.2 i w.3) w.4) o))
     h
 
 -- ---- one reading
 
+-- the tokens of a piece
+abbrev tokens_at : ℕ → Piece → List Flat
+tokens_at source p = token_of source p.kind (kept p.kind p.text p.after) p.start p.end
+
 -- the tokens of one piece at one place are the same
-same_tokens : (source : ℕ) (v w : Piece) (from : ℕ) (text a b : Characters) → v.start ≡ from → v.end ≡ from + length (encode_utf8_all v.text) → IsPieceAt v.kind text v.text a
-    → w.start ≡ from → w.end ≡ from + length (encode_utf8_all w.text) → IsPieceAt w.kind text w.text b
-    → (v.end ≡ w.end) × (a ≡ b) × (token_of source v.kind v.text v.start v.end ≡ token_of source w.kind w.text w.start w.end)
-same_tokens source v w from text a b vs ve vi ws we wi =
-    let kinds = same-kind v.kind w.kind text v.text a w.text b vi wi in
-    let texts = same-front v.kind w.kind text v.text a w.text b vi wi in
+same_tokens : (source : ℕ) (v w : Piece) (from : ℕ) (text : Characters) → v.start ≡ from → v.end ≡ from + length (encode_utf8_all v.text) → IsPieceAt v.kind text v.text v.after
+    → w.start ≡ from → w.end ≡ from + length (encode_utf8_all w.text) → IsPieceAt w.kind text w.text w.after
+    → (v.end ≡ w.end) × (v.after ≡ w.after) × (tokens_at source v ≡ tokens_at source w)
+same_tokens source v w from text vs ve vi ws we wi =
+    let kinds = same-kind v.kind w.kind text v.text v.after w.text w.after vi wi in
+    let texts = same-front v.kind w.kind text v.text v.after w.text w.after vi wi in
+    let afters = same-after v.kind w.kind text v.text v.after w.text w.after vi wi in
     let ends : v.end ≡ w.end = ve ∙ ap (λ t. from + length (encode_utf8_all t)) texts ∙ sym we in
-    (ends, same-after v.kind w.kind text v.text a w.text b vi wi, cc (kinds, texts, ends, vs, ws))
+    (ends, afters, cc (kinds, texts, afters, ends, vs, ws))
 
 -- first the tokens of a piece, then those after it
 in_turn : (fs gs : List Flat) (s t : List Delimiter) → open_after (fs ++ gs) s ≡ Some t → (u : List Delimiter) × (open_after fs s ≡ Some u) × (open_after gs u ≡ Some t)
@@ -116,24 +122,24 @@ one_reading source [] [] from text stack m n r q s t e f a b o p h k =
 one_reading source [] (w ∷ qs) from text stack m n r q s t e f a b o p h k =
     let P : Characters → Type 0 = λ r. Stops s r e in
     let stacks : stack ≡ s = cc in
-    let Q : List Delimiter → Type 0 = λ s. open_after (token_of source w.kind w.text w.start w.end ++ tokens_of source qs) s ≡ Some t in
-    absurd (stuck source s t text w.text b.0 w.kind w.start w.end (tokens_of source qs) e (subst P (sym a.1) h) b.3 (subst Q stacks p))
+    let Q : List Delimiter → Type 0 = λ s. open_after (tokens_at source w ++ tokens_of source qs) s ≡ Some t in
+    absurd (stuck source s t text w.text w.after w.kind (kept w.kind w.text w.after) w.start w.end (tokens_of source qs) e (subst P (sym a.1) h) b.2 (subst Q stacks p))
 one_reading source (v ∷ ps) [] from text stack m n r q s t e f a b o p h k =
     let P : Characters → Type 0 = λ q. Stops t q f in
     let stacks : stack ≡ t = cc in
-    let Q : List Delimiter → Type 0 = λ t. open_after (token_of source v.kind v.text v.start v.end ++ tokens_of source ps) t ≡ Some s in
-    absurd (stuck source t s text v.text a.0 v.kind v.start v.end (tokens_of source ps) f (subst P (sym b.1) k) a.3 (subst Q stacks o))
+    let Q : List Delimiter → Type 0 = λ t. open_after (tokens_at source v ++ tokens_of source ps) t ≡ Some s in
+    absurd (stuck source t s text v.text v.after v.kind (kept v.kind v.text v.after) v.start v.end (tokens_of source ps) f (subst P (sym b.1) k) a.2 (subst Q stacks o))
 one_reading source (v ∷ ps) (w ∷ qs) from text stack m n r q s t e f a b o p h k =
-    let same = same_tokens source v w from text a.0 b.0 a.1 a.2 a.3 b.1 b.2 b.3 in
-    let one = token_of source v.kind v.text v.start v.end in
-    let two = token_of source w.kind w.text w.start w.end in
+    let same = same_tokens source v w from text a.0 a.1 a.2 b.0 b.1 b.2 in
+    let one = tokens_at source v in
+    let two = tokens_at source w in
     let u = in_turn one (tokens_of source ps) stack s o in
     let x = in_turn two (tokens_of source qs) stack t p in
     let stacks : x.0 ≡ u.0 = some_same x.0 u.0 (sym x.1 ∙ ap (λ f. open_after f stack) (sym same.2) ∙ u.1) in
-    let P : ℕ → Type 0 = λ e. Stand e b.0 qs n q in
+    let P : ℕ → Type 0 = λ e. Stand e w.after qs n q in
     let Q : Characters → Type 0 = λ z. Stand v.end z qs n q in
     let R : List Delimiter → Type 0 = λ u. open_after (tokens_of source qs) u ≡ Some t in
-    let more = one_reading source ps qs v.end a.0 u.0 m n r q s t e f a.4 (subst Q (sym same.1) (subst P (sym same.0) b.4)) u.2 (subst R stacks x.2) h k in
+    let more = one_reading source ps qs v.end v.after u.0 m n r q s t e f a.3 (subst Q (sym same.1) (subst P (sym same.0) b.3)) u.2 (subst R stacks x.2) h k in
     (more.0, more.1, ap (λ f. f ++ tokens_of source ps) same.2 ∙ ap (λ r. two ++ r) more.2)
   where
     some_same : (x y : List Delimiter) → Some x ≡ Some y → x ≡ y
@@ -146,16 +152,16 @@ EndsAt-same source text m n e f a b =
     (one.0, one.1)
 
 -- the pieces of a text have the same tokens, however deep they nest
-tokens_of-same : (source : ℕ) (ps qs : List Piece) (from : ℕ) (text : Characters) (m n : ℕ) → Stand from text ps m [] → Stand from text qs n [] → tokens_of source ps ≡ tokens_of source qs
+pub tokens_of-same : (source : ℕ) (ps qs : List Piece) (from : ℕ) (text : Characters) (m n : ℕ) → Stand from text ps m [] → Stand from text qs n [] → tokens_of source ps ≡ tokens_of source qs
 tokens_of-same source [] [] from text m n a b = refl
-tokens_of-same source [] (w ∷ qs) from text m n a b = absurd (not_at_end w.kind text w.text b.0 a.1 b.3)
-tokens_of-same source (v ∷ ps) [] from text m n a b = absurd (not_at_end v.kind text v.text a.0 b.1 a.3)
+tokens_of-same source [] (w ∷ qs) from text m n a b = absurd (not_at_end w.kind text w.text w.after a.1 b.2)
+tokens_of-same source (v ∷ ps) [] from text m n a b = absurd (not_at_end v.kind text v.text v.after b.1 a.2)
 tokens_of-same source (v ∷ ps) (w ∷ qs) from text m n a b =
-    let same = same_tokens source v w from text a.0 b.0 a.1 a.2 a.3 b.1 b.2 b.3 in
-    let P : ℕ → Type 0 = λ e. Stand e b.0 qs n [] in
+    let same = same_tokens source v w from text a.0 a.1 a.2 b.0 b.1 b.2 in
+    let P : ℕ → Type 0 = λ e. Stand e w.after qs n [] in
     let Q : Characters → Type 0 = λ z. Stand v.end z qs n [] in
-    let more = tokens_of-same source ps qs v.end a.0 m n a.4 (subst Q (sym same.1) (subst P (sym same.0) b.4)) in
-    ap (λ f. f ++ tokens_of source ps) same.2 ∙ ap (λ r. token_of source w.kind w.text w.start w.end ++ r) more
+    let more = tokens_of-same source ps qs v.end v.after m n a.3 (subst Q (sym same.1) (subst P (sym same.0) b.3)) in
+    ap (λ f. f ++ tokens_of source ps) same.2 ∙ ap (λ r. tokens_at source w ++ r) more
 
 -- a text spells one stream at most
 pub Spells-same : (source : ℕ) (text : Characters) (a b : TokenStream) → Spells source text a → Spells source text b → a ≡ b

@@ -58,9 +58,10 @@ pub data Ending : Type 0 where
 abbrev pub IsNoPiece : Characters → Type 0
 IsNoPiece rest = (0 < length rest) × ((k : Kind) (text after : Characters) → IsPieceAt k rest text after → ⊥)
 
--- whether a group starts with a piece of this kind
+-- whether a group starts with a piece of this kind, as that of a documentation comment
 abbrev pub starts_group : Kind → Bool
 starts_group (kind.Open d) = true
+starts_group kind.Doc = true
 starts_group _ = false
 
 -- A group starts here that is one too many.

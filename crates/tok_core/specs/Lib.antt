@@ -1,5 +1,10 @@
+pub mod Bare
 pub mod Endings
 pub mod Flat
 pub mod Nests
+pub mod Printing
+pub mod Quoted
+pub mod Readable
 pub mod Respan
+pub mod Small
 pub mod Spells

@@ -1,10 +1,13 @@
 //! What the definitions of spelling imply. These functions do nothing: their clauses are the laws.
-ghost use Rattle.std.specs.Prelude.{◌≡◌, ℕ, List, [], chars};
+ghost use Rattle.std.specs.Prelude.{◌≡◌, ℕ, List, [], chars, map};
 ghost use Rattle.std.specs.List.{AllByRecursion};
 ghost use Rattle.std.specs.Str.{IsUtf8};
 ghost use Rattle.scan_core.specs.Characters.{Characters};
+ghost use Rattle.tok_core.specs.Bare.{flat_at};
 ghost use Rattle.tok_core.specs.Flat.{flat_stream};
+ghost use Rattle.tok_core.specs.Respan.{stream_at};
 ghost use Rattle.tok_core.specs.Spells.{IsAtItsBytes, Piece, Spells, Stand};
+ghost use Rattle.token_core.specs.declared.span.Span.{Span};
 ghost use Rattle.token_core.specs.declared.tree.TokenStream.{TokenStream};
 
 /// Two streams with the same flat tokens are one.
@@ -22,4 +25,10 @@ pub fn text_has_one_reading()
 pub fn pieces_stand_at_their_bytes()
     ensures { (text : List ℕ) (pieces : List Piece) (end : ℕ)
         → IsUtf8 text → Stand 0 (chars text) pieces end [] → AllByRecursion (IsAtItsBytes text) pieces }
+{}
+
+/// One span everywhere changes the spans alone.
+pub fn one_span_keeps_the_tokens()
+    ensures { (span : Span) (tokens : TokenStream)
+        → flat_stream (stream_at span tokens) ≡ map (flat_at span) (flat_stream tokens) }
 {}

@@ -8,15 +8,24 @@
 mod error;
 mod laws;
 mod nest;
+mod printing;
+mod quoting;
 mod reading;
+mod small;
 mod spans;
 #[cfg(test)]
 mod tests;
 mod token;
 
 pub use error::LexError;
-pub use laws::{flat_tokens_tell_the_stream, pieces_stand_at_their_bytes, text_has_one_reading};
+pub use laws::{
+    flat_tokens_tell_the_stream, one_span_keeps_the_tokens, pieces_stand_at_their_bytes,
+    text_has_one_reading,
+};
+pub use printing::{read_again, to_text};
+pub use quoting::quoted;
 pub use reading::lex;
+pub use small::is_small;
 pub use spans::respan;
 pub use token_core::{
     Boxed, Delimiter, Group, Ident, Items, Lifetime, Literal, Mem, Punct, Span, Text, TokenStream,

@@ -3,7 +3,7 @@ ghost use Rattle.std.specs.Prelude.{◌≡◌, ◌++◌, [], ◌∷◌, ◌<◌,
 ghost use Rattle.tok_core.specs.Endings.{is_top, open_after, same_delimiter};
 ghost use Rattle.tok_core.specs.Flat as flat;
 ghost use Rattle.tok_core.specs.Flat.{flat_stream, flat_tree};
-ghost use Rattle.tok_core.specs.Spells.{token_of};
+ghost use Rattle.tok_core.specs.Spells.{doc_tokens, token_of};
 
 use crate::error::LexError;
 use crate::token;
@@ -56,6 +56,16 @@ impl Nest {
         let Nest { frames, mut trees } = self;
         trees.push(tree)?;
         Ok(Nest { frames, trees })
+    }
+
+    /// Adds the attribute for which the documentation comment stands that is written so.
+    fn push_doc(self, alloc: Global, text: &[char], span: Span) -> Mem<Nest>
+        ensures flat { IfOk result (λ n. (source : _) → flat_nest source n
+            ≡ flat_nest source self ++ doc_tokens (drop 3 text.now) span) }
+        ensures same_open { IfOk result (λ n. open_in n ≡ open_in self) }
+    {
+        let nest = self.push(token::mark('#', false, span))?;
+        nest.push(token::doc(alloc, text, span)?)
     }
 
     /// Starts a group at `start`.
@@ -132,7 +142,7 @@ impl Nest {
         }
     }
 
-    /// Adds the tokens of the piece that stands from `start` to `end`.
+    /// Adds the tokens of the piece of which `text` is kept, and that stands from `start` to `end`.
     pub(crate) fn step(
         self,
         alloc: Global,
@@ -150,8 +160,15 @@ impl Nest {
     {
         let span = Span::At { source, start, end };
         match kind {
-            Kind::White => Ok(self),
-            Kind::Ident => Ok(self.push(token::ident(alloc, text, span)?)?),
+            Kind::White | Kind::Comment => Ok(self),
+            Kind::Doc => {
+                if self.depth() >= MAX_OPEN {
+                    return Err(LexError::TooDeep { at: start });
+                }
+                Ok(self.push_doc(alloc, text, span)?)
+            }
+            Kind::Ident | Kind::RawIdent => Ok(self.push(token::ident(alloc, text, span)?)?),
+            Kind::Lifetime => Ok(self.push(token::lifetime(alloc, text, span)?)?),
             Kind::Mark { joint } => Ok(self.push(token::punct(text, joint, span))?),
             Kind::Literal => Ok(self.push(token::literal(alloc, text, span)?)?),
             Kind::Open(delimiter) => {

@@ -1,14 +1,36 @@
 ghost use Rattle.std.specs.Prelude.{◌≡◌, ◌≤◌, ℕ, length, IfOk, IfErr, Ok, Err};
 ghost use Rattle.std.specs.Str.{chars, encode_utf8_all};
 ghost use Rattle.tok_core.specs.Endings.{Answers, Closes, EndsAt, IsWithin, Refused, deep, wrong};
+ghost use Rattle.tok_core.specs.Spells as spec;
 ghost use Rattle.tok_core.specs.Spells.{Spells};
 ghost use Rattle.token_core.specs.declared.tree.TokenStream.{TokenStream};
 
 use crate::error::LexError;
 use crate::nest::Nest;
-use scan_core::{byte_length, characters, piece};
+use scan_core::{Kind, byte_length, characters, piece};
 use std::alloc::Global;
 use token_core::TokenStream;
+
+/// What the tokens of a piece keep of its characters where `after` follows: all, but of a
+/// documentation comment a carriage return before its line feed.
+fn kept<'a>(kind: Kind, text: &'a [char], after: &[char]) -> &'a [char]
+    ensures { result.now ≡ spec.kept kind text.now after.now }
+{
+    if kind == Kind::Doc && !after.is_empty() {
+        without_return(text)
+    } else {
+        text
+    }
+}
+
+fn without_return(text: &[char]) -> &[char]
+    ensures { result.now ≡ spec.without_return text.now }
+{
+    match text {
+        [front @ .., '\r'] => front,
+        _ => text,
+    }
+}
 
 fn read(alloc: Global, source: u32, text: &[char]) -> Result<TokenStream, LexError>
     requires { length (encode_utf8_all text.now) ≤ 16777216 }
@@ -25,7 +47,8 @@ fn read(alloc: Global, source: u32, text: &[char]) -> Result<TokenStream, LexErr
         };
         let (front, after) = rest.split_at(found.length);
         let end = at + byte_length(front) as u32;
-        nest = nest.step(alloc, source, found.kind, front, at, end)?;
+        let text = kept(found.kind, front, after);
+        nest = nest.step(alloc, source, found.kind, text, at, end)?;
         rest = after;
         at = end;
     }

@@ -1,21 +1,54 @@
 //! The trees of single pieces, and of a group.
-ghost use Rattle.std.specs.Prelude.{◌≡◌, ◌++◌, [], ◌∷◌, slice_index, false, IfOk};
+ghost use Rattle.std.specs.Prelude.{◌≡◌, ◌++◌, [], ◌∷◌, drop, slice_index, false, IfOk};
 ghost use Rattle.std.specs.Str.{encode_utf8_all};
 ghost use Rattle.tok_core.specs.Flat as flat;
 ghost use Rattle.tok_core.specs.Flat.{flat_tree, flat_trees, start_of, end_of};
+ghost use Rattle.tok_core.specs.Spells.{doc_tokens, ident_of};
 
+use crate::quoting::quoted_characters;
 use std::alloc::Global;
 use token_core::{
-    Delimiter, Group, Ident, Items, Literal, Mem, Punct, Span, Text, TokenStream, TokenTree,
+    Delimiter, Group, Ident, Items, Lifetime, Literal, Mem, Punct, Span, Text, TokenStream,
+    TokenTree,
 };
 
-pub(crate) fn ident(alloc: Global, characters: &[char], span: Span) -> Mem<TokenTree>
-    ensures { IfOk result (λ t. flat_tree t
-        ≡ flat.token (flat.ident (record { text = encode_utf8_all characters.now; raw = false; span = span })) ∷ []) }
+fn name(alloc: Global, characters: &[char], raw: bool, span: Span) -> Mem<Ident>
+    ensures { IfOk result (λ it. it ≡ record { text = encode_utf8_all characters.now; raw = raw; span = span }) }
 {
     let text = Text::from_string(scan_core::text_of(alloc, characters)?);
-    let raw = false;
-    Ok(TokenTree::Ident(Ident { text, raw, span }))
+    Ok(Ident { text, raw, span })
+}
+
+/// The identifier that is written so: raw after `r#`.
+fn ident_of(alloc: Global, characters: &[char], span: Span) -> Mem<Ident>
+    ensures { IfOk result (λ it. it ≡ ident_of characters.now span) }
+{
+    match characters {
+        ['r', '#', raw @ ..] => name(alloc, raw, true, span),
+        _ => name(alloc, characters, false, span),
+    }
+}
+
+pub(crate) fn ident(alloc: Global, characters: &[char], span: Span) -> Mem<TokenTree>
+    ensures { IfOk result (λ t. flat_tree t ≡ flat.token (flat.ident (ident_of characters.now span)) ∷ []) }
+{
+    Ok(TokenTree::Ident(ident_of(alloc, characters, span)?))
+}
+
+/// The lifetime that is written so, with its `'`.
+pub(crate) fn lifetime(alloc: Global, characters: &[char], span: Span) -> Mem<TokenTree>
+    ensures { IfOk result (λ t. flat_tree t
+        ≡ flat.token (flat.lifetime (record { ident = ident_of (drop 1 characters.now) span })) ∷ []) }
+{
+    let ident = ident_of(alloc, from(characters, 1), span)?;
+    Ok(TokenTree::Lifetime(Lifetime { ident }))
+}
+
+/// The characters from the one with this number on.
+fn from(characters: &[char], first: usize) -> &[char]
+    ensures { result.now ≡ drop first characters.now }
+{
+    characters.get(first..).unwrap_or(&[])
 }
 
 pub(crate) fn literal(alloc: Global, characters: &[char], span: Span) -> Mem<TokenTree>
@@ -35,7 +68,28 @@ pub(crate) fn punct(characters: &[char], joint: bool, span: Span) -> TokenTree
         [] => '\0',
         [first, ..] => *first,
     };
+    mark(ch, joint, span)
+}
+
+pub(crate) fn mark(ch: char, joint: bool, span: Span) -> TokenTree
+    ensures { flat_tree result ≡ flat.token (flat.punct (record { ch = ch; joint = joint; span = span })) ∷ [] }
+{
     TokenTree::Punct(Punct { ch, joint, span })
+}
+
+/// The group of the attribute for which the documentation comment stands that is written so.
+pub(crate) fn doc(alloc: Global, characters: &[char], span: Span) -> Mem<TokenTree>
+    ensures { IfOk result (λ t. flat.token (flat.punct (record { ch = 35; joint = false; span = span })) ∷ flat_tree t
+        ≡ doc_tokens (drop 3 characters.now) span) }
+{
+    let mut trees = Items::new(alloc);
+    let text = Text::from_str(alloc, "doc")?;
+    let raw = false;
+    trees.push(TokenTree::Ident(Ident { text, raw, span }))?;
+    trees.push(mark('=', false, span))?;
+    let text = quoted_characters(alloc, from(characters, 3))?;
+    trees.push(TokenTree::Literal(Literal { text, span }))?;
+    Ok(group(Delimiter::Bracket, trees, span))
 }
 
 pub(crate) fn group(delimiter: Delimiter, trees: Items<TokenTree>, span: Span) -> TokenTree
