@@ -1,3 +1,8 @@
+pub mod Names
 pub mod Characters
+pub mod Comments
+pub mod Escapes
+pub mod Strings
+pub mod Numbers
 pub mod Pieces
 pub mod Scan

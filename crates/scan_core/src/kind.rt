@@ -5,11 +5,19 @@ use token_core::Delimiter;
 pub enum Kind {
     /// One character of white space.
     White,
+    /// A comment of one line, or one between `/*` and `*/`.
+    Comment,
+    /// A comment of one line that documents: `///`, and no fourth `/`.
+    Doc,
     /// An identifier or a keyword.
     Ident,
+    /// An identifier after `r#`.
+    RawIdent,
+    /// An identifier, also a raw one, after `'`.
+    Lifetime,
     /// A mark, and whether another follows directly.
     Mark { joint: bool },
-    /// A literal, with its quotes.
+    /// A literal, with its prefix, its quotes and its suffix.
     Literal,
     /// The delimiter that begins a group.
     Open(Delimiter),

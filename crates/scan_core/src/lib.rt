@@ -2,8 +2,13 @@
 #![tactic(auto)]
 
 mod class;
+mod comments;
 mod delimiter;
 mod kind;
+mod names;
+mod numbers;
+mod place;
+mod quotes;
 mod scan;
 #[cfg(test)]
 mod tests;
@@ -11,6 +16,7 @@ mod text;
 
 pub use delimiter::{closing, opening};
 pub use kind::{Found, Kind};
+pub use numbers::digits_value;
 pub use scan::piece;
 pub use text::{byte_length, characters, text_of};
 pub use token_core::Delimiter;

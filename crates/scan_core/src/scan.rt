@@ -1,14 +1,18 @@
 //! The piece at the front of a text.
-ghost use Rattle.std.specs.Prelude.{◌≡◌, ◌≤◌, ◌<◌, ℕ, length, take, drop, slice_index, IfSome, IfNone};
-ghost use Rattle.std.specs.List.{prefix_len};
-ghost use Rattle.scan_core.specs.Characters as characters;
-ghost use Rattle.scan_core.specs.Characters.{Characters, continues_name};
+ghost use Rattle.std.specs.Prelude.{◌≡◌, ◌≤◌, ◌<◌, ℕ, length, take, drop, slice_index, IfSome, IfNone, false};
+ghost use Rattle.scan_core.specs.Characters.{Characters};
 ghost use Rattle.scan_core.specs.Pieces.{IsPieceAt};
+ghost use Rattle.scan_core.specs.Pieces as pieces;
 ghost use Rattle.scan_core.specs.Scan as spec;
 ghost use Rattle.scan_core.specs.declared.kind.Kind.{Kind};
 
-use crate::class::{continues_name, is_mark, is_plain, is_white, starts_name};
+use crate::class::{is_decimal, is_mark, is_white, starts_name};
+use crate::comments::{mark, slashed};
 use crate::kind::{Found, Kind};
+use crate::names::{ticked, worded};
+use crate::numbers::number;
+use crate::place::{at, continues, rest};
+use crate::quotes::string_length;
 use token_core::Delimiter;
 
 /// How a piece begins.
@@ -16,7 +20,10 @@ use token_core::Delimiter;
 enum Head {
     Name,
     White,
+    Digit,
     Quote,
+    Tick,
+    Slash,
     Mark,
     Open(Delimiter),
     Close(Delimiter),
@@ -44,97 +51,19 @@ fn head_of(c: char) -> Head
         Head::Name
     } else if is_white(c) {
         Head::White
+    } else if is_decimal(c) {
+        Head::Digit
     } else if c == '"' {
         Head::Quote
+    } else if c == '\'' {
+        Head::Tick
+    } else if c == '/' {
+        Head::Slash
     } else if is_mark(c) {
         Head::Mark
     } else {
         delimiter_head(c)
     }
-}
-
-/// How many characters at the front an identifier can go on with.
-fn name_length(text: &[char]) -> usize
-    ensures value { result ≡ prefix_len continues_name text.now }
-    ensures within { result ≤ length text.now }
-{
-    text.iter().take_while(|c| continues_name(**c)).count()
-}
-
-/// Whether an identifier could go on here.
-fn continues(text: &[char]) -> bool
-    ensures { result ≡ characters.continues text.now }
-{
-    match text {
-        [] => false,
-        [c, ..] => continues_name(*c),
-    }
-}
-
-fn begins_mark(text: &[char]) -> bool
-    ensures { result ≡ characters.begins_mark text.now }
-{
-    match text {
-        [] => false,
-        [c, ..] => is_mark(*c),
-    }
-}
-
-/// Where the string ends that begins the text.
-fn string_end(text: &[char]) -> Option<usize>
-    requires opening { 1 ≤ length text.now }
-    ensures value { result ≡ spec.string_end 1 (drop 1 text.now) }
-    ensures within { IfSome result (λ end. (1 ≤ end) × (end ≤ length text.now)) }
-{
-    let mut i = 1;
-    while i < text.len() {
-        let c = text[i];
-        if c == '"' {
-            return Some(i + 1);
-        }
-        if !is_plain(c) {
-            return None;
-        }
-        i += 1;
-    }
-    None
-}
-
-fn quoted(text: &[char]) -> Option<Found>
-    requires { 1 ≤ length text.now }
-    ensures { result ≡ spec.quoted text.now }
-{
-    let end = string_end(text)?;
-    if continues(&text[end..]) {
-        None
-    } else {
-        Some(Found {
-            kind: Kind::Literal,
-            length: end,
-        })
-    }
-}
-
-fn named(text: &[char]) -> Option<Found>
-    ensures { result ≡ spec.named text.now }
-{
-    let end = name_length(text);
-    if text.get(end) == Some(&'"') {
-        None
-    } else {
-        Some(Found {
-            kind: Kind::Ident,
-            length: end,
-        })
-    }
-}
-
-fn mark(text: &[char]) -> Option<Found>
-    requires { 1 ≤ length text.now }
-    ensures { result ≡ spec.mark text.now }
-{
-    let joint = begins_mark(&text[1..]);
-    one(Kind::Mark { joint })
 }
 
 /// A piece of one character.
@@ -144,21 +73,57 @@ fn one(kind: Kind) -> Option<Found>
     Some(Found { kind, length: 1 })
 }
 
-#[tactic(auto, unfolding(crate::specs::Scan::piece))]
-fn cut(text: &[char]) -> Option<Found>
-    ensures { result ≡ spec.piece text.now }
+/// What begins with `"`.
+fn quoted(text: &[char]) -> Option<Found>
+    requires { 1 ≤ length text.now }
+    ensures { result ≡ spec.literal (spec.string_length false text.now) }
+{
+    let length = string_length(false, text)?;
+    let kind = Kind::Literal;
+    Some(Found { kind, length })
+}
+
+/// The longest piece at the front, whatever follows it.
+#[tactic(auto, unfolding(crate::specs::Scan::front))]
+fn front(text: &[char]) -> Option<Found>
+    ensures { result ≡ spec.front text.now }
 {
     let [first, ..] = text else {
         return None;
     };
     match head_of(*first) {
-        Head::Name => named(text),
+        Head::Name => Some(worded(text)),
         Head::White => one(Kind::White),
+        Head::Digit => number(text),
         Head::Quote => quoted(text),
-        Head::Mark => mark(text),
+        Head::Tick => ticked(text),
+        Head::Slash => slashed(text),
+        Head::Mark => Some(mark(text)),
         Head::Open(delimiter) => one(Kind::Open(delimiter)),
         Head::Close(delimiter) => one(Kind::Close(delimiter)),
         Head::Other => None,
+    }
+}
+
+/// Whether a piece of this kind may stand directly before the text.
+fn may_precede(kind: Kind, text: &[char]) -> bool
+    ensures { result ≡ pieces.may_precede kind text.now }
+{
+    match kind {
+        Kind::Ident | Kind::RawIdent => at(text, 0) != '"',
+        Kind::Literal => !continues(text),
+        _ => true,
+    }
+}
+
+fn cut(text: &[char]) -> Option<Found>
+    ensures { result ≡ spec.piece text.now }
+{
+    let found = front(text)?;
+    if may_precede(found.kind, rest(text, found.length)) {
+        Some(found)
+    } else {
+        None
     }
 }
 
