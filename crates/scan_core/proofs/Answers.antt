@@ -1,5 +1,5 @@
 -- What an answer is: a kind and a length, and what makes it a right one.
-use Rattle.std.proofs.Common.{◌≡◌, ℕ, ◌≤◌, [], ◌∷◌, ◌++◌, length, Some, ap, sym, refl, ◌∙◌, subst, arith}
+use Rattle.std.proofs.Common.{◌≡◌, ℕ, ◌≤◌, [], ◌∷◌, ◌++◌, length, Some, ap, sym, refl, subst, arith}
 use Rattle.scan_core.specs.Characters.{Characters}
 use Rattle.scan_core.specs.Pieces.{IsPiece}
 use Rattle.scan_core.specs.Scan.{found, head_of, headed, front}

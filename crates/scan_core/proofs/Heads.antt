@@ -1,14 +1,14 @@
 -- How a piece begins.
-use Rattle.std.proofs.Common.{◌≡◌, ℕ, ◌<◌, Bool, true, false, not, cond, ◌&&◌, ◌||◌, eqb, [], ◌∷◌, refl, sym, ap, ◌∙◌, subst, arith, lit<}
+use Rattle.std.proofs.Common.{◌≡◌, ℕ, ◌<◌, Bool, true, false, not, cond, ◌||◌, eqb, [], ◌∷◌, refl, sym, ap, ◌∙◌, subst, arith, lit<}
 use Rattle.std.proofs.lemmas.Bool.{eqb-true, true≢false, false≢true}
 use Rattle.std.proofs.lemmas.Bool.Decides.{nat_tests}
-use Rattle.std.specs.Char.{is_ascii_alphabetic, is_ascii_alphanumeric}
+use Rattle.std.specs.Char.{is_ascii_alphabetic}
 use Rattle.ucd_table.proofs.TrieCheck.{all_below, all_below-at}
 use Rattle.unicode_ident.proofs.Computing.{unicode_ident}
 use Rattle.unicode_ident.proofs.IdentLemmas.{is_xid_start-ascii, is_xid_continue-ascii, is_xid_start-is_xid_continue}
-use Rattle.scan_core.specs.Names.{starts_name, continues_name}
+use Rattle.token_core.specs.Names.{starts_name, continues_name}
 use Rattle.scan_core.specs.Characters.{is_white, whites, is_mark, marks, opening, closing}
-use Rattle.scan_core.specs.Numbers.{is_decimal, in_digits}
+use Rattle.scan_core.specs.Numbers.{is_decimal}
 use Rattle.scan_core.specs.Scan.{head_of, delimiter_head}
 use Rattle.scan_core.proofs.Lists.{any_has}
 use Rattle.token_core.specs.declared.tree.Delimiter.{Delimiter}
@@ -85,6 +85,13 @@ excluded false b h k = absurd (false≢true k)
 decimal-low : (c : ℕ) → is_decimal c ≡ true → c < 128
 decimal-low c h = grind (arith, nat_tests)
 
+-- what is a digit begins no name
+pub decimal-starts : (c : ℕ) → is_decimal c ≡ true → starts_name c ≡ false
+unfolding all_below
+decimal-starts c h =
+    let low = decimal-low c h in
+    starts_ascii c low ∙ excluded _ _ (below (λ c. not (is_decimal c) || not (is_ascii_alphabetic c || eqb c 95)) refl c low) h
+
 -- ---- by the character
 
 pub head_of-name : (c : ℕ) → starts_name c ≡ true → head_of c ≡ head.Name
@@ -99,7 +106,7 @@ pub head_of-digit : (c : ℕ) → is_decimal c ≡ true → head_of c ≡ head.D
 unfolding all_below
 head_of-digit c h =
     let low = decimal-low c h in
-    let name : starts_name c ≡ false = starts_ascii c low ∙ excluded _ _ (below (λ c. not (is_decimal c) || not (is_ascii_alphabetic c || eqb c 95)) refl c low) h in
+    let name = decimal-starts c h in
     let white : is_white c ≡ false = excluded _ _ (below (λ c. not (is_decimal c) || not (is_white c)) refl c low) h in
     rw (name, white, h) refl
 

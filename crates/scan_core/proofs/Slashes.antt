@@ -1,9 +1,9 @@
 -- Comments and marks are found, and what is found as such is.
-use Rattle.std.proofs.Common.{◌≡◌, ℕ, zero, suc, ◌+◌, ◌-◌, ◌≤◌, ◌⊎◌, inl, inr, ⊎_elim, Bool, true, false, not, cond, ◌&&◌, ◌||◌, eqb, [], ◌∷◌, ◌++◌, length, take, drop, get_or, slice_index, Option, Some, None, refl, sym, ap, ◌∙◌, subst, arith}
+use Rattle.std.proofs.Common.{◌≡◌, ℕ, ◌+◌, ◌-◌, inl, inr, ⊎_elim, Bool, true, false, not, cond, ◌&&◌, ◌||◌, eqb, [], ◌∷◌, ◌++◌, length, take, drop, slice_index, Option, Some, None, refl, sym, ap, ◌∙◌, subst, arith}
 use Rattle.std.proofs.lemmas.Bool.{and_parts, not-true, eqb-true, true≢false}
 use Rattle.std.proofs.lemmas.List.{take-append-drop}
 use Rattle.std.proofs.lemmas.List.Folds.{length-prefix_len}
-use Rattle.std.specs.List.{list_all, prefix_len}
+use Rattle.std.specs.List.{prefix_len}
 use Rattle.scan_core.specs.Characters.{Characters, begins, is_mark}
 use Rattle.scan_core.specs.Comments.{IsLineComment, IsBlockComment, is_in_line, ends_line, documents, comment_end}
 use Rattle.scan_core.specs.Pieces.{IsPiece, begins_mark, goes_on}
@@ -12,7 +12,6 @@ use Rattle.scan_core.proofs.Answers.{Finds, Finds-one, Sound, Sound-same, front-
 use Rattle.scan_core.proofs.Heads.{head_of-mark, head_of-slash}
 use Rattle.scan_core.proofs.Lists.{prefix_len-run, list_all-take_prefix, begins-drop_prefix}
 use Rattle.scan_core.specs.declared.kind.Found.{Found}
-use Rattle.scan_core.specs.declared.kind.Kind.{Kind}
 use Rattle.scan_core.specs.declared.kind.Kind.TheVariants as kind
 use Rattle.scan_core.specs.declared.scan.Head.TheVariants as head
 
@@ -31,7 +30,7 @@ front-mark c after h =
       | true ↦ λ e.
           let other : (eqb (slice_index after 0) 47 || eqb (slice_index after 0) 42) ≡ false = sym (ap (λ b. b && (eqb (slice_index after 0) 47 || eqb (slice_index after 0) 42)) e) ∙ none in
           subst (λ c. front (c ∷ after) ≡ found (kind.Mark (goes_on after)) 1) (sym (eqb-true c 47 e)) (
-            front-head 47 after head.Slash head_of-slash ∙ no_comment (eqb (slice_index after 0) 47) (eqb (slice_index after 0) 42) _ _ _ other,
+          front-head 47 after head.Slash head_of-slash ∙ no_comment (eqb (slice_index after 0) 47) (eqb (slice_index after 0) 42) _ _ _ other
           )
       | false ↦ λ e. front-head c after head.Mark (head_of-mark c parts.0 e)
     ] refl
@@ -70,9 +69,9 @@ Finds-line doc text after h =
     let size : 2 + prefix_len is_in_line (body ++ after) ≡ length (47 ∷ 47 ∷ body) = omega (arith, run) in
     let is : documents (47 ∷ 47 ∷ (body ++ after)) ≡ doc = documents-append body after h.3 ∙ ap documents (sym h.1) ∙ h.4 in
     subst (λ (t : Characters). Finds (cond doc kind.Doc kind.Comment) t after) (sym h.1) (
-      front-head 47 (47 ∷ (body ++ after)) head.Slash head_of-slash
-      ∙ ap (λ b. found (cond b kind.Doc kind.Comment) (2 + prefix_len is_in_line (body ++ after))) is
-      ∙ ap (found (cond doc kind.Doc kind.Comment)) size,
+    front-head 47 (47 ∷ (body ++ after)) head.Slash head_of-slash
+    ∙ ap (λ b. found (cond b kind.Doc kind.Comment) (2 + prefix_len is_in_line (body ++ after))) is
+    ∙ ap (found (cond doc kind.Doc kind.Comment)) size
     )
 
 Sound-line : (cs : Characters) → Sound (47 ∷ 47 ∷ cs) (record { kind = cond (documents (47 ∷ 47 ∷ cs)) kind.Doc kind.Comment; length = 2 + prefix_len is_in_line cs })
@@ -116,7 +115,7 @@ Finds-block text after h =
     let body : Characters = h.0 in
     let size : 2 + length body ≡ length (47 ∷ 42 ∷ body) = omega arith in
     subst (λ (t : Characters). Finds kind.Comment t after) (sym h.1) (
-      front-head 47 (42 ∷ (body ++ after)) head.Slash head_of-slash ∙ ap comment (comment_end-more 1 2 (2 + length body) body after h.2) ∙ ap (found kind.Comment) size,
+    front-head 47 (42 ∷ (body ++ after)) head.Slash head_of-slash ∙ ap comment (comment_end-more 1 2 (2 + length body) body after h.2) ∙ ap (found kind.Comment) size
     )
 
 pub Finds-comment : (text after : Characters) → IsPiece kind.Comment text after → Finds kind.Comment text after

@@ -1,5 +1,5 @@
 -- White space and delimiters are found, and what is found as such is.
-use Rattle.std.proofs.Common.{◌≡◌, ℕ, ◌<◌, ◌≤◌, true, [], ◌∷◌, length, refl, sym, ap, ◌∙◌, subst, arith}
+use Rattle.std.proofs.Common.{◌≡◌, ℕ, ◌<◌, ◌≤◌, true, [], ◌∷◌, length, refl, sym, ap, ◌∙◌, arith}
 use Rattle.scan_core.specs.Characters.{Characters, is_white, opening, closing}
 use Rattle.scan_core.specs.Pieces.{IsPiece}
 use Rattle.scan_core.proofs.Answers.{Finds, Finds-one, Sound, front-head}

@@ -1,5 +1,5 @@
 -- Escapes: what may follow a backslash, in forms of text and in forms of bytes.
-use Rattle.std.specs.Prelude.{◌≡◌, ◌⊎◌, ℕ, ◌+◌, ◌*◌, Bool, true, false, not, ◌&&◌, ◌||◌, ◌==◌, nat_le, nat_lt, if◌then◌else◌, [], ◌∷◌, ◌++◌, codes}
+use Rattle.std.specs.Prelude.{◌≡◌, ◌⊎◌, ℕ, ◌+◌, ◌*◌, Bool, true, false, ◌&&◌, ◌||◌, ◌==◌, nat_le, nat_lt, if◌then◌else◌, [], ◌∷◌, ◌++◌, codes}
 use Rattle.std.specs.List.{list_all, list_any, count_by}
 use Rattle.std.specs.Char.{digit_value, is_ascii_hexdigit}
 use Rattle.scan_core.specs.Characters.{Characters, begins}

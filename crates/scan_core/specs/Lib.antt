@@ -1,4 +1,3 @@
-pub mod Names
 pub mod Characters
 pub mod Comments
 pub mod Escapes

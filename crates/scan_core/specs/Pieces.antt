@@ -1,9 +1,9 @@
 -- The pieces of a text: what each is, and not where a scan ends.
 use Rattle.std.specs.Prelude.{◌≡◌, ◌⊎◌, ◌<◌, ◌≤◌, ℕ, Bool, true, false, not, ◌&&◌, ◌||◌, ◌==◌, [], ◌∷◌, ◌++◌, length, slice_index}
-use Rattle.scan_core.specs.Names.{is_name, is_reserved}
+use Rattle.token_core.specs.Names.{is_name, is_reserved}
 use Rattle.scan_core.specs.Characters.{Characters, is_white, is_mark, continues, opening, closing}
 use Rattle.scan_core.specs.Comments.{IsLineComment, IsBlockComment, begins_doc}
-use Rattle.scan_core.specs.Strings.{IsQuoted, IsTicked}
+use Rattle.scan_core.specs.Strings.{IsString, IsPrefixed, IsTicked}
 use Rattle.scan_core.specs.Numbers.{IsNumber}
 use Rattle.scan_core.specs.declared.kind.Kind.{Kind}
 use Rattle.scan_core.specs.declared.kind.Kind.TheVariants as kind
@@ -29,7 +29,7 @@ IsPiece kind.Ident front after = is_name front ≡ true
 IsPiece kind.RawIdent front after = IsRawName front after
 IsPiece kind.Lifetime front after = (name : Characters) × (front ≡ 39 ∷ name) × ((is_name name ≡ true) ⊎ IsRawName name after)
 IsPiece (kind.Mark joint) front after = (c : ℕ) × (front ≡ c ∷ []) × (begins_mark (c ∷ after) ≡ true) × (joint ≡ goes_on after)
-IsPiece kind.Literal front after = IsQuoted front ⊎ ((IsTicked false front × (continues after ≡ false)) ⊎ IsNumber front after)
+IsPiece kind.Literal front after = IsString false front ⊎ (IsPrefixed front ⊎ ((IsTicked false front × (continues after ≡ false)) ⊎ IsNumber front after))
 IsPiece (kind.Open d) front after = (front ≡ opening d) × (0 < length front)
 IsPiece (kind.Close d) front after = (front ≡ closing d) × (0 < length front)
 

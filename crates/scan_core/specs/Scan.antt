@@ -2,13 +2,13 @@
 use Rattle.std.specs.Prelude.{ℕ, zero, suc, ◌+◌, ◌*◌, ◌^◌, Bool, true, false, not, ◌&&◌, ◌||◌, if◌then◌else◌, ◌==◌, nat_le, nat_lt, [], ◌∷◌, drop, take, slice_index, Option, Some, None}
 use Rattle.std.specs.List.{prefix_len, list_any}
 use Rattle.std.specs.Char.{is_digit, digit_value}
-use Rattle.scan_core.specs.Names.{starts_name, continues_name, is_reserved}
+use Rattle.token_core.specs.Names.{starts_name, continues_name, is_reserved}
 use Rattle.scan_core.specs.Characters.{Characters, begins, is_white, is_mark, continues}
 use Rattle.scan_core.specs.Comments.{is_in_line, documents, comment_end}
 use Rattle.scan_core.specs.Escapes.{is_short, is_pair, in_hex, is_number_of_character, digits_value}
 use Rattle.scan_core.specs.Strings.{fits, is_blank, is_hash, closes, is_single}
 use Rattle.scan_core.specs.Numbers.{is_decimal, in_digits, begins_fraction, is_exponent_letter, is_sign, base_of, begins_base}
-use Rattle.scan_core.specs.Pieces.{begins_mark, goes_on, may_precede}
+use Rattle.scan_core.specs.Pieces.{goes_on, may_precede}
 use Rattle.token_core.specs.declared.tree.Delimiter.TheVariants as delimiter
 use Rattle.scan_core.specs.declared.kind.Found.{Found}
 use Rattle.scan_core.specs.declared.kind.Kind.{Kind}

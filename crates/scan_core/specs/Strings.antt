@@ -66,11 +66,10 @@ IsTicked byte text =
     ((c : ℕ) × (text ≡ 39 ∷ c ∷ 39 ∷ []) × (is_single byte c ≡ true))
     ⊎ ((e : Characters) × (text ≡ 39 ∷ 92 ∷ (e ++ 39 ∷ [])) × IsEscape byte e)
 
--- `"..."`, `r"..."` with its `#`, and the same after `b`; a byte `b'x'`
-abbrev pub IsQuoted : Characters → Type 0
-IsQuoted text =
-    IsString false text
-    ⊎ (((raw : Characters) × (text ≡ 114 ∷ raw) × IsRaw false raw)
+-- `r"..."` with its `#`, the same after `b`, `b"..."`, and a byte `b'x'`
+abbrev pub IsPrefixed : Characters → Type 0
+IsPrefixed text =
+    ((raw : Characters) × (text ≡ 114 ∷ raw) × IsRaw false raw)
     ⊎ (((string : Characters) × (text ≡ 98 ∷ string) × IsString true string)
     ⊎ (((raw : Characters) × (text ≡ 98 ∷ 114 ∷ raw) × IsRaw true raw)
-    ⊎ ((ticked : Characters) × (text ≡ 98 ∷ ticked) × IsTicked true ticked))))
+    ⊎ ((ticked : Characters) × (text ≡ 98 ∷ ticked) × IsTicked true ticked)))

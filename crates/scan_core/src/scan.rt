@@ -6,14 +6,14 @@ ghost use Rattle.scan_core.specs.Pieces as pieces;
 ghost use Rattle.scan_core.specs.Scan as spec;
 ghost use Rattle.scan_core.specs.declared.kind.Kind.{Kind};
 
-use crate::class::{is_decimal, is_mark, is_white, starts_name};
+use crate::class::{is_decimal, is_mark, is_white};
 use crate::comments::{mark, slashed};
 use crate::kind::{Found, Kind};
 use crate::names::{ticked, worded};
 use crate::numbers::number;
 use crate::place::{at, continues, rest};
 use crate::quotes::string_length;
-use token_core::Delimiter;
+use token_core::{Delimiter, starts_name};
 
 /// How a piece begins.
 #[derive(Clone, Copy)]

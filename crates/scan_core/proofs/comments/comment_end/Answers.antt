@@ -1,4 +1,4 @@
-use Rattle.std.proofs.Common.{◌≡◌, ◌+◌, ◌<◌, ◌≤◌, eqb, true, false, length, drop, sym, ◌∙◌, arith}
+use Rattle.std.proofs.Common.{◌≡◌, eqb, true, false, drop, sym, ◌∙◌, arith}
 use Rattle.std.proofs.lemmas.Bool.Decides.{nat_tests}
 use Rattle.std.proofs.lemmas.List.{length-drop}
 use Rattle.scan_core.proofs.Steps.{comment_end-short, comment_end-closes, comment_end-ends, comment_end-opens, comment_end-goes_on}
