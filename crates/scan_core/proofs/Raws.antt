@@ -9,10 +9,10 @@ use Rattle.scan_core.specs.Strings.{IsRaw, fits, is_hash, hashes, closes, stays_
 use Rattle.scan_core.specs.Scan.{raw_end, raw_length}
 use Rattle.scan_core.proofs.Lists.{prefix_len-append_all, prefix_len-begins, get_or-append_length, drop-get}
 
-length-hashes : (n : ℕ) → length (hashes n) ≡ n
+pub length-hashes : (n : ℕ) → length (hashes n) ≡ n
 length-hashes n = length-replicate n (let hash : ℕ = 35 in hash)
 
-all-hashes : (n : ℕ) → list_all is_hash (hashes n) ≡ true
+pub all-hashes : (n : ℕ) → list_all is_hash (hashes n) ≡ true
 all-hashes zero = refl
 all-hashes (suc n) = all-hashes n
 

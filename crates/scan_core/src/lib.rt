@@ -16,7 +16,10 @@ mod text;
 
 pub use delimiter::{closing, opening};
 pub use kind::{Found, Kind};
-pub use numbers::digits_value;
+pub use class::base_of;
+pub use numbers::{digits_value, exponent_length, fraction_length};
+pub use place::{at, digits_length, hash_length, hex_length, rest};
+pub use quotes::item_length;
 pub use scan::piece;
 pub use text::{byte_length, characters, text_of};
 pub use token_core::Delimiter;

@@ -121,7 +121,7 @@ fn begins_after_dot(text: &[char]) -> bool
 }
 
 /// The number of characters of the fraction that begins the text.
-fn fraction_length(text: &[char]) -> usize
+pub fn fraction_length(text: &[char]) -> usize
     ensures value { result ≡ spec.fraction_length text.now }
     ensures within { result ≤ length text.now }
 {
@@ -177,7 +177,7 @@ fn begins_exponent_letter(text: &[char]) -> bool
 }
 
 /// The number of characters of the exponent that begins the text.
-fn exponent_length(text: &[char]) -> usize
+pub fn exponent_length(text: &[char]) -> usize
     ensures value { result ≡ spec.exponent_length text.now }
     ensures within { result ≤ length text.now }
 {

@@ -40,7 +40,7 @@ fn escape_length(byte: bool, text: &[char]) -> usize
 }
 
 /// The same in a string, where a line feed and blanks may stand there.
-fn item_length(byte: bool, text: &[char]) -> usize
+pub fn item_length(byte: bool, text: &[char]) -> usize
     ensures value { result ≡ spec.item_length byte text.now }
     ensures within { result ≤ length text.now }
 {
