@@ -1,5 +1,5 @@
 -- The content of a string, step by step.
-use Rattle.std.proofs.Common.{◌≡◌, ℕ, zero, suc, ◌+◌, ◌<◌, ◌≤◌, Bool, true, false, cond, eqb, List, [], ◌∷◌, ◌++◌, length, get_or, drop, slice_index, append_assoc, refl, sym, ap, ◌∙◌, arith, drop-drop}
+use Rattle.std.proofs.Common.{◌≡◌, ℕ, zero, suc, ◌+◌, ◌<◌, Bool, true, false, cond, eqb, List, [], ◌∷◌, ◌++◌, length, drop, slice_index, append_assoc, refl, sym, ap, ◌∙◌, arith, drop-drop}
 use Rattle.scan_core.specs.Scan.{item_length}
 use Rattle.scan_core.proofs.Lists.{drop-at}
 use Rattle.lit_core.specs.Reading.{escaped, unescaped}
@@ -23,7 +23,7 @@ unescaped-at byte z i h =
     let n = item_length byte cs in
     let places : i + 1 + n ≡ i + (1 + n) = omega arith in
     let skip : unescaped byte n cs ≡ after_item byte z i =
-        unescaped-skip byte n cs ∙ ap (unescaped byte 0) (drop-drop n (i + 1) z) ∙ ap (λ k. unescaped byte 0 (drop k z)) places in
+    unescaped-skip byte n cs ∙ ap (unescaped byte 0) (drop-drop n (i + 1) z) ∙ ap (λ k. unescaped byte 0 (drop k z)) places in
     ap (unescaped byte 0) (drop-at z i h)
     ∙ ap (λ u. cond (eqb (slice_index z i) 92) (cond (eqb (slice_index cs 0) 10) u (escaped cs ∷ u)) (slice_index z i ∷ unescaped byte 0 cs)) skip
 

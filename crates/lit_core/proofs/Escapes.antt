@@ -1,9 +1,8 @@
 -- What escapes stand for is read, whatever follows them.
-use Rattle.std.proofs.Common.{◌≡◌, ℕ, suc, ◌+◌, ◌-◌, ◌*◌, ◌<◌, ◌≤◌, inl, inr, ⊎_elim, Bool, true, false, not, cond, ◌&&◌, ◌||◌, eqb, nat_le, nat_lt, codes, [], ◌∷◌, ◌++◌, length, take, drop, slice_index, refl, sym, ap, ◌∙◌, subst, arith, append_assoc}
+use Rattle.std.proofs.Common.{◌≡◌, ℕ, ◌+◌, ◌-◌, ◌*◌, ◌<◌, ◌≤◌, ⊎_elim, Bool, true, false, cond, ◌&&◌, ◌||◌, eqb, nat_le, nat_lt, codes, [], ◌∷◌, ◌++◌, take, slice_index, refl, sym, ap, ◌∙◌, subst, arith, append_assoc}
 use Rattle.std.proofs.Math.Seq.{take-append_seam}
-use Rattle.std.proofs.lemmas.Bool.{and_parts, leb-true, lt-ltb, ltb-true, or_cases, or_left, false≢true, true≢false}
+use Rattle.std.proofs.lemmas.Bool.{and_parts, leb-true, lt-ltb, ltb-true, or_cases, or_left, true≢false}
 use Rattle.std.proofs.lemmas.Bool.Decides.{nat_tests}
-use Rattle.std.proofs.lemmas.List.{append-nil}
 use Rattle.std.specs.Char.{digit_value, is_ascii_hexdigit}
 use Rattle.std.specs.Int.{is_in_range}
 use Rattle.std.specs.List.{AllByRecursion, prefix_len}
@@ -27,8 +26,19 @@ short-plain c h = any_has IsPlainLetter c (codes "nrt\\0'\"") all h
     plain n x u l = record { not_x = x; not_u = u; not_line = l }
 
     all : AllByRecursion IsPlainLetter (codes "nrt\\0'\"")
-    all = (plain 110 refl refl refl, (plain 114 refl refl refl, (plain 116 refl refl refl, (plain 92 refl refl refl,
-        (plain 48 refl refl refl, (plain 39 refl refl refl, (plain 34 refl refl refl, tt)))))))
+    all = (
+      plain 110 refl refl refl,
+      (
+        plain 114 refl refl refl,
+        (
+          plain 116 refl refl refl,
+          (
+            plain 92 refl refl refl,
+            (plain 48 refl refl refl, (plain 39 refl refl refl, (plain 34 refl refl refl, tt))),
+          ),
+        ),
+      ),
+    )
 
 -- a choice is at most what both its ends are
 choose : (most : ℕ) (b : Bool) (x y : ℕ) → (b ≡ true → x ≤ most) → (b ≡ false → y ≤ most) → cond b x y ≤ most
@@ -103,10 +113,10 @@ pair a b rest = record { same = refl; read = rw (pair-scalar a b) refl; not_line
 number : (digits rest : Characters) → is_number_of_character digits ≡ true → IsRead (117 ∷ 123 ∷ (digits ++ 125 ∷ [])) rest
 number digits rest h =
     let run : (rest : Characters) → take (prefix_len in_hex (digits ++ 125 ∷ rest)) (digits ++ 125 ∷ rest) ≡ digits = λ rest.
-        ap (λ n. take n (digits ++ 125 ∷ rest)) (prefix_len-run in_hex digits (125 ∷ rest) (digits-in_hex digits h) refl) ∙ take-append_seam digits (125 ∷ rest) in
+    ap (λ n. take n (digits ++ 125 ∷ rest)) (prefix_len-run in_hex digits (125 ∷ rest) (digits-in_hex digits h) refl) ∙ take-append_seam digits (125 ∷ rest) in
     let alone = ap (digits_value 16 0) (run []) in
     let before : digits_value 16 0 (take (prefix_len in_hex ((digits ++ 125 ∷ []) ++ rest)) ((digits ++ 125 ∷ []) ++ rest)) ≡ digits_value 16 0 digits =
-        ap (λ z. digits_value 16 0 (take (prefix_len in_hex z) z)) (append_assoc digits (125 ∷ []) rest) ∙ ap (digits_value 16 0) (run rest) in
+    ap (λ z. digits_value 16 0 (take (prefix_len in_hex z) z)) (append_assoc digits (125 ∷ []) rest) ∙ ap (digits_value 16 0) (run rest) in
     let scalar : is_scalar (digits_value 16 0 digits) ≡ true = (and_parts _ _ h).1 in
     record { same = before ∙ sym alone; read = ap or_mark before ∙ rw scalar refl ∙ sym alone; not_line = refl }
 

@@ -1,5 +1,5 @@
 -- The values of strings, raw forms, characters and bytes are read.
-use Rattle.std.proofs.Common.{◌≡◌, ℕ, suc, ◌+◌, ◌-◌, ◌<◌, ⊎_elim, Bool, true, false, not, cond, ◌&&◌, ◌||◌, eqb, nat_lt, List, [], ◌∷◌, ◌++◌, length, take, drop, map, slice_index, refl, sym, ap, ◌∙◌, subst, arith, length-append}
+use Rattle.std.proofs.Common.{◌≡◌, ℕ, suc, ◌+◌, ◌-◌, ◌<◌, ⊎_elim, Bool, true, false, not, cond, ◌&&◌, eqb, List, [], ◌∷◌, ◌++◌, length, take, drop, map, slice_index, refl, sym, ap, ◌∙◌, subst, arith, length-append}
 use Rattle.std.proofs.Math.Seq.{drop-append-add, drop-append_seam, take-append_seam}
 use Rattle.std.proofs.lemmas.Bool.{and_parts, lt-ltb, ltb-true, not-true, or_parts}
 use Rattle.std.proofs.lemmas.List.{append-nil, map-append}
@@ -38,7 +38,7 @@ unescaped-item byte item rest h = ⊎_elim
         let alone : eqb (slice_index e 0) 10 ≡ false = ap (λ (z : Characters). eqb (slice_index z 0) 10) (sym (append-nil e)) ∙ escape-not_line byte e [] h in
         let size : item_length byte (e ++ rest) ≡ length e = rw line (escape_length-append byte e rest h) in
         let skip : u ≡ unescaped byte 0 rest =
-            ap (λ n. unescaped byte n (e ++ rest)) size ∙ unescaped-skip byte (length e) (e ++ rest) ∙ ap (unescaped byte 0) (drop-append_seam e rest) in
+        ap (λ n. unescaped byte n (e ++ rest)) size ∙ unescaped-skip byte (length e) (e ++ rest) ∙ ap (unescaped byte 0) (drop-append_seam e rest) in
         ap (λ b. cond b u (escaped (e ++ rest) ∷ u)) line
         ∙ ap (λ x. x ∷ u) (escaped-append byte e rest h)
         ∙ ap (λ (z : Characters). escape_value e ∷ z) skip

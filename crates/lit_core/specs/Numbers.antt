@@ -17,5 +17,5 @@ IsFloat text = (n : IsDecimalNumber text []) × ((0 < length (n.fraction ++ n.ex
 abbrev pub IsInt : Characters → ℕ → Type 0
 IsInt text value =
     ((n : IsDecimalNumber text [])
-        × (n.fraction ≡ []) × (n.exponent ≡ []) × (is_float_suffix n.suffix ≡ false) × (value ≡ digits_value 10 0 n.whole))
+    × (n.fraction ≡ []) × (n.exponent ≡ []) × (is_float_suffix n.suffix ≡ false) × (value ≡ digits_value 10 0 n.whole))
     ⊎ ((n : IsBasedNumber text []) × (value ≡ digits_value (base_of n.letter) 0 n.digits))

@@ -1,7 +1,7 @@
 -- What literals between quotes stand for.
-use Rattle.std.specs.Prelude.{◌≡◌, ◌⊎◌, ℕ, Bool, true, false, ◌==◌, if◌then◌else◌, List, [], ◌∷◌, ◌++◌, drop, take, map, slice_index}
+use Rattle.std.specs.Prelude.{◌≡◌, ◌⊎◌, ℕ, Bool, true, false, ◌==◌, if◌then◌else◌, [], ◌∷◌, ◌++◌, drop, take, map, slice_index}
 use Rattle.std.specs.List.{concat, prefix_len}
-use Rattle.scan_core.specs.Characters.{Characters, begins}
+use Rattle.scan_core.specs.Characters.{Characters}
 use Rattle.scan_core.specs.Escapes.{IsEscape, digits_value, in_hex}
 use Rattle.scan_core.specs.Strings.{IsString, IsRaw, is_single}
 

@@ -1,4 +1,4 @@
-ghost use Rattle.std.specs.Prelude.{◌≡◌, ◌↔◌, IsTrue, [], IfOk, IfSome, IfNone};
+ghost use Rattle.std.specs.Prelude.{◌≡◌, ◌↔◌, true, false, [], length, IfOk, IfSome, IfNone};
 ghost use Rattle.std.specs.Str.{chars, encode_utf8_all};
 ghost use Rattle.scan_core.specs.Pieces.{IsPiece};
 ghost use Rattle.scan_core.specs.declared.kind.Kind.TheVariants as kind;
@@ -10,7 +10,7 @@ ghost use Rattle.lit_core.specs.declared.value.Value.TheVariants as value;
 use crate::number::number;
 use crate::quoted::{byte, bytes, content, ticked, unescaped};
 use base_core::{Items, Mem, Text};
-use scan_core::{Kind, at, characters, piece, rest, text_of};
+use scan_core::{Found, Kind, at, characters, piece, rest, text_of};
 use std::alloc::Global;
 
 /// What a literal stands for.
@@ -30,12 +30,23 @@ pub enum Value {
     Float,
 }
 
+/// Whether the piece is a literal and the whole text.
+fn is_whole(found: Found, text: &[char]) -> bool
+    ensures { (result ≡ true) ↔ ((found.kind ≡ kind.Literal) × (found.length ≡ length text.now)) }
+{
+    match found.kind {
+        Kind::Literal => found.length == text.len(),
+        _ => false,
+    }
+}
+
 /// Whether the characters are a literal.
 fn is_literal(text: &[char]) -> bool
-    ensures { IsTrue result ↔ IsPiece kind.Literal text.now [] }
+    ensures literal { result ≡ true → IsPiece kind.Literal text.now [] }
+    ensures other { result ≡ false → IsPiece kind.Literal text.now [] → ⊥ }
 {
     match piece(text) {
-        Some(found) => found.kind == Kind::Literal && found.length == text.len(),
+        Some(found) => is_whole(found, text),
         None => false,
     }
 }

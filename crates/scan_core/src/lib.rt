@@ -14,9 +14,9 @@ mod scan;
 mod tests;
 mod text;
 
+pub use class::base_of;
 pub use delimiter::{closing, opening};
 pub use kind::{Found, Kind};
-pub use class::base_of;
 pub use numbers::{digits_value, exponent_length, fraction_length};
 pub use place::{at, digits_length, hash_length, hex_length, rest};
 pub use quotes::item_length;

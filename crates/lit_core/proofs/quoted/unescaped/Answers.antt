@@ -1,4 +1,4 @@
-use Rattle.std.proofs.Common.{◌≡◌, ◌+◌, ◌∷◌, ◌++◌, drop, rules, arith, eqb, true, false, slice_index}
+use Rattle.std.proofs.Common.{rules, arith}
 use Rattle.lit_core.proofs.Content.{unescaped-dropped, unescaped-escape}
 use Rattle.lit_core.proofs.quoted.unescaped.Goals as goal
 
