@@ -5,3 +5,4 @@ pub mod Strings
 pub mod Numbers
 pub mod Pieces
 pub mod Scan
+pub mod Closings

@@ -4,6 +4,7 @@
 mod class;
 mod comments;
 mod delimiter;
+mod ends;
 mod kind;
 mod names;
 mod numbers;
@@ -16,10 +17,11 @@ mod text;
 
 pub use class::base_of;
 pub use delimiter::{closing, opening};
+pub use ends::{Closing, closings};
 pub use kind::{Found, Kind};
 pub use numbers::{digits_value, exponent_length, fraction_length};
 pub use place::{at, digits_length, hash_length, hex_length, rest};
 pub use quotes::item_length;
-pub use scan::piece;
+pub use scan::{piece, piece_with};
 pub use text::{byte_length, characters, text_of};
 pub use token_core::Delimiter;
