@@ -13,7 +13,7 @@ use Rattle.scan_core.proofs.Lists.{prefix_len-run, get_or-append_length, drop-ge
 
 -- ---- an escape is read whole
 
-digits-in_hex : (digits : Characters) → is_number_of_character digits ≡ true → list_all in_hex digits ≡ true
+pub digits-in_hex : (digits : Characters) → is_number_of_character digits ≡ true → list_all in_hex digits ≡ true
 digits-in_hex digits h = (and_parts (begins is_ascii_hexdigit digits) _ (and_parts _ _ (and_parts _ _ h).0).0).1
 
 -- escapes with `u`, where the digits are run through

@@ -26,7 +26,7 @@ no_digit : (text : Characters) → begins (in_digits 10) text ≡ false → begi
 no_digit [] h = refl
 no_digit (c ∷ cs) h = (or_parts (is_digit c 10) (eqb c 95) h).0
 
-decimal_run : (text after : Characters) → IsDecimalRun text after → prefix_len (in_digits 10) (text ++ after) ≡ length text
+pub decimal_run : (text after : Characters) → IsDecimalRun text after → prefix_len (in_digits 10) (text ++ after) ≡ length text
 decimal_run text after h = prefix_len-run (in_digits 10) text after h.digits h.ends
 
 -- the run of a text that begins with a digit
@@ -56,7 +56,7 @@ digit-after_dot c h = or_from (eqb c 46) (starts_name c) (cases (eqb c 46) refl)
     cases true e = absurd (true≢false (sym h ∙ ap is_decimal (eqb-true c 46 e)))
     cases false e = refl
 
-fraction_length-append : (text after : Characters) → IsFraction text after → fraction_length (text ++ after) ≡ length text
+pub fraction_length-append : (text after : Characters) → IsFraction text after → fraction_length (text ++ after) ≡ length text
 fraction_length-append text after h = ⊎_elim
     (λ n. subst P (sym n.0) (ap (λ b. cond b (cond (begins is_decimal (drop 1 after)) (1 + prefix_len (in_digits 10) (drop 1 after)) 1) 0) n.1))
     (λ h. ⊎_elim
@@ -209,7 +209,7 @@ some_exponent-front (c ∷ cs) h = by_sign (begins is_sign cs) refl h
     by_sign true e h = signed cs refl e h
 
 -- an exponent that is there, or that none is
-exponent-append : (text after : Characters) → IsExponent text after → exponent_length (text ++ after) ≡ length text
+pub exponent-append : (text after : Characters) → IsExponent text after → exponent_length (text ++ after) ≡ length text
 exponent-append text after h = ⊎_elim (λ n. subst (λ (t : Characters). exponent_length (t ++ after) ≡ length t) (sym n.0) (none n.1 (exponent_length after) refl)) (λ s. (exponent_length-append text after s).0) h
   where
     none : ((front rest : Characters) → after ≡ front ++ rest → IsSomeExponent front rest → ⊥) → (n : ℕ) → exponent_length after ≡ n → exponent_length after ≡ 0

@@ -1,5 +1,5 @@
 -- Where raw forms can end: at each place of a text, the most `#` behind a `"` from there on.
-use Rattle.std.specs.Prelude.{ℕ, ◌+◌, ◌==◌, Bool, true, false, if◌then◌else◌, min, max, nat_le, List, [], ◌∷◌}
+use Rattle.std.specs.Prelude.{◌≡◌, ◌⊎◌, ℕ, ◌+◌, ◌==◌, Bool, true, false, if◌then◌else◌, min, max, nat_le, List, [], ◌∷◌}
 use Rattle.std.specs.List.{prefix_len}
 use Rattle.scan_core.specs.Characters.{Characters}
 use Rattle.scan_core.specs.Strings.{fits, is_hash}
@@ -33,7 +33,11 @@ more_hashes hashes c = if c == 35 then min (hashes + 1) 255 else 0
 abbrev pub more_most : Bool → ℕ → ℕ → ℕ → ℕ
 more_most byte most hashes c = if c == 34 then max hashes most else (if fits byte c then most else 0)
 
--- a raw form with so many `#` can end in what begins here
+-- nothing is known, or where raw forms can end at each place of the text
+abbrev pub AreClosings : List Closing → Characters → Type 0
+AreClosings closings text = (closings ≡ []) ⊎ (closings ≡ closings_of text)
+
+-- by what is known, a raw form with so many `#` may end in what begins here
 abbrev pub can_close : Bool → ℕ → List Closing → Bool
-can_close byte hashes [] = false
+can_close byte hashes [] = true
 can_close byte hashes (closing ∷ closings) = nat_le hashes (most_of byte closing)

@@ -134,7 +134,7 @@ pub(crate) fn is_sign(c: char) -> bool
 }
 
 /// The base that `0` and this letter announce, or 0.
-pub(crate) fn base_of(c: char) -> u32
+pub fn base_of(c: char) -> u32
     ensures value { result ≡ numbers.base_of c }
     ensures within { result ≤ 16 }
 {

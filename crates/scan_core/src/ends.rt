@@ -67,12 +67,13 @@ pub fn closings(alloc: Global, text: &[char]) -> Result<Vec<Closing>, AllocError
     Ok(closings)
 }
 
-/// Whether a raw form with so many `#` can end in what begins at the first of these places.
+/// Whether a raw form with so many `#` may end in what begins at the first of these places: where
+/// there is none, nothing is known.
 pub(crate) fn can_close(byte: bool, hashes: usize, closings: &[Closing]) -> bool
     ensures { result ≡ spec.can_close byte hashes closings.now }
 {
     match closings {
-        [] => false,
+        [] => true,
         [closing, ..] => {
             let most = if byte { closing.bytes } else { closing.text };
             hashes <= most as usize

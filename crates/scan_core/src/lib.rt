@@ -15,9 +15,13 @@ mod scan;
 mod tests;
 mod text;
 
+pub use class::base_of;
 pub use delimiter::{closing, opening};
+pub use ends::{Closing, closings};
 pub use kind::{Found, Kind};
-pub use numbers::digits_value;
-pub use scan::piece;
+pub use numbers::{digits_value, exponent_length, fraction_length};
+pub use place::{at, digits_length, hash_length, hex_length, rest};
+pub use quotes::item_length;
+pub use scan::{piece, piece_with};
 pub use text::{byte_length, characters, text_of};
 pub use token_core::Delimiter;

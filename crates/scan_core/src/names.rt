@@ -1,7 +1,9 @@
 //! Identifiers and lifetimes.
 ghost use Rattle.std.specs.Prelude.{◌≡◌, ◌+◌, ℕ, Option, false, length, take, drop, slice_index};
+ghost use Rattle.scan_core.specs.Closings.{AreClosings};
 ghost use Rattle.scan_core.specs.Scan as spec;
 
+use crate::ends::Closing;
 use crate::kind::{Found, Kind};
 use crate::place::{at, begins_name, continues, name_length, rest};
 use crate::quotes::{prefixed_length, ticked_length};
@@ -41,10 +43,11 @@ fn named(text: &[char]) -> Found
 }
 
 /// What begins with a letter or `_`: a literal with a prefix, or an identifier.
-pub(crate) fn worded(text: &[char]) -> Found
+pub(crate) fn worded(text: &[char], closings: &[Closing]) -> Found
+    requires { AreClosings closings.now text.now }
     ensures { Option.Some result ≡ spec.worded text.now (spec.prefixed_length text.now) }
 {
-    match prefixed_length(text) {
+    match prefixed_length(text, closings) {
         Some(length) => Found {
             kind: Kind::Literal,
             length,

@@ -121,7 +121,7 @@ fn begins_after_dot(text: &[char]) -> bool
 }
 
 /// The number of characters of the fraction that begins the text.
-fn fraction_length(text: &[char]) -> usize
+pub fn fraction_length(text: &[char]) -> usize
     ensures value { result ≡ spec.fraction_length text.now }
     ensures within { result ≤ length text.now }
 {
@@ -177,17 +177,16 @@ fn begins_exponent_letter(text: &[char]) -> bool
 }
 
 /// The number of characters of the exponent that begins the text.
-fn exponent_length(text: &[char]) -> usize
+pub fn exponent_length(text: &[char]) -> usize
     ensures value { result ≡ spec.exponent_length text.now }
     ensures within { result ≤ length text.now }
 {
+    if !begins_exponent_letter(text) {
+        return 0;
+    }
     let sign = sign_length(rest(text, 1));
     let digits = exponent_digits(rest(text, 1 + sign));
-    if begins_exponent_letter(text) && 0 < digits {
-        1 + sign + digits
-    } else {
-        0
-    }
+    if 0 < digits { 1 + sign + digits } else { 0 }
 }
 
 /// The number of characters of the suffix that begins the text.

@@ -12,7 +12,7 @@ use crate::class::{in_digits, in_hex, is_blank, is_hash, is_in_line};
 use token_core::{continues_name, starts_name};
 
 /// The character at a place, or NUL past the end: no rule asks for NUL.
-pub(crate) fn at(text: &[char], i: usize) -> char
+pub fn at(text: &[char], i: usize) -> char
     ensures value { result ≡ slice_index text.now i }
     ensures within { result ≢ 0 → i < length text.now }
 {
@@ -20,7 +20,7 @@ pub(crate) fn at(text: &[char], i: usize) -> char
 }
 
 /// What follows the first characters, so many.
-pub(crate) fn rest(text: &[char], count: usize) -> &[char]
+pub fn rest(text: &[char], count: usize) -> &[char]
     ensures { result.now ≡ drop count text.now }
 {
     &text[count.min(text.len())..]
@@ -49,14 +49,14 @@ pub(crate) fn blank_length(text: &[char]) -> usize
     text.iter().take_while(|c| is_blank(**c)).count()
 }
 
-pub(crate) fn hash_length(text: &[char]) -> usize
+pub fn hash_length(text: &[char]) -> usize
     ensures value { result ≡ prefix_len strings.is_hash text.now }
     ensures within { result ≤ length text.now }
 {
     text.iter().take_while(|c| is_hash(**c)).count()
 }
 
-pub(crate) fn hex_length(text: &[char]) -> usize
+pub fn hex_length(text: &[char]) -> usize
     ensures value { result ≡ prefix_len escapes.in_hex text.now }
     ensures within { result ≤ length text.now }
 {
@@ -64,7 +64,7 @@ pub(crate) fn hex_length(text: &[char]) -> usize
 }
 
 /// How many characters at the front are digits of the base, of 2 to 36, or `_`.
-pub(crate) fn digits_length(base: u32, text: &[char]) -> usize
+pub fn digits_length(base: u32, text: &[char]) -> usize
     requires { (2 ≤ base) × (base ≤ 36) }
     ensures value { result ≡ prefix_len (numbers.in_digits base) text.now }
     ensures within { result ≤ length text.now }

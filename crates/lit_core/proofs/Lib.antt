@@ -1,0 +1,5 @@
+pub mod Content
+pub mod Escapes
+pub mod Strings
+pub mod Numbers
+pub mod Literals

@@ -1,0 +1,4 @@
+pub mod Numbers
+pub mod Quoted
+pub mod Reading
+pub mod Values
