@@ -12,6 +12,7 @@
 #![tactic(auto)]
 
 mod attr;
+mod clone;
 mod data;
 mod derive;
 mod error;
