@@ -1,3 +1,5 @@
 pub mod Error
 pub mod Layers
+pub mod Make
+pub mod PathIdent
 pub mod PathText
