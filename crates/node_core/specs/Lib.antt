@@ -1,4 +1,6 @@
 pub mod Error
 pub mod Folds
 pub mod Layers
+pub mod Make
+pub mod PathIdent
 pub mod PathText

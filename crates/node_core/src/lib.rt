@@ -12,15 +12,21 @@
 #![tactic(auto)]
 
 mod attr;
+mod clone;
 mod data;
 mod derive;
 mod error;
 mod expr;
 mod generics;
+mod laws;
 mod lit;
+pub mod make;
 mod path;
+mod path_ident;
 mod path_text;
 mod punctuated;
+#[cfg(test)]
+mod tests;
 mod ty;
 
 pub use attr::{Attribute, Meta, MetaList, MetaNameValue};
@@ -34,6 +40,13 @@ pub use expr::{BinOp, Expr, ExprArray, ExprClosure, ExprPath, ExprRange, Member,
 pub use generics::{
     ConstParam, GenericParam, Generics, LifetimeParam, TraitBound, TypeParam, TypeParamBound,
     WhereClause, WherePredicate,
+};
+pub use laws::{
+    equal_expressions_hash_alike, equal_items_hash_alike, equal_leaves_hash_alike,
+    equality_ignores_the_span, equality_of_expressions_ignores_the_span,
+    equality_of_expressions_is_an_equivalence, equality_of_items_is_an_equivalence,
+    equality_of_leaves_is_an_equivalence, equality_of_paths_ignores_the_span,
+    the_text_of_a_path_is_of_its_identifiers,
 };
 pub use lit::{Lit, LitBool, LitByte, LitByteStr, LitChar, LitFloat, LitInt, LitStr};
 pub use path::{GenericArgument, Path, PathArguments, PathSegment, QSelf};

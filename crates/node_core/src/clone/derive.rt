@@ -1,0 +1,16 @@
+use crate::derive::DeriveInput;
+use std::alloc::Global;
+use token_core::{Mem, TryClone};
+
+impl TryClone for DeriveInput {
+    fn try_clone(&self, alloc: Global) -> Mem<DeriveInput> {
+        Ok(DeriveInput {
+            attrs: self.attrs.try_clone(alloc)?,
+            vis: self.vis.try_clone(alloc)?,
+            ident: self.ident.try_clone(alloc)?,
+            generics: self.generics.try_clone(alloc)?,
+            body: self.body.try_clone(alloc)?,
+            span: self.span,
+        })
+    }
+}
