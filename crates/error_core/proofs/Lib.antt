@@ -1,2 +1,3 @@
 pub mod ToldLemmas
 pub mod TextLemmas
+pub mod AnswersLemmas

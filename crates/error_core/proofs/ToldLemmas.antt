@@ -1,5 +1,5 @@
 -- What the calls on errors do to the faults.
-use Rattle.std.proofs.Common.{◌≡◌, ◌≢◌, ℕ, ◌≤◌, List, [], ◌∷◌, ◌++◌, length, map, flat_map, refl, Option, None, arith, ap, ◌∙◌, sym, append_assoc, append-nil, sum_by}
+use Rattle.std.proofs.Common.{◌<◌, Result, Ok, Err, IfOk, ◌≡◌, ◌≢◌, ℕ, ◌≤◌, List, [], ◌∷◌, ◌++◌, length, map, flat_map, refl, Option, None, arith, ap, ◌∙◌, sym, append_assoc, append-nil, sum_by}
 use Rattle.std.proofs.lemmas.List.{length-map}
 use Rattle.std.proofs.lemmas.List.Concat.{length-flat_map}
 use Rattle.base_core.specs.declared.text.Text.{Text}
@@ -7,13 +7,13 @@ use Rattle.token_core.specs.declared.span.Span.{Span}
 use Rattle.fault_core.specs.declared.fault.Fault.{Fault}
 use Rattle.fault_core.specs.Fault.{with_sibling_names}
 use Rattle.fault_core.specs.Faults.{at, siblings}
-use Rattle.error_core.specs.Told.{Told, One, Several, part_of, part_leaves, leaves, below, held}
-use Rattle.error_core.specs.Changes.{located}
+use Rattle.error_core.specs.Told.{Told, One, Several, part_of, part_leaves, first_leaf, more_leaves, leaves, below, held}
+use Rattle.error_core.specs.Changes.{located, joined, flat, FlatStays}
 use Rattle.error_core.specs.declared.error.Node.{Node}
 use Rattle.error_core.specs.declared.error.Node.TheVariants.{Leaf, Many}
 use Rattle.error_core.specs.View.{of_many, of_node}
 
-map_below-more : (name : Text) (path : List Text) (faults : List Fault)
+pub map_below-more : (name : Text) (path : List Text) (faults : List Fault)
     → map (below (name ∷ path)) faults ≡ at (map (below path) faults) name
 map_below-more name path [] = refl
 map_below-more name path (fault ∷ faults) = ap (λ more. below (name ∷ path) fault ∷ more) (map_below-more name path faults)
@@ -65,13 +65,13 @@ pub gathered : (errors : List Told) (above path : List Text) (span : Option Span
 gathered errors above path span two =
     map_below-append above path (held errors) ∙ ap (map (below above)) (sym (leaves_of_many errors path span two))
 
-nothing_left : (errors : List Told) → length errors ≡ 0 → errors ≡ []
+nothing_left : {X : Type 0} (items : List X) → length items ≡ 0 → items ≡ []
 nothing_left [] none = refl
-nothing_left (told ∷ errors) none = absurd (omega arith)
+nothing_left (item ∷ items) none = absurd (omega arith)
 
 -- a loop by value is over all where nothing is left
-pub all_taken : (errors taken left : List Told) → errors ≡ taken ++ left → length left ≡ 0 → errors ≡ taken
-all_taken errors taken left split none = split ∙ ap (λ rest. taken ++ rest) (nothing_left left none) ∙ append-nil taken
+pub all_taken : {X : Type 0} (items taken left : List X) → items ≡ taken ++ left → length left ≡ 0 → items ≡ taken
+all_taken items taken left split none = split ∙ ap (λ rest. taken ++ rest) (nothing_left left none) ∙ append-nil taken
 
 pub gather_done : (errors taken left : List Told) (above path : List Text) (span : Option Span) (error : Told)
     → errors ≡ taken ++ left → length left ≡ 0 → 2 ≤ length errors → of_many errors path span ≡ error
@@ -129,3 +129,42 @@ pub siblings_counted : (faults more : List Fault) (names : List Text) (n : ℕ)
     → faults ≡ siblings more names → n ≡ length more → n ≡ length faults
 siblings_counted faults more names n is counted =
     counted ∙ sym (length-map more (λ fault. with_sibling_names fault names)) ∙ ap (length {A = Fault}) (sym is)
+
+flat_ones : (faults : List Fault) → flat_map part_leaves (map part_of (map One faults)) ≡ faults
+flat_ones [] = refl
+flat_ones (fault ∷ faults) = ap (λ more. fault ∷ more) (flat_ones faults)
+
+leaves_ones : (first : Fault) (more : List Fault) (other : Told) → leaves (joined (map One (first ∷ more)) other) ≡ first ∷ more
+leaves_ones first [] other = refl
+leaves_ones first (second ∷ more) other =
+    map_below-none (first ∷ second ∷ flat_map part_leaves (map part_of (map One more)))
+    ∙ ap (λ faults. first ∷ second ∷ faults) (flat_ones more)
+
+-- of a list that is not empty nothing else is made
+pub joined-other : (errors : List Told) (one other : Told) → 0 < length errors → joined errors one ≡ joined errors other
+joined-other [] one other some = absurd (omega arith)
+joined-other (a ∷ []) one other some = refl
+joined-other (a ∷ b ∷ more) one other some = refl
+
+pub leaves_flat : (told : Told) → leaves (flat told) ≡ leaves told
+leaves_flat told = leaves_ones (first_leaf told) (more_leaves told) told
+
+pub flat_stays : FlatStays
+flat_stays told = (
+  ap (λ faults. joined (map One faults) (flat told)) (leaves_flat told)
+      ∙ joined-other (map One (leaves told)) (flat told) told (omega arith),
+  leaves_flat told,
+)
+
+pub IfOk-flat : {E : Type 0} (r : Result Told E) (errors : List Told) (faults : List Fault) (told : Told)
+    → errors ≡ map One faults → leaves told ≡ faults → IfOk r (λ error. error ≡ joined errors error)
+    → IfOk r (λ error. error ≡ flat told)
+IfOk-flat (Ok error) errors faults told ones are is =
+    is ∙ ap (λ list. joined list error) (ones ∙ ap (map One) (sym are))
+    ∙ joined-other (map One (leaves told)) error told (omega arith)
+IfOk-flat (Err e) errors faults told ones are is = tt
+
+pub IfOk-leaves_flat : {E : Type 0} (r : Result Told E) (told : Told) → IfOk r (λ error. error ≡ flat told)
+    → IfOk r (λ error. leaves error ≡ leaves told)
+IfOk-leaves_flat (Ok error) told is = ap leaves is ∙ leaves_flat told
+IfOk-leaves_flat (Err e) told is = tt

@@ -1,11 +1,11 @@
 -- How an error is made, and what each call makes of one.
-use Rattle.std.specs.Prelude.{List, [], ◌∷◌, map, None}
+use Rattle.std.specs.Prelude.{◌≡◌, List, [], ◌∷◌, map, None}
 use Rattle.base_core.specs.declared.text.Text.{Text}
 use Rattle.token_core.specs.declared.span.Span.{Span}
 use Rattle.fault_core.specs.declared.kind.FaultKind.{FaultKind}
 use Rattle.fault_core.specs.Fault.{plain, or_span, span_or}
 use Rattle.fault_core.specs.Fault as faults
-use Rattle.error_core.specs.Told.{Told, One, Several, part_of}
+use Rattle.error_core.specs.Told.{Told, One, Several, part_of, leaves}
 
 -- the one fault of this kind, in no field and at no place
 abbrev pub leaf : FaultKind → Told
@@ -27,3 +27,11 @@ abbrev pub joined : List Told → Told → Told
 joined [] other = other
 joined (a ∷ []) other = a
 joined (a ∷ b ∷ more) other = Several [] None (part_of a) (part_of b) (map part_of more)
+
+-- each fault as a child of the root; a single fault alone
+abbrev pub flat : Told → Told
+flat told = joined (map One (leaves told)) told
+
+-- what is flat stays as it is, and has the faults of what it was made from
+abbrev pub FlatStays : Type 0
+FlatStays = (told : Told) → (flat (flat told) ≡ flat told) × (leaves (flat told) ≡ leaves told)

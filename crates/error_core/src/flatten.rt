@@ -1,4 +1,5 @@
 ghost use Rattle.std.specs.Prelude.{◌≡◌, ◌++◌, map, length, IfOk, OnOk};
+ghost use Rattle.error_core.specs.Changes.{flat};
 ghost use Rattle.error_core.specs.Told.{leaves, below};
 
 use crate::error::{Error, Node};
@@ -16,9 +17,10 @@ impl Error {
         Ok(faults)
     }
 
-    /// The same faults, each a child of the root.
+    /// The same faults, each a child of the root; a single fault alone. Want of memory drops the error.
     pub fn flatten(self, alloc: Global) -> Mem<Error>
-        ensures { IfOk result (λ error. leaves error ≡ leaves self) }
+        ensures told { IfOk result (λ error. error ≡ flat self) }
+        ensures leaves { IfOk result (λ error. leaves error ≡ leaves self) }
     {
         let faults = self.into_faults(alloc)?;
         let mut errors = Vec::new(alloc);

@@ -118,13 +118,13 @@ fn lit_kind(lit: &Lit) -> &'static str
     ensures { result.now ≡ lit_kind lit.now }
 {
     match lit {
-        Lit::Str(_) => "string",
-        Lit::ByteStr(_) => "byte string",
-        Lit::Byte(_) => "byte",
-        Lit::Char(_) => "char",
-        Lit::Int(_) => "int",
-        Lit::Float(_) => "float",
         Lit::Bool(_) => "bool",
+        Lit::Byte(_) => "byte",
+        Lit::ByteStr(_) => "byte string",
+        Lit::Char(_) => "char",
+        Lit::Float(_) => "float",
+        Lit::Int(_) => "int",
+        Lit::Str(_) => "string",
         Lit::Verbatim(_) => "verbatim",
     }
 }

@@ -1,6 +1,6 @@
-use Rattle.std.proofs.Common.{◌≡◌, ◌++◌}
+use Rattle.std.proofs.Common.{◌≡◌, ◌++◌, map}
 use Rattle.std.specs.Vec.Iter.{into_iter_items}
-use Rattle.error_core.specs.Told.{held}
+use Rattle.error_core.specs.Told.{One}
 use Rattle.error_core.proofs.error.Error.flatten.Given as goal
 
 abbrev pub invariant-loop-fault : goal.invariant-loop-fault
@@ -8,4 +8,4 @@ invariant-loop-fault l =
     (goal.iterator-loop-fault).can_next l.fault-iterator ×
     (goal.iterator-loop-fault).is_finite l.fault-iterator ×
     (into_iter_items l.initial.fault-iterator ≡ l.yielded ++ into_iter_items l.fault-iterator) ×
-    (held l.errors.items ≡ l.yielded)
+    (l.errors.items ≡ map One l.yielded)
