@@ -16,7 +16,7 @@ position_from-push test i (first ∷ names) name =
     elim (test first) as (λ b. cond b (Some i) (position_from test (i + 1) (names ++ name ∷ [])) ≡ option_or (cond b (Some i) (position_from test (i + 1) names)) (cond (test name) (Some (i + suc (length names))) None)) [
       | true ↦ refl
       | false ↦ (let e : (i + 1) + length names ≡ i + suc (length names) = omega arith in
-      position_from-push test (i + 1) names name ∙ ap (λ at. option_or (position_from test (i + 1) names) (cond (test name) (Some at) None)) e)
+          position_from-push test (i + 1) names name ∙ ap (λ at. option_or (position_from test (i + 1) names) (cond (test name) (Some at) None)) e)
     ]
 
 -- the place of a name among one name more

@@ -1,4 +1,5 @@
-//! Names in order, with the place of each: a name is found without a look at all of them.
+//! Names in order, with the place of each and the set of all: a name is found without a look at all of
+//! them.
 #![tactic(auto)]
 
 mod names;

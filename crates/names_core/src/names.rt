@@ -2,23 +2,28 @@ ghost use Rattle.std.specs.Prelude.{◌≡◌, ◌<◌, IfOk, length, position};
 ghost use Rattle.std.specs.List.{list_any};
 ghost use Rattle.std.specs.Option.{ForSome};
 ghost use Rattle.std.specs.Str.{bytes_eq};
+ghost use Rattle.fault_core.specs.Kind.{set_of};
 ghost use Rattle.names_core.specs.Places.{ArePlaces};
 
 use base_core::{Items, Mem, Text};
+use fault_core::{Shared, name_set};
 use std::alloc::Global;
-use std::collections::BTreeMap;
+use std::collections::{BTreeMap, BTreeSet};
 use std::marker::Model;
 
-/// A list of names, of which the first place of each is found in logarithmic time.
+/// A list of names, of which the first place of each is found in logarithmic time, with the set of them
+/// for the faults that name it.
 #[derive(Drop)]
 pub struct Names {
     names: Items<Text>,
     places: BTreeMap<String, usize>,
+    set: Shared<BTreeSet<Text>>,
 }
 
 impl Model for Names {
-    ghost use Rattle.std.specs.Prelude.{List, ℕ};
+    ghost use Rattle.std.specs.Prelude.{◌≡◌, List, ℕ};
     ghost use Rattle.std.specs.Coded.{coded_list, coded_ℕ};
+    ghost use Rattle.fault_core.specs.Kind.{set_of};
     ghost use Rattle.names_core.specs.Places.{ArePlaces};
 
     ghost Value = { List (List ℕ) };
@@ -27,7 +32,7 @@ impl Model for Names {
 
     ghost view = { λ it. it.names };
 
-    ghost invariant = { λ it. ArePlaces it.places it.names };
+    ghost invariant = { λ it. ArePlaces it.places it.names × (it.set ≡ set_of it.names) };
 }
 
 impl Names {
@@ -36,7 +41,8 @@ impl Names {
         ensures { IfOk result (λ it. it ≡ names) }
     {
         let places = first_places(alloc, names.as_slice())?;
-        Ok(Names { names, places })
+        let set = Shared::new(alloc, name_set(alloc, names.as_slice())?)?;
+        Ok(Names { names, places, set })
     }
 
     pub fn as_slice(&self) -> &[Text]
@@ -49,6 +55,13 @@ impl Names {
         ensures { result ≡ length self.now }
     {
         self.names.len()
+    }
+
+    /// The set of the names. It is made once, and faults share it.
+    pub fn as_set(&self) -> &Shared<BTreeSet<Text>>
+        ensures { result.now ≡ set_of self.now }
+    {
+        &self.set
     }
 
     /// The first place where the name stands, from 0 on.

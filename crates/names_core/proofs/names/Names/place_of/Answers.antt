@@ -4,7 +4,7 @@ use Rattle.names_core.proofs.names.Names.place_of.Goals as goal
 
 pub returns-clause-first : goal.returns-clause-first
 returns-clause-first c =
-    c.copied.ensures ∙ c.get.ensures.value ∙ c.self.invariant c.args.name.now
+    c.copied.ensures ∙ c.get.ensures.value ∙ c.self.invariant.0 c.args.name.now
     ∙ ap (position (λ other. bytes_eq other c.args.name.now)) c.self.view_is
 
 pub returns-clause-within : goal.returns-clause-within
