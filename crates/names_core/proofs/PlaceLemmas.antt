@@ -1,5 +1,5 @@
 -- The first places of names, as the list grows by one name.
-use Rattle.std.proofs.Common.{◌≡◌, ◌<◌, ◌≤◌, ◌+◌, ℕ, zero, suc, Bool, true, false, cond, List, [], ◌∷◌, ◌++◌, length, take, get_or, Option, Some, None, position, bytes_eq, is_some, ◌||◌, refl, ap, sym, ◌∙◌, arith, zero-add}
+use Rattle.std.proofs.Common.{◌≡◌, ◌<◌, ◌+◌, ℕ, suc, Bool, true, false, cond, List, [], ◌∷◌, ◌++◌, length, take, get_or, Option, Some, None, position, bytes_eq, is_some, ◌||◌, refl, ap, sym, ◌∙◌, arith, zero-add}
 use Rattle.std.specs.List.{position_from, list_any}
 use Rattle.std.specs.Option.{option_or}
 use Rattle.std.proofs.lemmas.Iterator.Adapters.{position_from-zero}

@@ -1,4 +1,4 @@
-use Rattle.std.proofs.Common.{◌≡◌, take}
+use Rattle.std.proofs.Common.{take}
 use Rattle.names_core.specs.Places.{ArePlaces}
 use Rattle.names_core.proofs.names.first_places.Given as goal
 

@@ -1,4 +1,4 @@
-use Rattle.std.proofs.Common.{◌≡◌, ◌∙◌, [], ap, bytes_eq, position, sym}
+use Rattle.std.proofs.Common.{◌∙◌, [], ap, bytes_eq, position, sym}
 use Rattle.std.proofs.lemmas.List.Quantifiers.{position-Some}
 use Rattle.names_core.proofs.names.Names.place_of.Goals as goal
 
