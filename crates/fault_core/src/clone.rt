@@ -1,6 +1,5 @@
 use crate::fault::Fault;
 use crate::kind::FaultKind;
-use crate::names::clone_names;
 use base_core::{Mem, TryClone};
 use std::alloc::Global;
 
@@ -16,7 +15,7 @@ impl TryClone for FaultKind {
             },
             FaultKind::UnknownField { name, alts } => FaultKind::UnknownField {
                 name: name.try_clone(alloc)?,
-                alts: clone_names(alloc, alts)?,
+                alts: alts.try_clone(alloc)?,
             },
             FaultKind::UnexpectedFormat(format) => {
                 FaultKind::UnexpectedFormat(format.try_clone(alloc)?)
@@ -24,7 +23,7 @@ impl TryClone for FaultKind {
             FaultKind::UnexpectedType(name) => FaultKind::UnexpectedType(name.try_clone(alloc)?),
             FaultKind::UnknownValue { name, alts } => FaultKind::UnknownValue {
                 name: name.try_clone(alloc)?,
-                alts: clone_names(alloc, alts)?,
+                alts: alts.try_clone(alloc)?,
             },
             FaultKind::TooFewItems(least) => FaultKind::TooFewItems(*least),
             FaultKind::TooManyItems(most) => FaultKind::TooManyItems(*most),

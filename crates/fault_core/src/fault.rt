@@ -1,8 +1,9 @@
 ghost use Rattle.std.specs.Prelude.{◌≡◌, IfOk};
 
 use crate::kind::FaultKind;
-use crate::names::add_names;
-use base_core::{Items, Mem, Text};
+use crate::names::name_set;
+use crate::shared::Shared;
+use base_core::{Items, Mem, Text, TryClone};
 use std::alloc::Global;
 use std::collections::BTreeSet;
 use token_core::Span;
@@ -65,8 +66,21 @@ impl Fault {
         ensures { IfOk result (λ fault. fault
             ≡ at_span (FaultKind.UnknownField name.now (set_of alts.now)) span) }
     {
+        let alts = Shared::new(alloc, name_set(alloc, alts)?)?;
+        Fault::unknown_field_among(alloc, name, &alts, span)
+    }
+
+    /// As [`Fault::unknown_field_with_alts`], where many faults share a set of alternatives.
+    pub fn unknown_field_among(
+        alloc: Global,
+        name: &str,
+        alts: &Shared<BTreeSet<Text>>,
+        span: Span,
+    ) -> Mem<Fault>
+        ensures { IfOk result (λ fault. fault ≡ at_span (FaultKind.UnknownField name.now alts.now) span) }
+    {
         let name = Text::from_str(alloc, name)?;
-        let alts = add_names(alloc, BTreeSet::new(alloc), alts)?;
+        let alts = alts.try_clone(alloc)?;
         Ok(Fault::at_span(alloc, FaultKind::UnknownField { name, alts }, span))
     }
 

@@ -1,6 +1,7 @@
 ghost use Rattle.std.specs.Prelude.{◌≡◌, IfOk};
 
-use crate::names::add_names;
+use crate::names::{add_names, clone_names};
+use crate::shared::Shared;
 use base_core::{Mem, Text};
 use std::alloc::Global;
 use std::collections::BTreeSet;
@@ -22,7 +23,7 @@ pub enum FaultKind {
     /// A field that is not known; `alts` are those that are.
     UnknownField {
         name: Text,
-        alts: BTreeSet<Text>,
+        alts: Shared<BTreeSet<Text>>,
     },
     /// An item of another format than is read, as a word in the place of a list.
     UnexpectedFormat(Text),
@@ -31,7 +32,7 @@ pub enum FaultKind {
     /// A value that is not known; `alts` are those that are.
     UnknownValue {
         name: Text,
-        alts: BTreeSet<Text>,
+        alts: Shared<BTreeSet<Text>>,
     },
     /// Fewer items than the count, which is the least that is taken.
     TooFewItems(usize),
@@ -49,7 +50,9 @@ impl FaultKind {
     {
         match self {
             FaultKind::UnknownField { name, alts } => {
-                let alts = add_names(alloc, alts, names)?;
+                let own = clone_names(alloc, alts.get())?;
+                let all = add_names(alloc, own, names)?;
+                let alts = Shared::new(alloc, all)?;
                 Ok(FaultKind::UnknownField { name, alts })
             }
             other => Ok(other),

@@ -8,6 +8,7 @@ mod clone;
 mod fault;
 mod kind;
 mod names;
+mod shared;
 #[cfg(test)]
 mod tests;
 mod text;
@@ -16,6 +17,7 @@ pub use base_core::{Items, Mem, Text, TryClone};
 pub use fault::Fault;
 pub use kind::FaultKind;
 pub use names::name_set;
+pub use shared::Shared;
 pub use text::{
     escaped, fault_line, fault_text, kind_text, path_text, push_escaped, push_escaped_char,
     push_fault_line, push_fault_text, push_span, span_text,

@@ -1,9 +1,16 @@
 ghost use Rattle.std.specs.Prelude.{◌≡◌, IfOk};
-ghost use Rattle.fault_core.specs.Kind.{with_names, set_of};
+ghost use Rattle.fault_core.specs.Kind.{set_of, with_names};
 
 use base_core::{Mem, Text, TryClone};
 use std::alloc::Global;
 use std::collections::BTreeSet;
+
+/// The set of these names.
+pub fn name_set(alloc: Global, names: &[Text]) -> Mem<BTreeSet<Text>>
+    ensures { IfOk result (λ all. all ≡ set_of names.now) }
+{
+    add_names(alloc, BTreeSet::new(alloc), names)
+}
 
 pub(crate) fn clone_names(alloc: Global, names: &BTreeSet<Text>) -> Mem<BTreeSet<Text>>
     ensures { IfOk result (λ copy. copy ≡ names.now) }

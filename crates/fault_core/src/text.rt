@@ -138,7 +138,7 @@ fn push_kind(alloc: Global, out: &mut Text, kind: &FaultKind) -> Mem<()>
         }
         FaultKind::UnknownField { name, alts } => {
             push_naming(out, "Unknown field: ", name)?;
-            push_alternatives(out, alts)
+            push_alternatives(out, alts.get())
         }
         FaultKind::UnexpectedFormat(format) => {
             push_naming(out, "Unexpected meta-item format ", format)
@@ -146,7 +146,7 @@ fn push_kind(alloc: Global, out: &mut Text, kind: &FaultKind) -> Mem<()>
         FaultKind::UnexpectedType(name) => push_naming(out, "Unexpected type ", name),
         FaultKind::UnknownValue { name, alts } => {
             push_naming(out, "Unknown value: ", name)?;
-            push_alternatives(out, alts)
+            push_alternatives(out, alts.get())
         }
         FaultKind::TooFewItems(least) => {
             push_counting(alloc, out, "Too few items: Expected at least ", *least)

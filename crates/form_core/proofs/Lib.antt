@@ -1,2 +1,3 @@
+pub mod Distinct
 pub mod Seven
 pub mod Subjects

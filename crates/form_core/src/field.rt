@@ -1,6 +1,5 @@
 ghost use Rattle.std.specs.Prelude.{◌≡◌, IfOk, map};
 ghost use Rattle.form_core.specs.Field.{field, fields, text_of, name_of, are_distinct};
-ghost use Rattle.form_core.specs.Name.{is_among};
 ghost use Rattle.meta_core.specs.Nested.{listed};
 
 use crate::made::field_of;
@@ -9,6 +8,7 @@ use base_core::{Items, Mem};
 use meta_core::{after_comma, mark, word_named};
 use node_core::Field;
 use std::alloc::Global;
+use std::collections::BTreeSet;
 use token_core::{Ident, TokenTree};
 
 /// Reads `a: String, b: String,` with distinct names: `None` where the trees are no such list.
@@ -19,7 +19,7 @@ pub fn fields(alloc: Global, trees: &[TokenTree]) -> Mem<Option<Items<Field>>>
     let Some(named) = listed_fields(alloc, trees)? else {
         return Ok(None);
     };
-    if are_distinct(named.as_slice()) {
+    if are_distinct(alloc, named.as_slice())? {
         Ok(Some(named))
     } else {
         Ok(None)
@@ -64,29 +64,17 @@ fn field(alloc: Global, name: &TokenTree, colon: &TokenTree, ty: &TokenTree) -> 
     Ok(Some(field_of(alloc, ident, string)?))
 }
 
-fn are_distinct(fields: &[Field]) -> bool
-    ensures { result ≡ are_distinct (map name_of fields.now) }
+/// Whether no two fields have one name.
+fn are_distinct(alloc: Global, fields: &[Field]) -> Mem<bool>
+    ensures { IfOk result (λ distinct. distinct ≡ are_distinct (map name_of fields.now)) }
 {
-    let mut fields = fields;
-    while let Some((first, others)) = fields.split_first() {
-        if has_name(others, name_of(first)) {
-            return false;
-        }
-        fields = others;
-    }
-    true
-}
-
-#[tactic(auto, unfolding(crate::specs::Name::is_among))]
-fn has_name(fields: &[Field], name: &str) -> bool
-    ensures { result ≡ is_among (map name_of fields.now) name.now }
-{
+    let mut names = BTreeSet::new(alloc);
     for field in fields {
-        if name_of(field) == name {
-            return true;
+        if !names.insert(name_of(field))? {
+            return Ok(false);
         }
     }
-    false
+    Ok(true)
 }
 
 fn name_of(field: &Field) -> &str

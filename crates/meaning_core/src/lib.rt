@@ -17,6 +17,7 @@ mod walk;
 
 pub use fault_core::{Fault, FaultKind, Items, Mem, Span, Text, TryClone};
 pub use laws::{direct_is_meaning, walk_is_filters};
+pub use names_core::Names;
 pub use outcome::Outcome;
 pub use plain::plain_item_meaning;
 pub use receiver::Receiver;

@@ -1,10 +1,11 @@
-ghost use Rattle.std.specs.Prelude.{◌≡◌, ◌++◌, ◌<◌, [], IfOk, OnOk, List, length, map};
+ghost use Rattle.std.specs.Prelude.{◌≡◌, ◌++◌, ◌<◌, [], IfOk, OnOk, List, length, map, position};
 ghost use Rattle.std.specs.Option.{ForSome, option_copied};
+ghost use Rattle.std.specs.Str.{bytes_eq};
 ghost use Rattle.meta_core.specs.declared.nested.NestedMeta.{NestedMeta};
 ghost use Rattle.meta_core.specs.declared.nested.NestedMeta.TheVariants as nested;
 ghost use Rattle.meaning_core.specs.Decl.{Single};
 ghost use Rattle.meaning_core.specs.Host.{no_host};
-ghost use Rattle.meaning_core.specs.Entries.{ItemEntry, entries_of, events, items};
+ghost use Rattle.meaning_core.specs.Entries.{ItemEntry, entries_of, events, has_name, items};
 ghost use Rattle.meaning_core.specs.EntryFaults.{all_entry_faults, entry_faults, own_faults};
 ghost use Rattle.meaning_core.specs.Meaning.{built_struct};
 ghost use Rattle.meaning_core.specs.Owners.{is_this, own, owner};
@@ -18,7 +19,7 @@ use crate::outcome::Outcome;
 use crate::receiver::Receiver;
 use crate::text::{list_fault, read_item, read_text};
 use crate::value::{Style, Value};
-use crate::walk::{find_field, has_name, name_value_fault};
+use crate::walk::name_value_fault;
 use fault_core::Fault;
 use meta_core::{NestedMeta, parse_meta_list};
 use node_core::{Attribute, DeriveInput, Items, Mem, Meta, Text, TryClone, path_to_string};
@@ -91,6 +92,20 @@ fn push_items(items: Items<NestedMeta>, entries: &mut Items<Entry>) -> Mem<()>
         entries.push(Entry::Item(item))?;
     }
     Ok(())
+}
+
+fn has_name(names: &[Text], name: &str) -> bool
+    ensures { result ≡ has_name names.now name.now }
+{
+    names.iter().any(|other| other.is(name))
+}
+
+/// The place of the field that has this name.
+fn find_field(fields: &[Text], name: &str) -> Option<usize>
+    ensures first { result ≡ position (λ field. bytes_eq field name.now) fields.now }
+    ensures within { ForSome result (λ at. at < length fields.now) }
+{
+    fields.iter().position(|field| field.is(name))
 }
 
 /// Whether the field of this number owns the item.

@@ -3,6 +3,7 @@ ghost use Rattle.meaning_core.specs.Receiver.{receiver_of, receiver_decl, subjec
 
 use crate::outcome::Outcome;
 use crate::walk::Walk;
+use names_core::Names;
 use node_core::{
     Attribute, Data, DeriveInput, Fields, Items, Mem, Meta, Text, TokenTree, TryClone,
     path_to_string,
@@ -14,8 +15,8 @@ use std::alloc::Global;
 #[derive(Drop)]
 pub struct Receiver {
     pub name: Text,
-    pub attributes: Items<Text>,
-    pub fields: Items<Text>,
+    pub attributes: Names,
+    pub fields: Names,
 }
 
 impl Receiver {
@@ -23,10 +24,12 @@ impl Receiver {
     pub fn new(alloc: Global, declaration: &DeriveInput) -> Mem<Receiver>
         ensures { IfOk result (λ it. it ≡ receiver_of declaration.now) }
     {
+        let attributes = read_attribute_names(alloc, declaration.attrs.as_slice())?;
+        let fields = read_field_names(alloc, &declaration.body)?;
         Ok(Receiver {
             name: declaration.ident.text.try_clone(alloc)?,
-            attributes: read_attribute_names(alloc, declaration.attrs.as_slice())?,
-            fields: read_field_names(alloc, &declaration.body)?,
+            attributes: Names::from_items(alloc, attributes)?,
+            fields: Names::from_items(alloc, fields)?,
         })
     }
 

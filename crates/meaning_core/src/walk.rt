@@ -1,11 +1,9 @@
-ghost use Rattle.std.specs.Prelude.{◌≡◌, ◌++◌, ◌∷◌, [], ◌<◌, None, IfOk, OnOk, length, map, fold, position, replicate};
-ghost use Rattle.std.specs.Str.{bytes_eq};
-ghost use Rattle.std.specs.Option.{ForSome};
+ghost use Rattle.std.specs.Prelude.{◌≡◌, ◌++◌, ◌∷◌, [], ◌<◌, None, IfOk, OnOk, length, map, fold, replicate};
 ghost use Rattle.meta_core.specs.declared.nested.NestedMeta.TheVariants as nested;
 ghost use Rattle.meaning_core.specs.Decl.{TextType};
 ghost use Rattle.meaning_core.specs.Host.{no_host};
 ghost use Rattle.meaning_core.specs.EntryFaults.{read_at};
-ghost use Rattle.meaning_core.specs.Entries.{ItemEntry, has_name, entries_of, events, name_value_fault};
+ghost use Rattle.meaning_core.specs.Entries.{ItemEntry, entries_of, events, name_value_fault};
 ghost use Rattle.meaning_core.specs.Receiver.{no_earlier, receiver_decl, text_field};
 ghost use Rattle.meaning_core.specs.Slots.{IsTold, member_one, missing_one, slot_of, state_of};
 ghost use Rattle.meaning_core.specs.State.{arm, arm_slot, arms, entry_step, filled, put, rest, slot_at, step};
@@ -66,7 +64,7 @@ impl Walk {
     {
         for attribute in attributes {
             let name = path_to_string(alloc, meta_path(&attribute.meta))?;
-            if has_name(receiver.attributes.as_slice(), name.as_str()) {
+            if receiver.attributes.contains(name.as_str()) {
                 self.take_attribute(alloc, receiver, &attribute.meta)?;
             }
         }
@@ -120,16 +118,15 @@ impl Walk {
             }
             NestedMeta::Meta(meta) => {
                 let name = path_to_string(alloc, meta_path(meta))?;
-                let fields = receiver.fields.as_slice();
-                match find_field(fields, name.as_str()) {
-                    Some(at) => self.fill(alloc, at, &fields[at], meta),
+                let fields = &receiver.fields;
+                match fields.place_of(name.as_str()) {
+                    Some(at) => self.fill(alloc, at, &fields.as_slice()[at], meta),
                     None => {
-                        let span = meta_span(meta);
-                        let fault = Fault::unknown_field_with_alts(
+                        let fault = Fault::unknown_field_among(
                             alloc,
                             name.as_str(),
-                            fields,
-                            span,
+                            fields.as_set(),
+                            meta_span(meta),
                         )?;
                         self.faults.push(fault)
                     }
@@ -231,20 +228,6 @@ impl Slot {
             }
         }
     }
-}
-
-pub(crate) fn has_name(names: &[Text], name: &str) -> bool
-    ensures { result ≡ has_name names.now name.now }
-{
-    names.iter().any(|other| other.is(name))
-}
-
-/// The place of the field that has this name.
-pub(crate) fn find_field(fields: &[Text], name: &str) -> Option<usize>
-    ensures first { result ≡ position (λ field. bytes_eq field name.now) fields.now }
-    ensures within { ForSome result (λ at. at < length fields.now) }
-{
-    fields.iter().position(|field| field.is(name))
 }
 
 pub(crate) fn name_value_fault(alloc: Global, meta: &Meta) -> Mem<Fault>

@@ -1,9 +1,7 @@
-use Rattle.std.proofs.Common.{◌≡◌, map, length}
+use Rattle.std.proofs.Common.{◌≡◌, map, drop}
 use Rattle.form_core.specs.Field.{name_of, are_distinct}
+use Rattle.form_core.proofs.Distinct.{are_new, is_held}
 use Rattle.form_core.proofs.field.are_distinct.Given as goal
 
-abbrev pub invariant-loop-first : goal.invariant-loop-first
-invariant-loop-first l = are_distinct (map name_of l.fields) ≡ are_distinct (map name_of l.initial.fields)
-
-abbrev pub decreases-loop-first : goal.decreases-loop-first
-decreases-loop-first l = length l.fields
+abbrev pub invariant-loop-field : goal.invariant-loop-field
+invariant-loop-field l = are_new (is_held l.names) (map name_of (drop l.field-index l.fields)) ≡ are_distinct (map name_of l.fields)
