@@ -3,7 +3,7 @@ ghost use Rattle.fault_core.specs.Kind.{set_of};
 ghost use Rattle.error_core.specs.Changes.{leaf};
 
 use crate::error::Error;
-use fault_core::{Fault, FaultKind, Mem, Text, name_set};
+use fault_core::{Fault, FaultKind, Mem, Shared, Text, name_set};
 use std::alloc::Global;
 use std::collections::BTreeSet;
 
@@ -44,7 +44,7 @@ impl Error {
         ensures { IfOk result (λ error. error ≡ leaf (FaultKind.UnknownField name.now (set_of []))) }
     {
         let name = Text::from_str(alloc, name)?;
-        let alts = BTreeSet::new(alloc);
+        let alts = Shared::new(alloc, BTreeSet::new(alloc))?;
         Ok(Error::leaf(alloc, FaultKind::UnknownField { name, alts }))
     }
 
@@ -54,7 +54,7 @@ impl Error {
             ≡ leaf (FaultKind.UnknownField field.now (set_of alts.now))) }
     {
         let name = Text::from_str(alloc, field)?;
-        let alts = name_set(alloc, alts)?;
+        let alts = Shared::new(alloc, name_set(alloc, alts)?)?;
         Ok(Error::leaf(alloc, FaultKind::UnknownField { name, alts }))
     }
 
@@ -100,7 +100,7 @@ impl Error {
         ensures { IfOk result (λ error. error ≡ leaf (FaultKind.UnknownValue value.now (set_of []))) }
     {
         let name = Text::from_str(alloc, value)?;
-        let alts = BTreeSet::new(alloc);
+        let alts = Shared::new(alloc, BTreeSet::new(alloc))?;
         Ok(Error::leaf(alloc, FaultKind::UnknownValue { name, alts }))
     }
 
@@ -110,7 +110,7 @@ impl Error {
             ≡ leaf (FaultKind.UnknownValue value.now (set_of alts.now))) }
     {
         let name = Text::from_str(alloc, value)?;
-        let alts = name_set(alloc, alts)?;
+        let alts = Shared::new(alloc, name_set(alloc, alts)?)?;
         Ok(Error::leaf(alloc, FaultKind::UnknownValue { name, alts }))
     }
 

@@ -5,7 +5,7 @@ use base_core::{Mem, Text, TryClone};
 use std::alloc::Global;
 use std::collections::BTreeSet;
 
-/// The set of these names.
+/// The set of copies of the names.
 pub fn name_set(alloc: Global, names: &[Text]) -> Mem<BTreeSet<Text>>
     ensures { IfOk result (λ all. all ≡ set_of names.now) }
 {
@@ -33,11 +33,4 @@ pub(crate) fn add_names(alloc: Global, names: BTreeSet<Text>, more: &[Text]) -> 
         names.insert(name)?;
     }
     Ok(names)
-}
-
-/// The set of copies of the names.
-pub fn name_set(alloc: Global, names: &[Text]) -> Mem<BTreeSet<Text>>
-    ensures { IfOk result (λ set. set ≡ set_of names.now) }
-{
-    add_names(alloc, BTreeSet::new(alloc), names)
 }
