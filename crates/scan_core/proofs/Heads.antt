@@ -6,7 +6,7 @@ use Rattle.std.specs.Char.{is_ascii_alphabetic}
 use Rattle.ucd_table.proofs.TrieCheck.{all_below, all_below-at}
 use Rattle.unicode_ident.proofs.Computing.{unicode_ident}
 use Rattle.unicode_ident.proofs.IdentLemmas.{is_xid_start-ascii, is_xid_continue-ascii, is_xid_start-is_xid_continue}
-use Rattle.scan_core.specs.Names.{starts_name, continues_name}
+use Rattle.token_core.specs.Names.{starts_name, continues_name}
 use Rattle.scan_core.specs.Characters.{is_white, whites, is_mark, marks, opening, closing}
 use Rattle.scan_core.specs.Numbers.{is_decimal}
 use Rattle.scan_core.specs.Scan.{head_of, delimiter_head}

@@ -5,7 +5,7 @@ use Rattle.std.proofs.lemmas.Bool.{and_parts, and_from, not-true, eqb-true, fals
 use Rattle.std.proofs.lemmas.List.{take-append-drop}
 use Rattle.std.proofs.lemmas.List.Folds.{length-prefix_len}
 use Rattle.std.specs.List.{concat, list_all, prefix_len}
-use Rattle.scan_core.specs.Names.{starts_name, continues_name, is_name, is_reserved}
+use Rattle.token_core.specs.Names.{starts_name, continues_name, is_name, is_reserved}
 use Rattle.scan_core.specs.Characters.{Characters, begins}
 use Rattle.scan_core.specs.Strings.{IsString, IsRaw, IsTicked, IsPrefixed, is_hash, hashes}
 use Rattle.scan_core.specs.Pieces.{IsRawName}

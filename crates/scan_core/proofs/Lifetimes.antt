@@ -5,7 +5,7 @@ use Rattle.std.proofs.lemmas.Bool.{true≢false}
 use Rattle.std.proofs.lemmas.List.{take-append-drop}
 use Rattle.std.proofs.lemmas.List.Folds.{length-prefix_len}
 use Rattle.std.specs.List.{prefix_len}
-use Rattle.scan_core.specs.Names.{starts_name, continues_name, is_name}
+use Rattle.token_core.specs.Names.{starts_name, continues_name, is_name}
 use Rattle.scan_core.specs.Characters.{Characters, begins, continues}
 use Rattle.scan_core.specs.Strings.{IsTicked}
 use Rattle.scan_core.specs.Pieces.{IsPiece, IsRawName}

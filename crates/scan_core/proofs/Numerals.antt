@@ -6,7 +6,7 @@ use Rattle.std.proofs.lemmas.List.{take-append-drop}
 use Rattle.std.proofs.lemmas.List.Folds.{length-prefix_len}
 use Rattle.std.specs.Char.{is_digit}
 use Rattle.std.specs.List.{list_any, prefix_len}
-use Rattle.scan_core.specs.Names.{starts_name, continues_name, is_name}
+use Rattle.token_core.specs.Names.{starts_name, continues_name, is_name}
 use Rattle.scan_core.specs.Characters.{Characters, begins}
 use Rattle.scan_core.specs.Escapes.{digits_value}
 use Rattle.scan_core.specs.Numbers.{is_decimal, in_digits, IsDecimalRun, is_after_dot, begins_fraction, IsFraction, is_exponent_letter, is_sign, IsExponentRun, IsSomeExponent, IsExponent, is_suffix, base_of, begins_base, IsDecimalNumber, IsBasedNumber}

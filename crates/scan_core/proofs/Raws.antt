@@ -1,10 +1,12 @@
 -- Raw forms are read whole, and what is read as such is one.
-use Rattle.std.proofs.Common.{◌≡◌, ℕ, zero, suc, ◌+◌, ◌≤◌, Bool, true, false, not, cond, ◌&&◌, eqb, nat_le, [], ◌∷◌, ◌++◌, length, drop, slice_index, Some, None, refl, sym, ap, ◌∙◌, subst, arith, length-append, append_assoc}
+use Rattle.std.proofs.Common.{◌≡◌, ℕ, zero, suc, ◌+◌, ◌≤◌, Bool, true, false, not, cond, ◌&&◌, eqb, nat_le, [], ◌∷◌, ◌++◌, length, drop, slice_index, Some, None, refl, sym, ap, ◌∙◌, subst, arith, length-append, append_assoc, ◌<◌, inl, inr, ⊎_elim, min, max, List}
 use Rattle.std.proofs.Math.Seq.{drop-append_seam}
-use Rattle.std.proofs.lemmas.Bool.{and_parts, and_from, not-true, eqb-true, leb-true, le-leb}
+use Rattle.std.proofs.lemmas.Bool.{and_parts, and_from, not-true, eqb-true, leb-true, le-leb, lt-leb, leb-false, and_left, and_right, true≢false, false≢true}
 use Rattle.std.proofs.lemmas.List.{length-replicate}
 use Rattle.std.specs.List.{list_all, prefix_len}
 use Rattle.scan_core.specs.Characters.{Characters}
+use Rattle.scan_core.specs.Closings.{most_hashes, closing_of, closings_of, most_of, AreClosings, can_close}
+use Rattle.scan_core.specs.declared.ends.Closing.{Closing}
 use Rattle.scan_core.specs.Strings.{IsRaw, fits, is_hash, hashes, closes, stays_open}
 use Rattle.scan_core.specs.Scan.{raw_end, raw_length}
 use Rattle.scan_core.proofs.Lists.{prefix_len-append_all, prefix_len-begins, get_or-append_length, drop-get}
@@ -130,3 +132,50 @@ raw-front byte text n h = cases (eqb (slice_index text (prefix_len is_hash text)
           omega (arith, w.4, length-append (hashes m) rest, length-append content (34 ∷ hashes m), length-hashes m),
           (m, content, refl, leb-true m 255 parts.1, w.3),
         )
+
+-- ---- a raw form that never ends
+
+-- one with more `#` than stand behind any `"`
+raw_end-most : (byte : Bool) (n from : ℕ) (text : Characters) → n ≤ 255 → most_hashes byte text < n → raw_end byte n from text ≡ None
+raw_end-most byte n from [] few h = refl
+raw_end-most byte n from (c ∷ cs) few h = cases (eqb c 34) (fits byte c) refl refl (raw_end-most byte n (from + 1) cs few) h
+  where
+    goes_on : (f : Bool) → fits byte c ≡ f → (eqb c 34 && nat_le n (prefix_len is_hash cs)) ≡ false → (f ≡ true → raw_end byte n (from + 1) cs ≡ None) → raw_end byte n from (c ∷ cs) ≡ None
+    goes_on true q shut more = rw (shut, q) (more refl)
+    goes_on false q shut more = rw (shut, q) refl
+
+    cases : (b f : Bool) → eqb c 34 ≡ b → fits byte c ≡ f → (most_hashes byte cs < n → raw_end byte n (from + 1) cs ≡ None)
+        → cond b (max (min (prefix_len is_hash cs) 255) (most_hashes byte cs)) (cond f (most_hashes byte cs) 0) < n → raw_end byte n from (c ∷ cs) ≡ None
+    cases true f p q more h = goes_on f q (and_right (eqb c 34) _ (lt-leb n (prefix_len is_hash cs) (omega arith))) (λ _. more (omega arith))
+    cases false true p q more h = goes_on true q (and_left (eqb c 34) _ p) (λ _. more h)
+    cases false false p q more h = goes_on false q (and_left (eqb c 34) _ p) (λ e. absurd (false≢true e))
+
+most_of-closing : (byte : Bool) (text : Characters) → most_of byte (closing_of text) ≡ most_hashes byte text
+most_of-closing true text = refl
+most_of-closing false text = refl
+
+drop-closings_of : (n : ℕ) (text : Characters) → drop n (closings_of text) ≡ closings_of (drop n text)
+drop-closings_of zero text = refl
+drop-closings_of (suc n) [] = refl
+drop-closings_of (suc n) (c ∷ cs) = drop-closings_of n cs
+
+-- what is known of a text is known of its parts
+pub AreClosings-drop : (n : ℕ) (closings : List Closing) (text : Characters) → AreClosings closings text → AreClosings (drop n closings) (drop n text)
+AreClosings-drop n closings text h = ⊎_elim
+    (λ none. inl (ap (drop n) none ∙ nothing n))
+    (λ all. inr (ap (drop n) all ∙ drop-closings_of n text)) h
+  where
+    nothing : (n : ℕ) → drop {A = Closing} n [] ≡ []
+    nothing zero = refl
+    nothing (suc n) = refl
+
+-- one that cannot close
+pub raw_end-never : (byte : Bool) (n from : ℕ) (closings : List Closing) (text : Characters) → n ≤ 255 → AreClosings closings text → can_close byte n closings ≡ false
+    → raw_end byte n from text ≡ None
+raw_end-never byte n from closings text few h shut = ⊎_elim
+    (λ none. absurd (true≢false (sym (ap (can_close byte n) none) ∙ shut)))
+    (λ all. by_text text (sym (ap (can_close byte n) all) ∙ shut)) h
+  where
+    by_text : (text : Characters) → can_close byte n (closings_of text) ≡ false → raw_end byte n from text ≡ None
+    by_text [] e = absurd (true≢false e)
+    by_text (c ∷ cs) e = raw_end-most byte n from (c ∷ cs) few (leb-false n _ (ap (nat_le n) (sym (most_of-closing byte (c ∷ cs))) ∙ e))

@@ -1,7 +1,7 @@
 -- Classes of the characters of a text, each a number.
 use Rattle.std.specs.Prelude.{ℕ, Bool, false, ◌==◌, List, [], ◌∷◌, codes}
 use Rattle.std.specs.List.{list_any}
-use Rattle.scan_core.specs.Names.{continues_name}
+use Rattle.token_core.specs.Names.{continues_name}
 use Rattle.token_core.specs.declared.tree.Delimiter.{Delimiter}
 use Rattle.token_core.specs.declared.tree.Delimiter.TheVariants as delimiter
 

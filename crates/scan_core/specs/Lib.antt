@@ -1,4 +1,3 @@
-pub mod Names
 pub mod Characters
 pub mod Comments
 pub mod Escapes
@@ -6,3 +5,4 @@ pub mod Strings
 pub mod Numbers
 pub mod Pieces
 pub mod Scan
+pub mod Closings

@@ -2,7 +2,7 @@
 use Rattle.std.specs.Prelude.{◌≡◌, ◌⊎◌, ◌<◌, ℕ, ◌^◌, Bool, true, false, not, ◌&&◌, ◌||◌, ◌==◌, if◌then◌else◌, [], ◌∷◌, ◌++◌, length, slice_index, drop, nat_lt}
 use Rattle.std.specs.List.{list_all, list_any}
 use Rattle.std.specs.Char.{is_digit}
-use Rattle.scan_core.specs.Names.{starts_name, is_name}
+use Rattle.token_core.specs.Names.{starts_name, is_name}
 use Rattle.scan_core.specs.Characters.{Characters, begins}
 use Rattle.scan_core.specs.Escapes.{digits_value}
 

@@ -1,6 +1,6 @@
 -- The pieces of a text: what each is, and not where a scan ends.
 use Rattle.std.specs.Prelude.{◌≡◌, ◌⊎◌, ◌<◌, ◌≤◌, ℕ, Bool, true, false, not, ◌&&◌, ◌||◌, ◌==◌, [], ◌∷◌, ◌++◌, length, slice_index}
-use Rattle.scan_core.specs.Names.{is_name, is_reserved}
+use Rattle.token_core.specs.Names.{is_name, is_reserved}
 use Rattle.scan_core.specs.Characters.{Characters, is_white, is_mark, continues, opening, closing}
 use Rattle.scan_core.specs.Comments.{IsLineComment, IsBlockComment, begins_doc}
 use Rattle.scan_core.specs.Strings.{IsString, IsPrefixed, IsTicked}

@@ -2,7 +2,7 @@
 use Rattle.std.specs.Prelude.{ℕ, zero, suc, ◌+◌, ◌*◌, ◌^◌, Bool, true, false, not, ◌&&◌, ◌||◌, if◌then◌else◌, ◌==◌, nat_le, nat_lt, [], ◌∷◌, drop, take, slice_index, Option, Some, None}
 use Rattle.std.specs.List.{prefix_len, list_any}
 use Rattle.std.specs.Char.{is_digit, digit_value}
-use Rattle.scan_core.specs.Names.{starts_name, continues_name, is_reserved}
+use Rattle.token_core.specs.Names.{starts_name, continues_name, is_reserved}
 use Rattle.scan_core.specs.Characters.{Characters, begins, is_white, is_mark, continues}
 use Rattle.scan_core.specs.Comments.{is_in_line, documents, comment_end}
 use Rattle.scan_core.specs.Escapes.{is_short, is_pair, in_hex, is_number_of_character, digits_value}

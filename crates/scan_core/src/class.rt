@@ -1,11 +1,12 @@
 //! Classes of characters.
 ghost use Rattle.std.specs.Prelude.{◌≡◌, ◌≤◌, ◌<◌};
-ghost use Rattle.scan_core.specs.Names as names;
 ghost use Rattle.scan_core.specs.Characters as characters;
 ghost use Rattle.scan_core.specs.Comments as comments;
 ghost use Rattle.scan_core.specs.Escapes as escapes;
 ghost use Rattle.scan_core.specs.Strings as strings;
 ghost use Rattle.scan_core.specs.Numbers as numbers;
+
+use token_core::starts_name;
 
 pub(crate) fn is_white(c: char) -> bool
     ensures { result ≡ characters.is_white c }
@@ -14,20 +15,6 @@ pub(crate) fn is_white(c: char) -> bool
         c,
         '\t'..='\r' | ' ' | '\u{85}' | '\u{200e}' | '\u{200f}' | '\u{2028}' | '\u{2029}'
     )
-}
-
-/// Whether an identifier can begin with this character.
-pub(crate) fn starts_name(c: char) -> bool
-    ensures { result ≡ names.starts_name c }
-{
-    unicode_ident::is_xid_start(c) || c == '_'
-}
-
-/// Whether an identifier can go on with this character.
-pub(crate) fn continues_name(c: char) -> bool
-    ensures { result ≡ names.continues_name c }
-{
-    unicode_ident::is_xid_continue(c)
 }
 
 pub(crate) fn is_mark(c: char) -> bool

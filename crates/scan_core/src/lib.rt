@@ -4,6 +4,7 @@
 mod class;
 mod comments;
 mod delimiter;
+mod ends;
 mod kind;
 mod names;
 mod numbers;
@@ -15,8 +16,9 @@ mod tests;
 mod text;
 
 pub use delimiter::{closing, opening};
+pub use ends::{Closing, closings};
 pub use kind::{Found, Kind};
 pub use numbers::digits_value;
-pub use scan::piece;
+pub use scan::{piece, piece_with};
 pub use text::{byte_length, characters, text_of};
 pub use token_core::Delimiter;

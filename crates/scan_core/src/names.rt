@@ -1,22 +1,13 @@
 //! Identifiers and lifetimes.
 ghost use Rattle.std.specs.Prelude.{◌≡◌, ◌+◌, ℕ, Option, false, length, take, drop, slice_index};
-ghost use Rattle.scan_core.specs.Names as names;
+ghost use Rattle.scan_core.specs.Closings.{AreClosings};
 ghost use Rattle.scan_core.specs.Scan as spec;
 
+use crate::ends::Closing;
 use crate::kind::{Found, Kind};
 use crate::place::{at, begins_name, continues, name_length, rest};
 use crate::quotes::{prefixed_length, ticked_length};
-
-/// Whether this name has no raw form.
-fn is_reserved(name: &[char]) -> bool
-    ensures { result ≡ names.is_reserved name.now }
-{
-    name == ['_'].as_slice()
-        || name == ['s', 'e', 'l', 'f'].as_slice()
-        || name == ['S', 'e', 'l', 'f'].as_slice()
-        || name == ['s', 'u', 'p', 'e', 'r'].as_slice()
-        || name == ['c', 'r', 'a', 't', 'e'].as_slice()
-}
+use token_core::is_reserved;
 
 /// Where the raw identifier ends that begins the text.
 fn raw_name_length(text: &[char]) -> Option<usize>
@@ -52,10 +43,11 @@ fn named(text: &[char]) -> Found
 }
 
 /// What begins with a letter or `_`: a literal with a prefix, or an identifier.
-pub(crate) fn worded(text: &[char]) -> Found
+pub(crate) fn worded(text: &[char], closings: &[Closing]) -> Found
+    requires { AreClosings closings.now text.now }
     ensures { Option.Some result ≡ spec.worded text.now (spec.prefixed_length text.now) }
 {
-    match prefixed_length(text) {
+    match prefixed_length(text, closings) {
         Some(length) => Found {
             kind: Kind::Literal,
             length,

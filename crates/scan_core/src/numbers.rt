@@ -181,13 +181,12 @@ fn exponent_length(text: &[char]) -> usize
     ensures value { result ≡ spec.exponent_length text.now }
     ensures within { result ≤ length text.now }
 {
+    if !begins_exponent_letter(text) {
+        return 0;
+    }
     let sign = sign_length(rest(text, 1));
     let digits = exponent_digits(rest(text, 1 + sign));
-    if begins_exponent_letter(text) && 0 < digits {
-        1 + sign + digits
-    } else {
-        0
-    }
+    if 0 < digits { 1 + sign + digits } else { 0 }
 }
 
 /// The number of characters of the suffix that begins the text.

@@ -1,14 +1,15 @@
 //! Places of a text, and runs of characters at its front.
 ghost use Rattle.std.specs.Prelude.{◌≡◌, ◌≢◌, ◌≤◌, ◌<◌, length, drop, slice_index};
 ghost use Rattle.std.specs.List.{prefix_len};
-ghost use Rattle.scan_core.specs.Names as names;
+ghost use Rattle.token_core.specs.Names as names;
 ghost use Rattle.scan_core.specs.Characters as characters;
 ghost use Rattle.scan_core.specs.Comments as comments;
 ghost use Rattle.scan_core.specs.Escapes as escapes;
 ghost use Rattle.scan_core.specs.Strings as strings;
 ghost use Rattle.scan_core.specs.Numbers as numbers;
 
-use crate::class::{continues_name, in_digits, in_hex, is_blank, is_hash, is_in_line, starts_name};
+use crate::class::{in_digits, in_hex, is_blank, is_hash, is_in_line};
+use token_core::{continues_name, starts_name};
 
 /// The character at a place, or NUL past the end: no rule asks for NUL.
 pub(crate) fn at(text: &[char], i: usize) -> char

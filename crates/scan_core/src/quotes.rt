@@ -1,10 +1,11 @@
 //! Literals between quotes.
 ghost use Rattle.std.specs.Prelude.{◌≡◌, ◌≤◌, ◌<◌, ◌+◌, ◌-◌, ℕ, length, take, drop, slice_index, IfSome, ◌==◌, ◌&&◌, false, true};
 ghost use Rattle.scan_core.specs.Strings as strings;
-ghost use Rattle.scan_core.specs.Escapes as escapes;
+ghost use Rattle.scan_core.specs.Closings.{AreClosings};
 ghost use Rattle.scan_core.specs.Scan as spec;
 
 use crate::class::{fits, is_pair, is_short, is_single};
+use crate::ends::{Closing, behind, can_close};
 use crate::numbers::is_number_of_character;
 use crate::place::{at, blank_length, hash_length, hex_length, rest};
 
@@ -90,23 +91,29 @@ fn closes(hashes: usize, text: &[char]) -> bool
 }
 
 /// Where the raw form ends whose first `#` or `"` begins the text.
-fn raw_length(byte: bool, text: &[char]) -> Option<usize>
+fn raw_length(byte: bool, text: &[char], closings: &[Closing]) -> Option<usize>
+    requires { AreClosings closings.now text.now }
     ensures value { result ≡ spec.raw_length byte text.now }
     ensures within { IfSome result (λ end. end ≤ length text.now) }
 {
     let hashes = hash_length(text);
     if at(text, hashes) == '"' && hashes <= 255 {
-        raw_end(byte, hashes, text)
+        raw_end(byte, hashes, text, closings)
     } else {
         None
     }
 }
 
-fn raw_end(byte: bool, hashes: usize, text: &[char]) -> Option<usize>
-    requires { hashes < length text.now }
+fn raw_end(byte: bool, hashes: usize, text: &[char], closings: &[Closing]) -> Option<usize>
+    requires some { hashes < length text.now }
+    requires few { hashes ≤ 255 }
+    requires closings { AreClosings closings.now text.now }
     ensures value { result ≡ spec.raw_end byte hashes (hashes + 1) (drop (hashes + 1) text.now) }
     ensures within { IfSome result (λ end. end ≤ length text.now) }
 {
+    if !can_close(byte, hashes, behind(closings, hashes + 1)) {
+        return None;
+    }
     let mut i = hashes + 1;
     while i < text.len() {
         if closes(hashes, rest(text, i)) {
@@ -140,14 +147,15 @@ pub(crate) fn ticked_length(byte: bool, text: &[char]) -> Option<usize>
 }
 
 /// Where the literal ends that begins the text with `r` or `b`.
-pub(crate) fn prefixed_length(text: &[char]) -> Option<usize>
+pub(crate) fn prefixed_length(text: &[char], closings: &[Closing]) -> Option<usize>
+    requires { AreClosings closings.now text.now }
     ensures value { result ≡ spec.prefixed_length text.now }
 {
     match (at(text, 0), at(text, 1)) {
-        ('r', _) => Some(1 + raw_length(false, rest(text, 1))?),
+        ('r', _) => Some(1 + raw_length(false, rest(text, 1), behind(closings, 1))?),
         ('b', '"') => Some(1 + string_length(true, rest(text, 1))?),
         ('b', '\'') => Some(1 + ticked_length(true, rest(text, 1))?),
-        ('b', 'r') => Some(2 + raw_length(true, rest(text, 2))?),
+        ('b', 'r') => Some(2 + raw_length(true, rest(text, 2), behind(closings, 2))?),
         _ => None,
     }
 }

@@ -1,19 +1,21 @@
 //! The piece at the front of a text.
 ghost use Rattle.std.specs.Prelude.{◌≡◌, ◌≤◌, ◌<◌, ℕ, length, take, drop, slice_index, IfSome, IfNone, false};
 ghost use Rattle.scan_core.specs.Characters.{Characters};
+ghost use Rattle.scan_core.specs.Closings.{AreClosings};
 ghost use Rattle.scan_core.specs.Pieces.{IsPieceAt};
 ghost use Rattle.scan_core.specs.Pieces as pieces;
 ghost use Rattle.scan_core.specs.Scan as spec;
 ghost use Rattle.scan_core.specs.declared.kind.Kind.{Kind};
 
-use crate::class::{is_decimal, is_mark, is_white, starts_name};
+use crate::class::{is_decimal, is_mark, is_white};
 use crate::comments::{mark, slashed};
+use crate::ends::Closing;
 use crate::kind::{Found, Kind};
 use crate::names::{ticked, worded};
 use crate::numbers::number;
 use crate::place::{at, continues, rest};
 use crate::quotes::string_length;
-use token_core::Delimiter;
+use token_core::{Delimiter, starts_name};
 
 /// How a piece begins.
 #[derive(Clone, Copy)]
@@ -85,14 +87,15 @@ fn quoted(text: &[char]) -> Option<Found>
 
 /// The longest piece at the front, whatever follows it.
 #[tactic(auto, unfolding(crate::specs::Scan::front))]
-fn front(text: &[char]) -> Option<Found>
+fn front(text: &[char], closings: &[Closing]) -> Option<Found>
+    requires { AreClosings closings.now text.now }
     ensures { result ≡ spec.front text.now }
 {
     let [first, ..] = text else {
         return None;
     };
     match head_of(*first) {
-        Head::Name => Some(worded(text)),
+        Head::Name => Some(worded(text, closings)),
         Head::White => one(Kind::White),
         Head::Digit => number(text),
         Head::Quote => quoted(text),
@@ -116,10 +119,11 @@ fn may_precede(kind: Kind, text: &[char]) -> bool
     }
 }
 
-fn cut(text: &[char]) -> Option<Found>
+fn cut(text: &[char], closings: &[Closing]) -> Option<Found>
+    requires { AreClosings closings.now text.now }
     ensures { result ≡ spec.piece text.now }
 {
-    let found = front(text)?;
+    let found = front(text, closings)?;
     if may_precede(found.kind, rest(text, found.length)) {
         Some(found)
     } else {
@@ -128,11 +132,26 @@ fn cut(text: &[char]) -> Option<Found>
 }
 
 /// The piece that the text begins with, or none where the text is empty or no piece starts there.
+///
+/// A raw string that never ends is looked for to the end of the text: [`piece_with`] is not so slow
+/// where there are many.
 pub fn piece(text: &[char]) -> Option<Found>
     ensures found { IfSome result (λ p. IsPieceAt p.kind text.now (take p.length text.now) (drop p.length text.now)) }
     ensures none { IfNone result ((k : Kind) (front after : Characters) → IsPieceAt k text.now front after → ⊥) }
     ensures within { IfSome result (λ p. (1 ≤ p.length) × (p.length ≤ length text.now)) }
     ensures value { result ≡ spec.piece text.now }
 {
-    cut(text)
+    piece_with(text, &[])
+}
+
+/// The same, where the closings of the text tell which raw strings end, so that none is looked for
+/// in vain.
+pub fn piece_with(text: &[char], closings: &[Closing]) -> Option<Found>
+    requires { AreClosings closings.now text.now }
+    ensures found { IfSome result (λ p. IsPieceAt p.kind text.now (take p.length text.now) (drop p.length text.now)) }
+    ensures none { IfNone result ((k : Kind) (front after : Characters) → IsPieceAt k text.now front after → ⊥) }
+    ensures within { IfSome result (λ p. (1 ≤ p.length) × (p.length ≤ length text.now)) }
+    ensures value { result ≡ spec.piece text.now }
+{
+    cut(text, closings)
 }

@@ -141,6 +141,21 @@ fn finds_no_piece(rt: HostRuntime) -> Result<(), Fail> {
 }
 
 #[test]
+fn knows_which_raw_strings_end(rt: HostRuntime) -> Result<(), Fail> {
+    for (text, kind, length) in [
+        ("r#\"a\"#", Kind::Literal, 6),
+        ("r##\"a\"#", Kind::Ident, 1),
+        ("r#\" r#\" r#\"", Kind::Ident, 1),
+        ("br#\"é\"#", Kind::Ident, 2),
+    ] {
+        let text = characters(rt.alloc(), text)?;
+        let closings = closings(rt.alloc(), &text)?;
+        assert_eq!(rt; piece_with(&text, &closings), Some(Found { kind, length }));
+    }
+    Ok(())
+}
+
+#[test]
 fn keeps_the_text(rt: HostRuntime) -> Result<(), Fail> {
     let text = characters(rt.alloc(), "aé€🦀")?;
     assert_eq!(rt; byte_length(&text), 10);

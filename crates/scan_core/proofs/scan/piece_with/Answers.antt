@@ -1,5 +1,5 @@
 use Rattle.scan_core.proofs.Pieces.{found_clause, none_clause, within_clause}
-use Rattle.scan_core.proofs.scan.piece.Goals as goal
+use Rattle.scan_core.proofs.scan.piece_with.Goals as goal
 
 pub returns-clause-found : goal.returns-clause-found
 returns-clause-found c = found_clause c.args.text.now c.cut.result c.cut.ensures
