@@ -16,7 +16,7 @@ mod tests;
 mod text;
 
 pub use delimiter::{closing, opening};
-pub use ends::{Closing, closings};
+pub use ends::{Closing, behind, closings};
 pub use kind::{Found, Kind};
 pub use numbers::digits_value;
 pub use scan::{piece, piece_with};
