@@ -58,6 +58,8 @@ fn text_of(alloc: Global, workload: &str, size: usize) -> Mem<String> {
         "strings" => filled(alloc, "\"a string\\n\" ", size),
         "groups" => filled(alloc, "(a[b{c}d]e) ", size),
         "ampersands" => filled(alloc, "&", size),
+        "comments" => filled(alloc, "/// a text \\ \"\n//\n/* */", size),
+        "literals" => filled(alloc, "1_000u8 0xFF 1.5e10 'a' b'a' r#\"a\"# ", size),
         "deep" => filled(alloc, deep_groups(alloc)?.as_str(), size),
         _ => Ok(String::new(alloc)),
     }

@@ -5,7 +5,7 @@ use Rattle.std.proofs.lemmas.Bool.{and_parts, eqb-true, true≢false, false≢tr
 use Rattle.std.proofs.lemmas.Bool.{cases_lt}
 use Rattle.std.specs.List.{list_all}
 use Rattle.token_core.specs.declared.tree.Delimiter.TheVariants as delimiter
-use Rattle.scan_core.specs.Names.{starts_name, continues_name, is_name}
+use Rattle.token_core.specs.Names.{starts_name, continues_name, is_name}
 use Rattle.scan_core.specs.Characters.{Characters, begins, is_mark, continues}
 use Rattle.scan_core.specs.Comments.{begins_doc}
 use Rattle.scan_core.specs.Numbers.{is_decimal, in_digits, is_after_dot, begins_fraction, IsDecimalRun, IsFraction, IsExponentRun, IsSomeExponent, IsExponent, base_of, begins_base, IsDecimalNumber, IsBasedNumber, IsNumber}

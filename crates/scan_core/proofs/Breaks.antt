@@ -5,7 +5,7 @@ use Rattle.std.specs.List.{list_all, list_any, AllByRecursion}
 use Rattle.unicode_ident.proofs.IdentLemmas.{is_xid_continue-ascii}
 use Rattle.token_core.specs.declared.tree.Delimiter.{Delimiter}
 use Rattle.token_core.specs.declared.tree.Delimiter.TheVariants as delimiter
-use Rattle.scan_core.specs.Names.{starts_name, continues_name, is_name}
+use Rattle.token_core.specs.Names.{starts_name, continues_name, is_name}
 use Rattle.scan_core.specs.Characters.{Characters, begins, closing}
 use Rattle.scan_core.specs.Numbers.{in_digits, is_after_dot, IsFraction, is_exponent_letter, is_sign, IsSomeExponent, IsExponent, is_suffix, base_of, IsDecimalNumber, IsBasedNumber, IsNumber}
 use Rattle.scan_core.specs.Pieces.{IsRawName}

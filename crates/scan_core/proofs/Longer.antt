@@ -6,7 +6,7 @@ use Rattle.std.specs.List.{list_all, list_any, concat}
 use Rattle.unicode_ident.proofs.IdentLemmas.{is_xid_continue-ascii}
 use Rattle.token_core.specs.declared.tree.Delimiter.{Delimiter}
 use Rattle.token_core.specs.declared.tree.Delimiter.TheVariants as delimiter
-use Rattle.scan_core.specs.Names.{starts_name, continues_name, is_name}
+use Rattle.token_core.specs.Names.{starts_name, continues_name, is_name}
 use Rattle.scan_core.specs.Characters.{Characters, begins, opening, closing}
 use Rattle.scan_core.specs.Numbers.{is_decimal, IsNumber}
 use Rattle.scan_core.specs.Pieces.{IsRawName, IsPiece}

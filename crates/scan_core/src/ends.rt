@@ -82,7 +82,7 @@ pub(crate) fn can_close(byte: bool, hashes: usize, closings: &[Closing]) -> bool
 }
 
 /// The places behind the first, so many.
-pub(crate) fn behind(closings: &[Closing], count: usize) -> &[Closing]
+pub fn behind(closings: &[Closing], count: usize) -> &[Closing]
     ensures { result.now ≡ drop count closings.now }
 {
     &closings[count.min(closings.len())..]

@@ -17,7 +17,7 @@ mod text;
 
 pub use class::base_of;
 pub use delimiter::{closing, opening};
-pub use ends::{Closing, closings};
+pub use ends::{Closing, behind, closings};
 pub use kind::{Found, Kind};
 pub use numbers::{digits_value, exponent_length, fraction_length};
 pub use place::{at, digits_length, hash_length, hex_length, rest};

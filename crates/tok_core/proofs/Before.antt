@@ -1,10 +1,13 @@
 -- What was read before a place.
-use Rattle.std.proofs.Common.{◌≡◌, inl, inr, ℕ, ◌+◌, ◌<◌, ◌≤◌, List, [], ◌∷◌, ◌++◌, length, Option, Some, None, option_and_then, refl, sym, ap, ◌∙◌, subst, arith, append_assoc, length-append}
+use Rattle.std.proofs.Common.{◌≡◌, inl, inr, ℕ, ◌+◌, ◌<◌, ◌≤◌, List, [], ◌∷◌, ◌++◌, length, drop, Option, Some, None, option_and_then, refl, sym, ap, ◌∙◌, subst, arith, append_assoc, length-append}
 use Rattle.std.proofs.lemmas.List.{append-nil}
 use Rattle.std.proofs.lemmas.Str.{encodes-append}
 use Rattle.std.specs.Str.{encode_utf8_all}
+use Rattle.scan_core.proofs.Raws.{AreClosings-drop}
 use Rattle.scan_core.specs.Characters.{Characters}
+use Rattle.scan_core.specs.Closings.{AreClosings}
 use Rattle.scan_core.specs.Pieces.{IsPieceAt}
+use Rattle.scan_core.specs.declared.ends.Closing.{Closing}
 use Rattle.scan_core.specs.declared.kind.Kind.{Kind}
 use Rattle.token_core.specs.declared.tree.Delimiter.{Delimiter}
 use Rattle.token_core.specs.declared.tree.TokenStream.{TokenStream}
@@ -141,3 +144,10 @@ Spells-end source at text rest nest s b l f =
 pub Closes-end : (source at : ℕ) (text rest : Characters) (nest : Nest) (s : TokenStream) → Before source text rest at nest
     → open_in nest ≡ [] → flat_stream s ≡ flat_nest source nest → Closes s
 Closes-end source at text rest nest s b e f = ap (λ r. open_after r []) (f ∙ b.flat) ∙ b.matched ∙ ap Some e
+
+-- what is known of the endings of raw forms is known behind a piece
+pub AreClosings-behind : (n : ℕ) (known left : List Closing) (rest after : Characters) → AreClosings known rest → left ≡ drop n known → after ≡ drop n rest → AreClosings left after
+AreClosings-behind n known left rest after h e f =
+    let P : List Closing → Type 0 = λ left. AreClosings left after in
+    let Q : Characters → Type 0 = λ after. AreClosings (drop n known) after in
+    subst P (sym e) (subst Q (sym f) (AreClosings-drop n known rest h))

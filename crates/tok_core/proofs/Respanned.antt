@@ -10,7 +10,7 @@ use Rattle.token_core.specs.declared.tree.TokenTree.TheFolds.{fold-Group, ind-To
 use Rattle.token_core.specs.declared.tree.TokenTree.TheOpen.{TokenTree-F, Group-F, TokenStream-F}
 use Rattle.tok_core.specs.Bare.{SameButSpans, token_at, flat_at}
 use Rattle.tok_core.specs.Flat.{opening, closing, start_of, end_of, Tree, Trees, leaf, branch, no_trees, more_trees, trees_of, tree_step, group_step, stream_step, tree_view, stream_view, flat_of, flats_of, flat_stream}
-use Rattle.tok_core.specs.Respan.{tree_respanned, group_respanned, stream_respanned, tree_at, stream_at}
+use Rattle.token_core.specs.Respan.{group_at, tree_at, stream_at}
 use Rattle.tok_core.proofs.Trees.{flat_stream-same}
 
 -- the tree with this span everywhere, and trees
@@ -43,14 +43,11 @@ abbrev group_view : Group → Tree
 group_view = fold-Group Tree Tree Trees tree_step group_step stream_step
 
 module _ (s : Span) where
-  abbrev group_at : Group → Group
-  group_at = fold-Group TokenTree Group TokenStream (tree_respanned s) (group_respanned s) (stream_respanned s)
-
   abbrev IsTreeAt : TokenTree → Type 0
   IsTreeAt t = tree_view (tree_at s t) ≡ view_at s (tree_view t)
 
   abbrev IsGroupAt : Group → Type 0
-  IsGroupAt g = group_view (group_at g) ≡ view_at s (group_view g)
+  IsGroupAt g = group_view (group_at s g) ≡ view_at s (group_view g)
 
   abbrev IsStreamAt : TokenStream → Type 0
   IsStreamAt a = stream_view (stream_at s a) ≡ views_at s (stream_view a)
@@ -73,13 +70,13 @@ module _ (s : Span) where
   tree_step-at (TokenTree-F.Punct it) = search (rules, the_lemmas)
   tree_step-at (TokenTree-F.Literal it) = search (rules, the_lemmas)
   tree_step-at (TokenTree-F.Group sure) =
-      let inside : tree_view (tree_at s (roll-TokenTree (TokenTree-F.Group sure.0))) ≡ group_view (group_at sure.0) = search (rules, the_lemmas) in
+      let inside : tree_view (tree_at s (roll-TokenTree (TokenTree-F.Group sure.0))) ≡ group_view (group_at s sure.0) = search (rules, the_lemmas) in
       let outside : tree_view (roll-TokenTree (TokenTree-F.Group sure.0)) ≡ group_view sure.0 = search (rules, the_lemmas) in
       inside ∙ sure.1 ∙ ap (view_at s) (sym outside)
 
   group_step-at : (x : Group-F TokenTree Group TokenStream) → IsStreamAt x.stream → IsGroupAt (roll-Group x)
   group_step-at x is =
-      let inside : group_view (group_at (roll-Group x)) ≡ branch x.delimiter (stream_view (stream_at s x.stream)) s = search (rules, the_lemmas) in
+      let inside : group_view (group_at s (roll-Group x)) ≡ branch x.delimiter (stream_view (stream_at s x.stream)) s = search (rules, the_lemmas) in
       let outside : group_view (roll-Group x) ≡ branch x.delimiter (stream_view x.stream) x.span = search (rules, the_lemmas) in
       inside ∙ ap (λ ts. branch x.delimiter ts s) is ∙ ap (view_at s) (sym outside)
 

@@ -5,6 +5,5 @@ pub mod Nests
 pub mod Printing
 pub mod Quoted
 pub mod Readable
-pub mod Respan
 pub mod Small
 pub mod Spells

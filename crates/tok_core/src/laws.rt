@@ -5,7 +5,7 @@ ghost use Rattle.std.specs.Str.{IsUtf8};
 ghost use Rattle.scan_core.specs.Characters.{Characters};
 ghost use Rattle.tok_core.specs.Bare.{flat_at};
 ghost use Rattle.tok_core.specs.Flat.{flat_stream};
-ghost use Rattle.tok_core.specs.Respan.{stream_at};
+ghost use Rattle.token_core.specs.Respan.{stream_at};
 ghost use Rattle.tok_core.specs.Spells.{IsAtItsBytes, Piece, Spells, Stand};
 ghost use Rattle.token_core.specs.declared.span.Span.{Span};
 ghost use Rattle.token_core.specs.declared.tree.TokenStream.{TokenStream};

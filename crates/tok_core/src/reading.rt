@@ -7,7 +7,7 @@ ghost use Rattle.token_core.specs.declared.tree.TokenStream.{TokenStream};
 
 use crate::error::LexError;
 use crate::nest::Nest;
-use scan_core::{Kind, byte_length, characters, piece};
+use scan_core::{Kind, behind, byte_length, characters, closings, piece_with};
 use std::alloc::Global;
 use token_core::TokenStream;
 
@@ -38,17 +38,20 @@ fn read(alloc: Global, source: u32, text: &[char]) -> Result<TokenStream, LexErr
     ensures closed { IfOk result Closes }
     ensures err { IfErr result (Refused source text.now) }
 {
+    let closings = closings(alloc, text)?;
+    let mut known = closings.as_slice();
     let mut rest = text;
     let mut at = 0u32;
     let mut nest = Nest::new(alloc);
     while !rest.is_empty() {
-        let Some(found) = piece(rest) else {
+        let Some(found) = piece_with(rest, known) else {
             return Err(LexError::Syntax { at });
         };
         let (front, after) = rest.split_at(found.length);
         let end = at + byte_length(front) as u32;
         let text = kept(found.kind, front, after);
         nest = nest.step(alloc, source, found.kind, text, at, end)?;
+        known = behind(known, found.length);
         rest = after;
         at = end;
     }

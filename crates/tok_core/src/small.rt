@@ -1,11 +1,11 @@
 //! The small text: the part of the tokens that the first forms are written in.
 ghost use Rattle.std.specs.Prelude.{◌≡◌, ◌↔◌, IsTrue, IfOk, chars};
 ghost use Rattle.std.specs.List.{list_all};
-ghost use Rattle.scan_core.specs.Characters.{Characters};
+ghost use Rattle.scan_core.specs.Closings.{AreClosings};
 ghost use Rattle.tok_core.specs.Small as spec;
 ghost use Rattle.tok_core.specs.Small.{IsSmall};
 
-use scan_core::{Kind, characters, piece};
+use scan_core::{Closing, Kind, behind, characters, closings, piece_with};
 use std::alloc::Global;
 use token_core::Mem;
 
@@ -16,21 +16,25 @@ pub fn is_small(alloc: Global, text: &str) -> Mem<bool>
     ensures { IfOk result (λ it. IsTrue it ↔ IsSmall (chars text.now)) }
 {
     let characters = characters(alloc, text)?;
-    Ok(are_small(characters.as_slice()))
+    let closings = closings(alloc, characters.as_slice())?;
+    Ok(are_small(characters.as_slice(), closings.as_slice()))
 }
 
-fn are_small(text: &[char]) -> bool
+fn are_small(text: &[char], closings: &[Closing]) -> bool
+    requires { AreClosings closings.now text.now }
     ensures { IsTrue result ↔ IsSmall text.now }
 {
+    let mut known = closings;
     let mut rest = text;
     while !rest.is_empty() {
-        let Some(found) = piece(rest) else {
+        let Some(found) = piece_with(rest, known) else {
             return false;
         };
         let (front, after) = rest.split_at(found.length);
         if !is_small_piece(found.kind, front) {
             return false;
         }
+        known = behind(known, found.length);
         rest = after;
     }
     true

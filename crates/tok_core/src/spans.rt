@@ -1,5 +1,5 @@
 ghost use Rattle.std.specs.Prelude.{◌≡◌, map};
-ghost use Rattle.tok_core.specs.Respan.{stream_at, tree_at};
+ghost use Rattle.token_core.specs.Respan.{stream_at, tree_at};
 
 use token_core::{Group, Ident, Items, Lifetime, Literal, Punct, Span, TokenStream, TokenTree};
 
