@@ -1,5 +1,5 @@
 #!/bin/sh
-# Measures the lexer on long texts: seconds and peak memory for 1, 4 and 16 MB of each workload.
+# Measures the lexer on long texts: processor seconds for 1, 4 and 16 MB of each workload, and the peak memory.
 # Run it at the top of the repository, after the program is built: (cd crates/lex_bench && rt run)
 set -e
 program="$(dirname "$0")/../crates/lex_bench/out/lex_bench"
@@ -9,9 +9,9 @@ for workload in marks names strings groups ampersands deep comments literals; do
     row="| $(printf '%-10s' "$workload")"
     first=
     for megabytes in 1 4 16; do
-        measured=$( { /usr/bin/time -f '%e %M' "$program" "$workload" "$megabytes" >/dev/null; } 2>&1 )
-        seconds=${measured% *}
-        kilobytes=${measured#* }
+        measured=$( { /usr/bin/time -f '%U %S %M' "$program" "$workload" "$megabytes" >/dev/null; } 2>&1 )
+        seconds=$(echo "$measured" | awk '{ printf "%.2f", $1 + $2 }')
+        kilobytes=$(echo "$measured" | awk '{ print $3 }')
         first=${first:-$seconds}
         row="$row | $(printf '%6s s' "$seconds")"
     done

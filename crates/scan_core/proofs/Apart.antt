@@ -41,9 +41,11 @@ fraction-apart : (text rest after : Characters) → IsApart after → IsFraction
 fraction-apart text rest after h f = ⊎_elim
     (λ n. inl (n.0, begins_fraction-apart rest after h n.1))
     (λ f. ⊎_elim
-    (λ d. inr (inl (d.0,
-    begins-more is_after_dot rest after d.1 (begins-apart is_after_dot Spares-after_dot after h),
-    begins-more is_decimal rest after d.2 (begins-apart is_decimal (spares is_decimal refl refl refl refl) after h))))
+    (λ d. inr (inl (
+      d.0,
+      begins-more is_after_dot rest after d.1 (begins-apart is_after_dot Spares-after_dot after h),
+      begins-more is_decimal rest after d.2 (begins-apart is_decimal (spares is_decimal refl refl refl refl) after h),
+    )))
     (λ d. inr (inr (d.0, d.1, whole-apart d.0 rest after h d.2))) f) f
 
 run-apart : (text rest after : Characters) → IsApart after → IsExponentRun text (rest ++ []) → IsExponentRun text (rest ++ after)
@@ -110,9 +112,9 @@ number-apart text after h n = ⊎_elim (λ n. inl (decimal n)) (λ n. inr (based
           suffix = n.suffix;
           parts = n.parts;
           is_whole = subst (IsDecimalRun n.whole) (sym (three_parts n.fraction n.exponent n.suffix after))
-          (whole-apart n.whole (n.fraction ++ (n.exponent ++ n.suffix)) after h (subst (IsDecimalRun n.whole) (three_parts n.fraction n.exponent n.suffix []) n.is_whole));
+              (whole-apart n.whole (n.fraction ++ (n.exponent ++ n.suffix)) after h (subst (IsDecimalRun n.whole) (three_parts n.fraction n.exponent n.suffix []) n.is_whole));
           is_fraction = subst (IsFraction n.fraction) (append_assoc n.exponent n.suffix after)
-          (fraction-apart n.fraction (n.exponent ++ n.suffix) after h (subst (IsFraction n.fraction) (sym (append_assoc n.exponent n.suffix [])) n.is_fraction));
+              (fraction-apart n.fraction (n.exponent ++ n.suffix) after h (subst (IsFraction n.fraction) (sym (append_assoc n.exponent n.suffix [])) n.is_fraction));
           is_exponent = exponent-apart n.exponent n.suffix after h n.is_exponent;
           is_suffixed = n.is_suffixed;
           is_decimal = begins_base-apart text after size h n.is_decimal;
@@ -199,10 +201,10 @@ IsPieceAt-apart k text after w i h = record {
   split = refl;
   piece = piece-apart k text after w h i;
   longest = λ other f a e is. ⊎_elim
-    (λ l. let g = longer text after f a h e l in
-    absurd (none_longer k text g.0 g.1 other a g.3 w (some_length k text w i) i (subst (λ f. IsPiece other f a) g.2 is)))
-    (λ l. l)
-    (cases_lt (length text) (length f));
+      (λ l. let g = longer text after f a h e l in
+      absurd (none_longer k text g.0 g.1 other a g.3 w (some_length k text w i) i (subst (λ f. IsPiece other f a) g.2 is)))
+      (λ l. l)
+      (cases_lt (length text) (length f));
   follows = may_precede-apart k after w h;
 }
 

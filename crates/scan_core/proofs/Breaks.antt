@@ -127,11 +127,11 @@ longer [] after (y ∷ f) a h e l = ⊎_elim
   where
     not_nil : (c : ℕ) (cs : Characters) → [] ≡ c ∷ cs → ⊥
     not_nil c cs e = cc
-
 longer (c ∷ text) after (y ∷ f) a h e l =
     let r = longer text after f a h (rest_same c y (text ++ after) (f ++ a) e) (omega arith) in
     let first = first_same c y (text ++ after) (f ++ a) e in
     (r.0, r.1, cc (first, r.2), r.3)
+
 -- ---- what has no break in it
 
 abbrev pub keeps : ℕ → Bool

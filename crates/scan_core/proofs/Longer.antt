@@ -86,6 +86,7 @@ same_stop p (a ∷ xs) [] x y us vs h k f g e =
     let same : a ≡ y = first_same a y (xs ++ x ∷ us) vs e in absurd (true≢false (sym (and_parts (p a) _ h).0 ∙ ap p same ∙ g))
 same_stop p (a ∷ xs) (b ∷ ys) x y us vs h k f g e =
     same_stop p xs ys x y us vs (and_parts (p a) _ h).1 (and_parts (p b) _ k).1 f g (rest_same a b (xs ++ x ∷ us) (ys ++ y ∷ vs) e)
+
 -- a name does not go on with a break and then quote
 name_quotes : (text : Characters) (x : ℕ) (more : Characters) → is_break x ≡ true → is_name text ≡ true → Quotes (text ++ x ∷ more) → ⊥
 name_quotes text x more b h q =
