@@ -6,6 +6,7 @@ use Rattle.std.specs.Str.Lossy.{utf8_valid_len}
 use Rattle.token_core.specs.declared.span.Span.{Span}
 use Rattle.token_core.specs.declared.span.Span.TheVariants.{At}
 use Rattle.token_core.specs.declared.tree.TokenStream.{TokenStream}
+use Rattle.tok_core.specs.Small.{IsSmall}
 use Rattle.tok_core.specs.Spells.{Spells}
 use Rattle.tok_core.specs.Endings.{IsWithin}
 use Rattle.node_core.specs.declared.derive.DeriveInput.{DeriveInput}
@@ -14,9 +15,9 @@ use Rattle.parts_core.specs.Parts.{IsDivision, divider_count}
 use Rattle.darling_run.specs.declared.status.Status.{Status}
 use Rattle.darling_run.specs.declared.status.Status.TheVariants.{Done, Usage, ReadFault, TooLong, NotText, NoParts, Unbuilt, WriteFault, NoMemory}
 
--- the text, which has the number `source`, spells these tokens, and they keep the limit
+-- the text, which has the number `source`, is a small one, it spells these tokens, and they keep the limit
 abbrev pub HasTokens : ℕ → List ℕ → TokenStream → Type 0
-HasTokens source text tokens = Spells source (chars text) tokens × IsWithin tokens
+HasTokens source text tokens = IsSmall (chars text) × Spells source (chars text) tokens × IsWithin tokens
 
 -- the text is a declaration in the first form
 pub record IsDeclaration (text : List ℕ) (declaration : DeriveInput) : Type 0 where

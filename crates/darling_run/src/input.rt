@@ -8,7 +8,7 @@ use form_core::{parse_declaration, parse_subjects};
 use node_core::DeriveInput;
 use parts_core::{as_text, divide};
 use std::alloc::{AllocError, Global};
-use tok_core::{LexError, lex};
+use tok_core::{LexError, is_small, lex};
 use token_core::{Items, Mem, Span, TokenStream};
 
 /// The trees of an input's parts.
@@ -82,7 +82,7 @@ fn read_subjects(alloc: Global, text: &str) -> Mem<Option<Items<DeriveInput>>>
     }
 }
 
-/// The tokens of a part, where it spells some.
+/// The tokens of a part, where it is a small text and spells some.
 fn read_tokens(alloc: Global, source: u32, text: &str) -> Mem<Option<TokenStream>>
     requires { length text.now ≤ 16777216 }
     ensures some { IfOk result (λ read. IfSome read (HasTokens source text.now)) }
@@ -90,6 +90,9 @@ fn read_tokens(alloc: Global, source: u32, text: &str) -> Mem<Option<TokenStream
         (other : TokenStream) → HasTokens source text.now other → other ≡ tokens)) }
     ensures none { IfOk result (λ read. IfNone read ((other : TokenStream) → ¬ HasTokens source text.now other)) }
 {
+    if !is_small(alloc, text)? {
+        return Ok(None);
+    }
     match lex(alloc, source, text) {
         Ok(tokens) => Ok(Some(tokens)),
         Err(LexError::NoMemory) => Err(AllocError),
