@@ -36,16 +36,25 @@ pub(crate) fn read_input(alloc: Global, bytes: &[u8]) -> Result<Input, Status>
     let Some(declaration) = read_declaration(alloc, parts.declarations)? else {
         return Err(unbuilt(0, parts.declarations));
     };
-    let Some(subjects) = read_subjects(alloc, parts.subjects)? else {
-        return Err(unbuilt(1, parts.subjects));
-    };
-    match parts.table {
-        None => Ok(Input {
+    let input = match read_subjects(alloc, parts.subjects) {
+        Ok(Some(subjects)) => Input {
             declaration,
             subjects,
-        }),
-        Some(table) => Err(unbuilt(2, table)),
+        },
+        Ok(None) => return Err(instead_of(declaration, unbuilt(1, parts.subjects))),
+        Err(AllocError) => return Err(instead_of(declaration, Status::NoMemory)),
+    };
+    match parts.table {
+        None => Ok(input),
+        Some(table) => Err(instead_of(input, unbuilt(2, table))),
     }
+}
+
+/// The status, where what was read is let go. The trees are dropped here alone, as their drop is long.
+fn instead_of<T: Drop>(_read: T, status: Status) -> Status
+    ensures { result ≡ status }
+{
+    status
 }
 
 fn unbuilt(source: u32, part: &str) -> Status
