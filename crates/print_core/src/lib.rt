@@ -1,0 +1,23 @@
+//! The printing of nodes: the tokens that each node of syntax stands for.
+//!
+//! A node's tokens are those of its form in the grammar. Marks, words and groups that the printing
+//! makes have the span of their node; where the node keeps none, that of the nearest node around it
+//! that keeps one, else [`Span::CallSite`](token_core::Span::CallSite). Kept tokens stay as they are.
+#![tactic(auto)]
+
+mod attr;
+mod bound;
+mod data;
+mod derive;
+mod expr;
+mod generics;
+mod list;
+mod lit;
+mod path;
+mod push;
+mod to_tokens;
+mod token;
+mod ty;
+
+pub use path::PathStyle;
+pub use to_tokens::ToTokens;

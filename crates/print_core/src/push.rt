@@ -1,0 +1,67 @@
+//! What the printing makes itself: marks, words, groups, and the lists of plain tokens.
+ghost use Rattle.std.specs.Prelude.{◌≡◌, ◌++◌, OnOk};
+ghost use Rattle.print_core.specs.Marks.{mark, word, group, comma, plus, colons};
+
+use std::alloc::Global;
+use token_core::{Delimiter, Group, Ident, Items, Mem, Punct, Span, Text, TokenStream, TokenTree};
+
+/// Writes the mark of these characters, each joint but the last.
+pub fn push_mark(trees: &mut Items<TokenTree>, characters: &[char], span: Span) -> Mem<()>
+    ensures { OnOk result (trees.new ≡ trees.old ++ mark characters.now span) }
+{
+    for (i, ch) in characters.iter().enumerate() {
+        let joint = i + 1 < characters.len();
+        trees.push(TokenTree::Punct(Punct {
+            ch: *ch,
+            joint,
+            span,
+        }))?;
+    }
+    Ok(())
+}
+
+pub fn push_comma(trees: &mut Items<TokenTree>, span: Span) -> Mem<()>
+    ensures { OnOk result (trees.new ≡ trees.old ++ comma span) }
+{
+    push_mark(trees, &[','], span)
+}
+
+pub fn push_plus(trees: &mut Items<TokenTree>, span: Span) -> Mem<()>
+    ensures { OnOk result (trees.new ≡ trees.old ++ plus span) }
+{
+    push_mark(trees, &['+'], span)
+}
+
+pub fn push_colons(trees: &mut Items<TokenTree>, span: Span) -> Mem<()>
+    ensures { OnOk result (trees.new ≡ trees.old ++ colons span) }
+{
+    push_mark(trees, &[':', ':'], span)
+}
+
+/// Writes a word that is not raw: a keyword, `_`, `true`.
+#[tactic(auto, unfolding(crate::specs::Marks::word))]
+pub fn push_word(alloc: Global, trees: &mut Items<TokenTree>, text: &str, span: Span) -> Mem<()>
+    ensures { OnOk result (trees.new ≡ trees.old ++ word text.now span) }
+{
+    let text = Text::from_str(alloc, text)?;
+    let raw = false;
+    trees.push(TokenTree::Ident(Ident { text, raw, span }))
+}
+
+/// Writes the tokens `inside` between two delimiters.
+#[tactic(auto, unfolding(crate::specs::Marks::group))]
+pub fn push_group(
+    trees: &mut Items<TokenTree>,
+    delimiter: Delimiter,
+    inside: Items<TokenTree>,
+    span: Span,
+) -> Mem<()>
+    ensures { OnOk result (trees.new ≡ trees.old ++ group delimiter inside span) }
+{
+    let stream = TokenStream { trees: inside };
+    trees.push(TokenTree::Group(Group {
+        delimiter,
+        stream,
+        span,
+    }))
+}
