@@ -24,7 +24,7 @@ use Rattle.grammar_core.specs.declared.word.Word.TheVariants as word
 use Rattle.grammar_core.specs.Token.{is_arrow, is_bar, is_closed_dots, is_colon, is_comma, is_dots, is_group, is_semicolon, is_turbofish, literal_of}
 use Rattle.grammar_core.specs.Words.{name_of, next_word, sees}
 use Rattle.grammar_core.specs.Look.{atom_start, operand_start, postfix_start, begins_closure, begins_operand, operator_of, at_level}
-use Rattle.grammar_core.specs.Input.{Input, Parser, ◌>>=◌, ◌>>◌, ◌<$>◌, pure, refuse, test, here, upto, state, read_since, skip, skip_by, eat, expect, take_as, at_end, inside, items_from, until_from, by_turns}
+use Rattle.grammar_core.specs.Input.{Input, Parser, ◌>>=◌, ◌>>◌, ◌<$>◌, pure, refuse, test, here, upto, state, read_since, skip, skip_by, eat, expect, take_as, at_end, inside, items_after, until, by_turns}
 use Rattle.grammar_core.specs.Readers.{Readers, operand_level, or_level, range_level, any_level, constant_level}
 use Rattle.grammar_core.specs.Paths.{list, angle_list, generic_argument, path, qualified}
 use Rattle.grammar_core.specs.Patterns.{pattern, max_pattern}
@@ -49,7 +49,7 @@ module _ (readers : Readers) where
     start ← here
     moved ← eat 1 (sees word.Move)
     opened ← expect 1 is_bar
-    params ← by_turns (λ turns. until_from is_comma is_bar closure_param turns [])
+    params ← until 124 closure_param
     typed ← eat 2 is_arrow
     body_level ← if typed then (readers.ty false >> expect 0 (is_group delimiter.Brace) >> pure constant_level) else pure any_level
     kept ← read_since before
@@ -66,7 +66,7 @@ module _ (readers : Readers) where
     if done then pure (expr.Tuple [] span) else (do
       first ← readers.expr any_level
       more ← eat 1 is_comma
-      if more then (λ elems. expr.Tuple elems span) <$> by_turns (λ turns. items_from is_comma (readers.expr any_level) turns (first ∷ []))
+      if more then (λ elems. expr.Tuple elems span) <$> items_after (readers.expr any_level) (first ∷ [])
         else pure (expr.Paren first span))
 
   -- what stands in `[..]`: elements, or one and how often it is repeated
@@ -78,7 +78,7 @@ module _ (readers : Readers) where
       repeated ← eat 1 is_semicolon
       if repeated then (λ len. expr.Repeat first len span) <$> readers.expr any_level else (do
         more ← eat 1 is_comma
-        if more then (λ elems. make.expr_array elems span) <$> by_turns (λ turns. items_from is_comma (readers.expr any_level) turns (first ∷ []))
+        if more then (λ elems. make.expr_array elems span) <$> items_after (readers.expr any_level) (first ∷ [])
           else pure (make.expr_array (first ∷ []) span)))
 
   -- what stands in `{..}`: expressions with `;` behind, and a last one without

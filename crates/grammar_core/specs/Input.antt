@@ -5,7 +5,7 @@ use Rattle.token_core.specs.declared.span.Span.{Span}
 use Rattle.token_core.specs.declared.span.Span.TheVariants.{CallSite}
 use Rattle.token_core.specs.declared.tree.Delimiter.{Delimiter}
 use Rattle.token_core.specs.declared.tree.TokenTree.{TokenTree}
-use Rattle.grammar_core.specs.Token.{span_of, contents_of, is_group}
+use Rattle.grammar_core.specs.Token.{span_of, contents_of, is_group, is_comma, is_mark}
 
 pub record Input : Type 0 where
   pub rest : List TokenTree
@@ -136,36 +136,45 @@ state = λ input. Some (input, input)
 -- ---- lists
 
 -- More items of a list that ends with its tokens, with at most one comma at its end. Each turn takes a token.
-unfoldable pub items_from : {A : Type 0} → (List TokenTree → Bool) → Parser A → ℕ → List A → Parser (List A)
-items_from is_separator item zero found = do
+unfoldable pub items_from : {A : Type 0} → Parser A → ℕ → List A → Parser (List A)
+items_from item zero found = do
   done ← at_end
   if done then pure found else refuse
-items_from is_separator item (suc turns) found = do
+items_from item (suc turns) found = do
   done ← at_end
   if done then pure found else (do
     value ← item
-    more ← eat 1 is_separator
-    if more then items_from is_separator item turns (found ++ value ∷ []) else pure (found ++ value ∷ []))
+    more ← eat 1 is_comma
+    if more then items_from item turns (found ++ value ∷ []) else pure (found ++ value ∷ []))
 
 -- More items of a list that a mark ends, with at most one comma before it.
-unfoldable pub until_from : {A : Type 0} → (List TokenTree → Bool) → (List TokenTree → Bool) → Parser A → ℕ → List A → Parser (List A)
-until_from is_separator is_closing item zero found = refuse
-until_from is_separator is_closing item (suc turns) found = do
-  closed ← eat 1 is_closing
+unfoldable pub until_from : {A : Type 0} → ℕ → Parser A → ℕ → List A → Parser (List A)
+until_from closing item zero found = refuse
+until_from closing item (suc turns) found = do
+  closed ← eat 1 (is_mark closing)
   if closed then pure found else (do
     value ← item
-    more ← eat 1 is_separator
-    if more then until_from is_separator is_closing item turns (found ++ value ∷ [])
-      else expect 1 is_closing >> pure (found ++ value ∷ []))
+    more ← eat 1 is_comma
+    if more then until_from closing item turns (found ++ value ∷ [])
+      else expect 1 (is_mark closing) >> pure (found ++ value ∷ []))
 
--- Items that a mark of some tokens joins: one at least, and one after each mark.
-unfoldable pub joined_from : {A : Type 0} → ℕ → (List TokenTree → Bool) → Parser A → ℕ → List A → Parser (List A)
-joined_from width is_joint item zero found = refuse
-joined_from width is_joint item (suc turns) found = do
+-- Items that a mark joins: one at least, and one after each mark.
+unfoldable pub joined_from : {A : Type 0} → Parser Bool → Parser A → ℕ → List A → Parser (List A)
+joined_from eat_joint item zero found = refuse
+joined_from eat_joint item (suc turns) found = do
   value ← item
-  more ← eat width is_joint
-  if more then joined_from width is_joint item turns (found ++ value ∷ []) else pure (found ++ value ∷ [])
+  more ← eat_joint
+  if more then joined_from eat_joint item turns (found ++ value ∷ []) else pure (found ++ value ∷ [])
 
 -- as many turns as there are tokens left
 abbrev pub by_turns : {A : Type 0} → (ℕ → Parser A) → Parser A
 by_turns loop = λ input. loop (length input.rest) input
+
+abbrev pub items_after : {A : Type 0} → Parser A → List A → Parser (List A)
+items_after item found = by_turns (λ turns. items_from item turns found)
+
+abbrev pub until : {A : Type 0} → ℕ → Parser A → Parser (List A)
+until closing item = by_turns (λ turns. until_from closing item turns [])
+
+abbrev pub joined_by : {A : Type 0} → Parser Bool → Parser A → Parser (List A)
+joined_by eat_joint item = by_turns (λ turns. joined_from eat_joint item turns [])

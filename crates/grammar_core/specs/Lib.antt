@@ -11,3 +11,5 @@ pub mod Patterns
 pub mod Literals
 pub mod Expressions
 pub mod Grammar
+pub mod Reads
+pub mod Trees

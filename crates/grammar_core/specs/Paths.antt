@@ -24,17 +24,17 @@ use Rattle.grammar_core.specs.declared.word.Word.TheVariants as word
 use Rattle.grammar_core.specs.Token.{is_arrow, is_colons, is_comma, is_greater, is_less, is_plus, is_question, lifetime_of}
 use Rattle.grammar_core.specs.Words.{name_of, segment_word, sees}
 use Rattle.grammar_core.specs.Look.{arguments_start, argument_start, is_there}
-use Rattle.grammar_core.specs.Input.{Parser, ◌>>=◌, ◌>>◌, ◌<$>◌, pure, refuse, test, here, upto, skip, skip_by, eat, expect, take_as, inside, items_from, until_from, joined_from, by_turns}
+use Rattle.grammar_core.specs.Input.{Parser, ◌>>=◌, ◌>>◌, ◌<$>◌, pure, refuse, test, here, upto, skip, skip_by, eat, expect, take_as, inside, items_after, until, joined_by}
 use Rattle.grammar_core.specs.Readers.{Readers, any_level, constant_level}
 use Rattle.grammar_core.specs.Make as make
 
--- a list between `(` and `)`, with a comma between two items and at most one at its end
+-- all of a list, with a comma between two items and at most one at its end
 abbrev pub list : {A : Type 0} → Parser A → Parser (List A)
-list item = by_turns (λ turns. items_from is_comma item turns [])
+list item = items_after item []
 
--- what is left of a list between `<` and `>`
+-- what is left of a list between `<` and `>` (62)
 abbrev pub angle_list : {A : Type 0} → Parser A → Parser (List A)
-angle_list item = by_turns (λ turns. until_from is_comma is_greater item turns [])
+angle_list item = until 62 item
 
 -- `for<'a, 'b>`, or nothing
 unfoldable pub binder : Parser (List Lifetime)
@@ -109,7 +109,7 @@ module _ (readers : Readers) where
 
   -- segments joined by `::`
   unfoldable pub segments : Bool → Parser (List PathSegment)
-  segments in_type = by_turns (λ turns. joined_from 2 is_colons (segment in_type) turns [])
+  segments in_type = joined_by (eat 2 is_colons) (segment in_type)
 
   unfoldable pub path : Bool → Parser Path
   path in_type = do
@@ -172,5 +172,5 @@ module _ (readers : Readers) where
   -- bounds joined by `+`; or one alone
   unfoldable pub bounds : Bool → Parser (List TypeParamBound)
   bounds many =
-    if many then by_turns (λ turns. joined_from 1 is_plus one_bound turns [])
+    if many then joined_by (eat 1 is_plus) one_bound
       else (λ found. found ∷ []) <$> one_bound

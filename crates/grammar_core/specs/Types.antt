@@ -14,7 +14,7 @@ use Rattle.grammar_core.specs.declared.word.Word.TheVariants as word
 use Rattle.grammar_core.specs.Token.{after_one, is_colon, is_comma, is_semicolon, lifetime_of}
 use Rattle.grammar_core.specs.Words.{name_of, sees}
 use Rattle.grammar_core.specs.Look.{type_start}
-use Rattle.grammar_core.specs.Input.{Parser, ◌>>=◌, ◌>>◌, ◌<$>◌, pure, refuse, test, here, upto, skip, eat, expect, eat_as, at_end, inside, items_from, by_turns}
+use Rattle.grammar_core.specs.Input.{Parser, ◌>>=◌, ◌>>◌, ◌<$>◌, pure, refuse, test, here, upto, skip, eat, expect, eat_as, at_end, inside, items_after}
 use Rattle.grammar_core.specs.Readers.{Readers, any_level}
 use Rattle.grammar_core.specs.Paths.{list, binder, return_type, path, qualified, bounds}
 use Rattle.grammar_core.specs.Make as make
@@ -36,7 +36,7 @@ module _ (readers : Readers) where
     if done then pure (make.type_tuple [] span) else (do
       first ← readers.ty true
       more ← eat 1 is_comma
-      if more then (λ elems. make.type_tuple elems span) <$> by_turns (λ turns. items_from is_comma (readers.ty true) turns (first ∷ []))
+      if more then (λ elems. make.type_tuple elems span) <$> items_after (readers.ty true) (first ∷ [])
         else pure (make.type_paren first span))
 
   -- what stands in `[..]`
