@@ -8,11 +8,13 @@ ghost use Rattle.grammar_core.specs.Look as look;
 ghost use Rattle.grammar_core.specs.Steps.{Expects, Takes, Finishes};
 
 use crate::fail::ReadFail;
-use crate::token::*;
+use crate::token::{
+    contents_of, is_arrow, is_colon, is_colons, is_mark, lifetime_of, literal_of, span_of,
+};
 use crate::word::{Word, name_of, sees, segment_word};
 use std::alloc::Global;
 use std::marker::Model;
-use token_core::{Delimiter, Ident, Lifetime, Literal, Span, TokenTree, TryClone};
+use token_core::{Ident, Lifetime, Literal, Span, TokenTree, TryClone};
 
 /// The tokens that are left of a list, and where the last one that was read stands.
 #[derive(Drop)]
@@ -125,52 +127,19 @@ impl<'a> Cursor<'a> {
         }
     }
 
-    /// Takes `,`, if it comes next.
-    pub fn eat_comma(&mut self) -> bool
-        ensures found { result ≡ token.is_comma self.old.rest }
-        ensures after { self.new ≡ spec.after_eat 1 (token.is_comma self.old.rest) self.old }
+    /// Takes this mark, if it comes next.
+    pub fn eat_mark(&mut self, ch: char) -> bool
+        ensures found { result ≡ token.is_mark ch self.old.rest }
+        ensures after { self.new ≡ spec.after_eat 1 (token.is_mark ch self.old.rest) self.old }
     {
-        self.eat(is_comma(self.rest), 1)
+        self.eat(is_mark(ch, self.rest), 1)
     }
 
-    /// Takes `;`, if it comes next.
-    pub fn eat_semicolon(&mut self) -> bool
-        ensures found { result ≡ token.is_semicolon self.old.rest }
-        ensures after { self.new ≡ spec.after_eat 1 (token.is_semicolon self.old.rest) self.old }
+    /// Takes this mark, which must come next.
+    pub fn expect_mark(&mut self, ch: char) -> Result<(), ReadFail>
+        ensures { Expects 1 (token.is_mark ch self.old.rest) self.old result self.new }
     {
-        self.eat(is_semicolon(self.rest), 1)
-    }
-
-    /// Takes `>`, if it comes next.
-    pub fn eat_greater(&mut self) -> bool
-        ensures found { result ≡ token.is_greater self.old.rest }
-        ensures after { self.new ≡ spec.after_eat 1 (token.is_greater self.old.rest) self.old }
-    {
-        self.eat(is_greater(self.rest), 1)
-    }
-
-    /// Takes `+`, if it comes next.
-    pub fn eat_plus(&mut self) -> bool
-        ensures found { result ≡ token.is_plus self.old.rest }
-        ensures after { self.new ≡ spec.after_eat 1 (token.is_plus self.old.rest) self.old }
-    {
-        self.eat(is_plus(self.rest), 1)
-    }
-
-    /// Takes `?`, if it comes next.
-    pub fn eat_question(&mut self) -> bool
-        ensures found { result ≡ token.is_question self.old.rest }
-        ensures after { self.new ≡ spec.after_eat 1 (token.is_question self.old.rest) self.old }
-    {
-        self.eat(is_question(self.rest), 1)
-    }
-
-    /// Takes `&`, if it comes next.
-    pub fn eat_and(&mut self) -> bool
-        ensures found { result ≡ token.is_and self.old.rest }
-        ensures after { self.new ≡ spec.after_eat 1 (token.is_and self.old.rest) self.old }
-    {
-        self.eat(is_and(self.rest), 1)
+        self.expect(is_mark(ch, self.rest), 1)
     }
 
     /// Takes `:`, if it comes next.
@@ -179,14 +148,6 @@ impl<'a> Cursor<'a> {
         ensures after { self.new ≡ spec.after_eat 1 (token.is_colon self.old.rest) self.old }
     {
         self.eat(is_colon(self.rest), 1)
-    }
-
-    /// Takes `|`, if it comes next.
-    pub fn eat_bar(&mut self) -> bool
-        ensures found { result ≡ token.is_bar self.old.rest }
-        ensures after { self.new ≡ spec.after_eat 1 (token.is_bar self.old.rest) self.old }
-    {
-        self.eat(is_bar(self.rest), 1)
     }
 
     /// Takes `::`, if it comes next.
@@ -203,27 +164,6 @@ impl<'a> Cursor<'a> {
         ensures after { self.new ≡ spec.after_eat 2 (token.is_arrow self.old.rest) self.old }
     {
         self.eat(is_arrow(self.rest), 2)
-    }
-
-    /// Takes `<`, which must come next.
-    pub fn expect_less(&mut self) -> Result<(), ReadFail>
-        ensures { Expects 1 (token.is_less self.old.rest) self.old result self.new }
-    {
-        self.expect(is_less(self.rest), 1)
-    }
-
-    /// Takes `>`, which must come next.
-    pub fn expect_greater(&mut self) -> Result<(), ReadFail>
-        ensures { Expects 1 (token.is_greater self.old.rest) self.old result self.new }
-    {
-        self.expect(is_greater(self.rest), 1)
-    }
-
-    /// Takes `|`, which must come next.
-    pub fn expect_bar(&mut self) -> Result<(), ReadFail>
-        ensures { Expects 1 (token.is_bar self.old.rest) self.old result self.new }
-    {
-        self.expect(is_bar(self.rest), 1)
     }
 
     /// Takes `::`, which must come next.
