@@ -8,7 +8,7 @@ use Rattle.token_core.specs.declared.tree.TokenTree.{TokenTree}
 use Rattle.node_core.specs.declared.expr.Expr.{Expr}
 use Rattle.node_core.specs.declared.expr.Expr.TheVariants as expr
 use Rattle.node_core.specs.declared.expr.Member.{Member}
-use Rattle.node_core.specs.declared.expr.Member.TheVariants as member
+use Rattle.node_core.specs.declared.expr.Member.TheVariants as made
 use Rattle.node_core.specs.declared.expr.UnOp.{UnOp}
 use Rattle.node_core.specs.declared.expr.UnOp.TheVariants as op
 use Rattle.node_core.specs.declared.lit.Lit.TheVariants as lit
@@ -23,7 +23,7 @@ use Rattle.grammar_core.specs.declared.word.Word.{Word}
 use Rattle.grammar_core.specs.declared.word.Word.TheVariants as word
 use Rattle.grammar_core.specs.Token.{is_arrow, is_bar, is_closed_dots, is_colon, is_comma, is_dots, is_group, is_semicolon, is_turbofish, literal_of}
 use Rattle.grammar_core.specs.Words.{name_of, next_word, sees}
-use Rattle.grammar_core.specs.Look.{atom_start, operand_start, postfix_start, begins_closure, begins_operand, operator_of, at_level}
+use Rattle.grammar_core.specs.Look.{is_there, atom_start, operand_start, postfix_start, begins_closure, begins_operand, operator_of, at_level}
 use Rattle.grammar_core.specs.Input.{Input, Parser, ◌>>=◌, ◌>>◌, ◌<$>◌, pure, refuse, test, here, upto, state, read_since, skip, skip_by, eat, expect, take_as, at_end, inside, items_after, until, by_turns}
 use Rattle.grammar_core.specs.Readers.{Readers, operand_level, or_level, range_level, any_level, constant_level}
 use Rattle.grammar_core.specs.Paths.{list, angle_list, generic_argument, path, qualified}
@@ -31,16 +31,44 @@ use Rattle.grammar_core.specs.Patterns.{pattern, max_pattern}
 use Rattle.grammar_core.specs.Literals.{lit_of, index_of}
 use Rattle.grammar_core.specs.Make as make
 
+abbrev pub lit_bool : Word → Span → Expr
+lit_bool word.True span = expr.Lit (lit.Bool (record { value = true; span = span }))
+lit_bool _ span = expr.Lit (lit.Bool (record { value = false; span = span }))
+
+-- `true` or `false`
+unfoldable pub expr_bool : Parser Expr
+expr_bool = do
+  span ← here
+  value ← test next_word
+  skip >> pure (lit_bool value span)
+
+unfoldable pub literal : Parser Expr
+literal = (λ token. expr.Lit (lit_of token)) <$> take_as literal_of
+
 module _ (readers : Readers) where
 
   -- ---- closures
+
+  -- a type that is kept as tokens alone
+  unfoldable pub pass_type : Bool → Parser (Unit {0})
+  pass_type many = (λ ty. tt) <$> readers.ty many
 
   -- a pattern, and its type where it is told
   unfoldable pub closure_param : Parser (Unit {0})
   closure_param = do
     found ← pattern max_pattern
     typed ← eat 1 is_colon
-    if typed then (λ ty. tt) <$> readers.ty true else pure tt
+    if typed then pass_type true else pure tt
+
+  -- parameters to the second `|` (124)
+  abbrev pub closure_params : Parser (Unit {0})
+  closure_params = (λ params. tt) <$> until 124 closure_param
+
+  -- the level of the body, behind its type where it is told: a block then
+  unfoldable pub closure_body : Parser ℕ
+  closure_body = do
+    typed ← eat 2 is_arrow
+    if typed then pass_type false >> expect 0 (is_group delimiter.Brace) >> pure constant_level else pure any_level
 
   -- `move |a, b: u8| body`, or with a type `|a| -> u8 { body }`
   unfoldable pub closure : Parser Expr
@@ -49,11 +77,10 @@ module _ (readers : Readers) where
     start ← here
     moved ← eat 1 (sees word.Move)
     opened ← expect 1 is_bar
-    params ← until 124 closure_param
-    typed ← eat 2 is_arrow
-    body_level ← if typed then (readers.ty false >> expect 0 (is_group delimiter.Brace) >> pure constant_level) else pure any_level
-    kept ← read_since before
-    body ← readers.expr body_level
+    params ← closure_params
+    level ← closure_body
+    kept ← read_since before.rest
+    body ← readers.expr level
     span ← upto start
     pure (make.expr_closure kept body span)
 
@@ -69,17 +96,20 @@ module _ (readers : Readers) where
       if more then (λ elems. expr.Tuple elems span) <$> items_after (readers.expr any_level) (first ∷ [])
         else pure (expr.Paren first span))
 
-  -- what stands in `[..]`: elements, or one and how often it is repeated
+  -- what stands in `[..]` behind the first expression: others, or how often it is repeated
+  unfoldable pub expr_elements : Span → Expr → Parser Expr
+  expr_elements span first = do
+    repeated ← eat 1 is_semicolon
+    if repeated then (λ len. expr.Repeat first len span) <$> readers.expr any_level else (do
+      more ← eat 1 is_comma
+      if more then (λ elems. make.expr_array elems span) <$> items_after (readers.expr any_level) (first ∷ [])
+        else pure (make.expr_array (first ∷ []) span))
+
+  -- what stands in `[..]`
   unfoldable pub expr_bracket : Span → Parser Expr
   expr_bracket span = do
     done ← at_end
-    if done then pure (make.expr_array [] span) else (do
-      first ← readers.expr any_level
-      repeated ← eat 1 is_semicolon
-      if repeated then (λ len. expr.Repeat first len span) <$> readers.expr any_level else (do
-        more ← eat 1 is_comma
-        if more then (λ elems. make.expr_array elems span) <$> items_after (readers.expr any_level) (first ∷ [])
-          else pure (make.expr_array (first ∷ []) span)))
+    if done then pure (make.expr_array [] span) else readers.expr any_level >>= expr_elements span
 
   -- what stands in `{..}`: expressions with `;` behind, and a last one without
   unfoldable pub statements_from : Span → ℕ → List Expr → Parser Expr
@@ -93,22 +123,17 @@ module _ (readers : Readers) where
       more ← eat 1 is_semicolon
       if more then statements_from span turns (found ++ statement ∷ []) else pure (expr.Block found (Some statement) span))
 
+  abbrev pub statements : Span → Parser Expr
+  statements span = by_turns (λ turns. statements_from span turns [])
+
   unfoldable pub block : Parser Expr
-  block = here >>= (λ span. inside delimiter.Brace (by_turns (λ turns. statements_from span turns [])))
+  block = here >>= (λ span. inside delimiter.Brace (statements span))
 
-  abbrev pub lit_bool : Word → Span → Expr
-  lit_bool word.True span = expr.Lit (lit.Bool (record { value = true; span = span }))
-  lit_bool _ span = expr.Lit (lit.Bool (record { value = false; span = span }))
+  unfoldable pub expr_in_parentheses : Parser Expr
+  expr_in_parentheses = here >>= (λ span. inside delimiter.Parenthesis (expr_group span))
 
-  -- `true` or `false`
-  unfoldable pub expr_bool : Parser Expr
-  expr_bool = do
-    span ← here
-    value ← test next_word
-    skip >> pure (lit_bool value span)
-
-  unfoldable pub literal : Parser Expr
-  literal = (λ token. expr.Lit (lit_of token)) <$> take_as literal_of
+  unfoldable pub expr_in_brackets : Parser Expr
+  expr_in_brackets = here >>= (λ span. inside delimiter.Bracket (expr_bracket span))
 
   unfoldable pub expr_path : Parser Expr
   expr_path = do
@@ -133,8 +158,8 @@ module _ (readers : Readers) where
   atom_by atom.Bool = expr_bool
   atom_by atom.Path = expr_path
   atom_by atom.Qualified = expr_qualified
-  atom_by atom.Parenthesis = here >>= (λ span. inside delimiter.Parenthesis (expr_group span))
-  atom_by atom.Bracket = here >>= (λ span. inside delimiter.Bracket (expr_bracket span))
+  atom_by atom.Parenthesis = expr_in_parentheses
+  atom_by atom.Bracket = expr_in_brackets
   atom_by atom.Brace = block
   atom_by atom.Invisible = invisible
   atom_by atom.Infer = here >>= (λ span. skip >> pure (expr.Infer span))
@@ -181,40 +206,60 @@ module _ (readers : Readers) where
     turbofish ← test is_turbofish
     called ← test (is_group delimiter.Parenthesis)
     if turbofish then turbofish_call start base name
-      else (if called then method_call start base name else field start base (member.Named name))
+      else (if called then method_call start base name else field start base (made.Named name))
 
-  abbrev pub after_dot : Span → Expr → Option Ident → Parser Expr
-  after_dot start base (Some name) = skip >> named_member start base name
-  after_dot start base None = take_as index_of >>= (λ index. field start base (member.Unnamed index))
+  abbrev pub member_by : Span → Expr → Bool → Parser Expr
+  member_by start base true = take_as name_of >>= named_member start base
+  member_by start base false = take_as index_of >>= (λ index. field start base (made.Unnamed index))
+
+  -- what stands behind a `.`
+  unfoldable pub member : Span → Expr → Parser Expr
+  member start base = test (λ trees. is_there (name_of trees)) >>= member_by start base
+
+  unfoldable pub call : Span → Expr → Parser Expr
+  call start func = do
+    given ← args
+    span ← upto start
+    pure (expr.Call func given span)
+
+  unfoldable pub index : Span → Expr → Parser Expr
+  index start base = do
+    at ← inside delimiter.Bracket (readers.expr any_level)
+    span ← upto start
+    pure (expr.Index base at span)
+
+  unfoldable pub question : Span → Expr → Parser Expr
+  question start base = do
+    mark ← skip
+    span ← upto start
+    pure (expr.Try base span)
 
   abbrev pub postfix_by : Span → Expr → PostfixStart → Parser Expr
-  postfix_by start left postfix.Call = args >>= (λ given. upto start >>= (λ span. pure (expr.Call left given span)))
-  postfix_by start left postfix.Dot = skip >> (test name_of >>= after_dot start left)
-  postfix_by start left postfix.Index = inside delimiter.Bracket (readers.expr any_level) >>= (λ index. upto start >>= (λ span. pure (expr.Index left index span)))
-  postfix_by start left postfix.Try = skip >> (upto start >>= (λ span. pure (expr.Try left span)))
+  postfix_by start left postfix.Call = call start left
+  postfix_by start left postfix.Dot = skip >> member start left
+  postfix_by start left postfix.Index = index start left
+  postfix_by start left postfix.Try = question start left
   postfix_by start left postfix.Nothing = refuse
 
-  unfoldable pub postfix_step : Span → Expr → Parser Expr
-  postfix_step start left = test postfix_start >>= postfix_by start left
-
-  abbrev pub goes_on : PostfixStart → Bool
-  goes_on postfix.Nothing = false
-  goes_on _ = true
+  abbrev pub postfixes_by : (Expr → Parser Expr) → Span → Expr → PostfixStart → Parser Expr
+  postfixes_by more start left postfix.Nothing = pure left
+  postfixes_by more start left begins = postfix_by start left begins >>= more
 
   unfoldable pub postfixes_from : Span → ℕ → Expr → Parser Expr
   postfixes_from start zero left = do
     done ← at_end
     if done then pure left else refuse
-  postfixes_from start (suc turns) left = do
-    more ← test (λ trees. goes_on (postfix_start trees))
-    if more then (do longer ← postfix_step start left; postfixes_from start turns longer) else pure left
+  postfixes_from start (suc turns) left = test postfix_start >>= postfixes_by (postfixes_from start turns) start left
+
+  abbrev pub postfixes : Span → Expr → Parser Expr
+  postfixes start left = by_turns (λ turns. postfixes_from start turns left)
 
   -- an atom and what stands behind it
   unfoldable pub postfixed : AtomStart → Parser Expr
   postfixed begins = do
     start ← here
     left ← atom_by begins
-    by_turns (λ turns. postfixes_from start turns left)
+    postfixes start left
 
   -- ---- operators
 
@@ -269,9 +314,12 @@ module _ (readers : Readers) where
   unfoldable pub compared : Span → ℕ → Expr → Parser Expr
   compared start below left = test operator_of >>= (λ found. chain_by pure start below left (at_level (suc below) found))
 
+  abbrev pub chain_all : Span → ℕ → Expr → Parser Expr
+  chain_all start below left = by_turns (λ turns. chain_from start below turns left)
+
   -- comparisons are the seventh level
   unfoldable pub chain : Span → ℕ → Expr → Parser Expr
-  chain start below left = if below == 6 then compared start below left else by_turns (λ turns. chain_from start below turns left)
+  chain start below left = if below == 6 then compared start below left else chain_all start below left
 
   -- operators of this level and tighter ones
   unfoldable pub binary_from : Span → ℕ → Parser Expr

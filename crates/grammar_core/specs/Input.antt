@@ -126,9 +126,9 @@ finished after None = None
 abbrev pub inside : {A : Type 0} → Delimiter → Parser A → Parser A
 inside delimiter parser = λ input. if is_group delimiter input.rest then finished (next input) (parser (start_of (contents_of input.rest))) else None
 
--- what was read since
-abbrev pub read_since : Input → Parser (List TokenTree)
-read_since before = λ input. Some (take (length before.rest - length input.rest) before.rest, input)
+-- what was read of these tokens
+abbrev pub read_since : List TokenTree → Parser (List TokenTree)
+read_since before = λ input. Some (take (length before - length input.rest) before, input)
 
 abbrev pub state : Parser Input
 state = λ input. Some (input, input)

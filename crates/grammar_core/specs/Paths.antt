@@ -10,7 +10,7 @@ use Rattle.node_core.specs.declared.path.GenericArgument.{GenericArgument}
 use Rattle.node_core.specs.declared.path.GenericArgument.TheVariants as generic
 use Rattle.node_core.specs.declared.path.Path.{Path}
 use Rattle.node_core.specs.declared.path.PathArguments.{PathArguments}
-use Rattle.node_core.specs.declared.path.PathArguments.TheVariants as arguments
+use Rattle.node_core.specs.declared.path.PathArguments.TheVariants as made
 use Rattle.node_core.specs.declared.path.PathSegment.{PathSegment}
 use Rattle.node_core.specs.declared.path.QSelf.{QSelf}
 use Rattle.node_core.specs.declared.ty.«Type».{«Type» as Ty}
@@ -59,53 +59,67 @@ module _ (readers : Readers) where
     inputs ← inside delimiter.Parenthesis (list (readers.ty true))
     output ← return_type
     span ← upto start
-    pure (arguments.Parenthesized inputs output span)
+    pure (made.Parenthesized inputs output span)
 
-  -- one of the arguments in `<..>`
-  abbrev pub argument_by : ArgumentStart → Parser GenericArgument
-  argument_by argument.Lifetime = generic.Lifetime <$> take_as lifetime_of
-  argument_by argument.Constant = generic.Const <$> readers.expr constant_level
-  argument_by argument.AssocConst = do
+  -- `N = 8`
+  unfoldable pub assoc_const : Parser GenericArgument
+  assoc_const = do
     start ← here
     ident ← take_as name_of
     equals ← skip
     value ← readers.expr constant_level
     span ← upto start
     pure (generic.AssocConst ident value span)
-  argument_by argument.AssocType = do
+
+  -- `Item = u8`
+  unfoldable pub assoc_type : Parser GenericArgument
+  assoc_type = do
     start ← here
     ident ← take_as name_of
     equals ← skip
     ty ← readers.ty true
     span ← upto start
     pure (generic.AssocType ident ty span)
-  argument_by argument.Constraint = do
+
+  -- `I: Copy`
+  unfoldable pub constraint : Parser GenericArgument
+  constraint = do
     start ← here
     ident ← take_as name_of
     colon ← skip
     bounds ← readers.bounds
     span ← upto start
     pure (generic.Constraint ident bounds span)
+
+  abbrev pub argument_by : ArgumentStart → Parser GenericArgument
+  argument_by argument.Lifetime = generic.Lifetime <$> take_as lifetime_of
+  argument_by argument.Constant = generic.Const <$> readers.expr constant_level
+  argument_by argument.AssocConst = assoc_const
+  argument_by argument.AssocType = assoc_type
+  argument_by argument.Constraint = constraint
   argument_by argument.Type = generic.Ty <$> readers.ty true
 
+  -- one of the arguments in `<..>`
   unfoldable pub generic_argument : Parser GenericArgument
   generic_argument = test argument_start >>= argument_by
 
-  -- what follows the word of a segment: `::<A>`, and in a type also `<A>` or `(A) -> B`
   abbrev pub arguments_by : ArgumentsStart → Parser PathArguments
-  arguments_by begin.Turbofish = skip_by 3 >> (arguments.AngleBracketed <$> angle_list generic_argument)
-  arguments_by begin.Less = skip >> (arguments.AngleBracketed <$> angle_list generic_argument)
+  arguments_by begin.Turbofish = skip_by 3 >> (made.AngleBracketed <$> angle_list generic_argument)
+  arguments_by begin.Less = skip >> (made.AngleBracketed <$> angle_list generic_argument)
   arguments_by begin.Parenthesis = parenthesized
-  arguments_by begin.Nothing = pure arguments.None
+  arguments_by begin.Nothing = pure made.None
+
+  -- what follows the word of a segment: `::<A>`, and in a type also `<A>` or `(A) -> B`
+  unfoldable pub arguments : Bool → Parser PathArguments
+  arguments in_type = test (arguments_start in_type) >>= arguments_by
 
   unfoldable pub segment : Bool → Parser PathSegment
   segment in_type = do
     start ← here
     ident ← take_as segment_word
-    begins ← test (arguments_start in_type)
-    arguments ← arguments_by begins
+    found ← arguments in_type
     span ← upto start
-    pure (make.segment ident arguments span)
+    pure (make.segment ident found span)
 
   -- segments joined by `::`
   unfoldable pub segments : Bool → Parser (List PathSegment)
@@ -169,8 +183,11 @@ module _ (readers : Readers) where
     lifetime ← test (λ trees. is_there (lifetime_of trees))
     if lifetime then bound.Lifetime <$> take_as lifetime_of else trait_bound
 
+  unfoldable pub joined_bounds : Parser (List TypeParamBound)
+  joined_bounds = joined_by (eat 1 is_plus) one_bound
+
   -- bounds joined by `+`; or one alone
   unfoldable pub bounds : Bool → Parser (List TypeParamBound)
   bounds many =
-    if many then joined_by (eat 1 is_plus) one_bound
+    if many then joined_bounds
       else (λ found. found ∷ []) <$> one_bound

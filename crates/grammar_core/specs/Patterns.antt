@@ -36,10 +36,17 @@ pattern_word = do
     name ← take_as name_of
     pure tt)
 
+abbrev pub patterns_by : Parser (Unit {0}) → Parser (Unit {0})
+patterns_by item = (λ found. tt) <$> list item
+
 -- a pattern with at most so many parentheses in each other
 unfoldable pub pattern : ℕ → Parser (Unit {0})
 pattern zero = skip_ands >> pattern_word
 pattern (suc below) = do
   marks ← skip_ands
   grouped ← test (is_group delimiter.Parenthesis)
-  if grouped then (λ found. tt) <$> inside delimiter.Parenthesis (list (pattern below)) else pattern_word
+  if grouped then inside delimiter.Parenthesis (patterns_by (pattern below)) else pattern_word
+
+-- a list of patterns with at most so many parentheses in each other
+abbrev pub patterns : ℕ → Parser (Unit {0})
+patterns limit = patterns_by (pattern limit)

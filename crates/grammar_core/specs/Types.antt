@@ -14,7 +14,7 @@ use Rattle.grammar_core.specs.declared.word.Word.TheVariants as word
 use Rattle.grammar_core.specs.Token.{after_one, is_colon, is_comma, is_semicolon, lifetime_of}
 use Rattle.grammar_core.specs.Words.{name_of, sees}
 use Rattle.grammar_core.specs.Look.{type_start}
-use Rattle.grammar_core.specs.Input.{Parser, ◌>>=◌, ◌>>◌, ◌<$>◌, pure, refuse, test, here, upto, skip, eat, expect, eat_as, at_end, inside, items_after}
+use Rattle.grammar_core.specs.Input.{Parser, ◌>>=◌, ◌>>◌, ◌<$>◌, pure, refuse, test, here, upto, skip, skip_by, eat, expect, eat_as, at_end, inside, items_after}
 use Rattle.grammar_core.specs.Readers.{Readers, any_level}
 use Rattle.grammar_core.specs.Paths.{list, binder, return_type, path, qualified, bounds}
 use Rattle.grammar_core.specs.Make as make
@@ -23,9 +23,13 @@ use Rattle.grammar_core.specs.Make as make
 unfoldable pub name_before_colon : List TokenTree → Option Ident
 name_before_colon trees = if is_colon (after_one trees) then name_of trees else None
 
-abbrev pub skip_colon : Option Ident → Parser (Unit {0})
-skip_colon (Some name) = skip
-skip_colon None = pure tt
+abbrev pub arg_name_by : Option Ident → Parser (Option Ident)
+arg_name_by (Some name) = skip_by 2 >> pure (Some name)
+arg_name_by None = pure None
+
+-- `name:`, or nothing
+abbrev pub arg_name : Parser (Option Ident)
+arg_name = test name_before_colon >>= arg_name_by
 
 module _ (readers : Readers) where
 
@@ -72,8 +76,7 @@ module _ (readers : Readers) where
   unfoldable pub named_arg : Parser (NamedArg Ty)
   named_arg = do
     start ← here
-    name ← eat_as name_before_colon
-    colon ← skip_colon name
+    name ← arg_name
     ty ← readers.ty true
     span ← upto start
     pure (make.named_arg name ty span)
@@ -121,9 +124,15 @@ module _ (readers : Readers) where
     span ← upto start
     pure (make.type_path None found span)
 
+  unfoldable pub type_in_parentheses : Parser Ty
+  type_in_parentheses = here >>= (λ span. inside delimiter.Parenthesis (type_group span))
+
+  unfoldable pub type_in_brackets : Parser Ty
+  type_in_brackets = here >>= (λ span. inside delimiter.Bracket (type_bracket span))
+
   abbrev pub type_by : Bool → TypeStart → Parser Ty
-  type_by many begin.Parenthesis = here >>= (λ span. inside delimiter.Parenthesis (type_group span))
-  type_by many begin.Bracket = here >>= (λ span. inside delimiter.Bracket (type_bracket span))
+  type_by many begin.Parenthesis = type_in_parentheses
+  type_by many begin.Bracket = type_in_brackets
   type_by many begin.Never = here >>= (λ span. skip >> pure (make.type_never span))
   type_by many begin.Infer = here >>= (λ span. skip >> pure (make.type_infer span))
   type_by many begin.Reference = type_reference

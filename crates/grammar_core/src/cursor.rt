@@ -1,18 +1,21 @@
 //! The tokens that are left, and what a rule asks of them and takes from them.
 
-ghost use Rattle.std.specs.Prelude.{◌≡◌, length, Some};
+ghost use Rattle.std.specs.Prelude.{◌≡◌, ◌-◌, length, take, option_map, Some, IfOk};
 ghost use Rattle.grammar_core.specs.Input as spec;
 ghost use Rattle.grammar_core.specs.Token as token;
 ghost use Rattle.grammar_core.specs.Words as words;
-ghost use Rattle.grammar_core.specs.Look as look;
+ghost use Rattle.grammar_core.specs.Literals as literals;
 ghost use Rattle.grammar_core.specs.Steps.{Expects, Takes, Finishes};
 
 use crate::fail::ReadFail;
+use crate::literal::index_of;
 use crate::token::{
     contents_of, is_arrow, is_colon, is_colons, is_mark, lifetime_of, literal_of, span_of,
 };
 use crate::word::{Word, name_of, sees, segment_word};
 use std::alloc::Global;
+use base_core::{Items, Mem};
+use node_core::LitInt;
 use std::marker::Model;
 use token_core::{Ident, Lifetime, Literal, Span, TokenTree, TryClone};
 
@@ -250,5 +253,37 @@ impl<'a> Cursor<'a> {
         } else {
             Err(ReadFail::Syntax)
         }
+    }
+
+    /// Takes an identifier and keeps nothing of it.
+    pub fn expect_name(&mut self) -> Result<(), ReadFail>
+        ensures { Takes (option_map (λ name. tt) (words.name_of self.old.rest)) self.old result self.new }
+    {
+        if name_of(self.rest).is_none() {
+            return Err(ReadFail::Syntax);
+        }
+        self.skip();
+        Ok(())
+    }
+
+    /// Takes the index of a field: a decimal integer without a suffix.
+    pub fn take_index(&mut self, alloc: Global) -> Result<LitInt, ReadFail>
+        ensures { Takes (literals.index_of self.old.rest) self.old result self.new }
+    {
+        let Some(index) = index_of(alloc, self.rest)? else {
+            return Err(ReadFail::Syntax);
+        };
+        self.skip();
+        Ok(index)
+    }
+
+    /// What was read of the tokens `before`.
+    pub fn read_since(&self, alloc: Global, before: &[TokenTree]) -> Mem<Items<TokenTree>>
+        ensures { IfOk result (λ kept. kept ≡ take (length before.now - length self.now.rest) before.now) }
+    {
+        let count = before.len().saturating_sub(self.rest.len());
+        let mut kept = Items::new(alloc);
+        kept.extend_from_slice(alloc, &before[..count])?;
+        Ok(kept)
     }
 }

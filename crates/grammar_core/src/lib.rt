@@ -3,12 +3,14 @@
 
 mod cursor;
 mod fail;
+mod literal;
 mod look;
 mod token;
 mod word;
 
 pub use cursor::Cursor;
 pub use fail::ReadFail;
+pub use literal::lit_of;
 pub use look::{
     ArgumentStart, ArgumentsStart, AtomStart, Infix, OperandStart, PostfixStart, TypeStart,
     argument_start, arguments_start, atom_start, begins_closure, begins_constant, begins_operand,
