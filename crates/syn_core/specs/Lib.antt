@@ -1,0 +1,3 @@
+pub mod Nests
+pub mod Lists
+pub mod Parts
