@@ -25,8 +25,6 @@ mod path;
 mod path_ident;
 mod path_text;
 mod punctuated;
-#[cfg(test)]
-mod tests;
 mod ty;
 
 pub use attr::{Attribute, Meta, MetaList, MetaNameValue};

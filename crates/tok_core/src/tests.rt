@@ -138,6 +138,7 @@ const REFUSED: [(&str, u32); 40] = [
     ("é(}", 3),
 ];
 
+#[cycle(shown)]
 fn push_token(text: &mut String, tree: &TokenTree) -> Mem<()> {
     match tree {
         TokenTree::Ident(it) => {
@@ -168,6 +169,7 @@ fn push_token(text: &mut String, tree: &TokenTree) -> Mem<()> {
     }
 }
 
+#[cycle(shown)]
 fn push_tokens(text: &mut String, trees: &[TokenTree]) -> Mem<()> {
     for tree in trees {
         push_token(text, tree)?;
