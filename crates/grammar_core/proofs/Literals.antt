@@ -1,5 +1,6 @@
 -- A text has the value of the literal that it is.
 use Rattle.std.proofs.Common.{◌≡◌, Bool, true, false, if◌then◌else◌, [], length, Option, Some, None, refl, sym, ap, ◌∙◌}
+use Rattle.std.specs.Prelude.{Result, Ok, Err, IfOk, IfSome, IfNone}
 use Rattle.std.proofs.lemmas.Bool.{and_from, and_parts, eqb-true, eq-eqb}
 use Rattle.scan_core.specs.Characters.{Characters}
 use Rattle.scan_core.specs.Pieces.{IsPiece}
@@ -48,3 +49,10 @@ by_whole text false e none = refl
 pub value_of-none : (text : Characters) → ((v : Value) → IsValue text v → ⊥) → value_of text ≡ None
 unfolding value_of
 value_of-none text none = by_whole text (is_whole text (piece text)) refl none
+
+-- an answer that is the value of the literal, or none exactly where there is no literal
+pub IfOk-value_of : {E : Type 0} (text : Characters) (answer : Result (Option Value) E) → IfOk answer (λ it. IfSome it (IsValue text))
+    → IfOk answer (λ it. IfNone it ((v : Value) → IsValue text v → ⊥)) → IfOk answer (λ it. it ≡ value_of text)
+IfOk-value_of text (Ok (Some v)) some none = sym (value_of-valued text v some)
+IfOk-value_of text (Ok None) some none = sym (value_of-none text none)
+IfOk-value_of text (Err e) some none = tt
