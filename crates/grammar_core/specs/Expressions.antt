@@ -1,10 +1,8 @@
 -- Expressions.
-use Rattle.std.specs.Prelude.{ℕ, zero, suc, Bool, true, false, ◌&&◌, ◌==◌, if◌then◌else◌, List, [], ◌∷◌, ◌++◌, length, Option, Some, None}
+use Rattle.std.specs.Prelude.{ℕ, zero, suc, Bool, true, false, ◌==◌, if◌then◌else◌, List, [], ◌∷◌, ◌++◌, Option, Some, None}
 use Rattle.token_core.specs.declared.ident.Ident.{Ident}
 use Rattle.token_core.specs.declared.span.Span.{Span}
 use Rattle.token_core.specs.declared.tree.Delimiter.TheVariants as delimiter
-use Rattle.token_core.specs.declared.tree.Literal.{Literal}
-use Rattle.token_core.specs.declared.tree.TokenTree.{TokenTree}
 use Rattle.node_core.specs.declared.expr.Expr.{Expr}
 use Rattle.node_core.specs.declared.expr.Expr.TheVariants as expr
 use Rattle.node_core.specs.declared.expr.Member.{Member}
@@ -24,7 +22,7 @@ use Rattle.grammar_core.specs.declared.word.Word.TheVariants as word
 use Rattle.grammar_core.specs.Token.{is_arrow, is_bar, is_closed_dots, is_colon, is_comma, is_dots, is_group, is_semicolon, is_turbofish, literal_of}
 use Rattle.grammar_core.specs.Words.{name_of, next_word, sees}
 use Rattle.grammar_core.specs.Look.{is_there, atom_start, operand_start, postfix_start, begins_closure, begins_operand, operator_of, at_level}
-use Rattle.grammar_core.specs.Input.{Input, Parser, ◌>>=◌, ◌>>◌, ◌<$>◌, pure, refuse, test, here, upto, state, read_since, skip, skip_by, eat, expect, take_as, at_end, inside, items_after, until, by_turns}
+use Rattle.grammar_core.specs.Input.{Parser, ◌>>=◌, ◌>>◌, ◌<$>◌, pure, refuse, test, here, upto, state, read_since, skip, skip_by, eat, expect, take_as, at_end, inside, items_after, until, by_turns}
 use Rattle.grammar_core.specs.Readers.{Readers, operand_level, or_level, range_level, any_level, constant_level}
 use Rattle.grammar_core.specs.Paths.{list, angle_list, generic_argument, path, qualified}
 use Rattle.grammar_core.specs.Patterns.{pattern, max_pattern}
@@ -46,7 +44,6 @@ unfoldable pub literal : Parser Expr
 literal = (λ token. expr.Lit (lit_of token)) <$> take_as literal_of
 
 module _ (readers : Readers) where
-
   -- ---- closures
 
   -- a type that is kept as tokens alone
@@ -94,7 +91,7 @@ module _ (readers : Readers) where
       first ← readers.expr any_level
       more ← eat 1 is_comma
       if more then (λ elems. expr.Tuple elems span) <$> items_after (readers.expr any_level) (first ∷ [])
-        else pure (expr.Paren first span))
+          else pure (expr.Paren first span))
 
   -- what stands in `[..]` behind the first expression: others, or how often it is repeated
   unfoldable pub expr_elements : Span → Expr → Parser Expr
@@ -103,7 +100,7 @@ module _ (readers : Readers) where
     if repeated then (λ len. expr.Repeat first len span) <$> readers.expr any_level else (do
       more ← eat 1 is_comma
       if more then (λ elems. make.expr_array elems span) <$> items_after (readers.expr any_level) (first ∷ [])
-        else pure (make.expr_array (first ∷ []) span))
+          else pure (make.expr_array (first ∷ []) span))
 
   -- what stands in `[..]`
   unfoldable pub expr_bracket : Span → Parser Expr
@@ -206,7 +203,7 @@ module _ (readers : Readers) where
     turbofish ← test is_turbofish
     called ← test (is_group delimiter.Parenthesis)
     if turbofish then turbofish_call start base name
-      else (if called then method_call start base name else field start base (made.Named name))
+        else (if called then method_call start base name else field start base (made.Named name))
 
   abbrev pub member_by : Span → Expr → Bool → Parser Expr
   member_by start base true = take_as name_of >>= named_member start base
@@ -308,7 +305,7 @@ module _ (readers : Readers) where
     done ← at_end
     if done then pure left else refuse
   chain_from start below (suc turns) left =
-    test operator_of >>= (λ found. chain_by (chain_from start below turns) start below left (at_level (suc below) found))
+      test operator_of >>= (λ found. chain_by (chain_from start below turns) start below left (at_level (suc below) found))
 
   -- one comparison: they are not chained
   unfoldable pub compared : Span → ℕ → Expr → Parser Expr
@@ -346,7 +343,7 @@ module _ (readers : Readers) where
       right ← readers.expr or_level
       span ← upto start
       pure (make.expr_range left (Some right) closed span))
-      else (if closed then refuse else (upto start >>= (λ span. pure (make.expr_range left None false span))))
+        else (if closed then refuse else (upto start >>= (λ span. pure (make.expr_range left None false span))))
 
   unfoldable pub range : Parser Expr
   range = do
@@ -366,7 +363,7 @@ module _ (readers : Readers) where
 
   unfoldable pub expr_step : ℕ → Parser Expr
   expr_step level =
-    if level == any_level then any
+      if level == any_level then any
       else (if level == range_level then range
       else (if level == constant_level then constant
       else binary level))

@@ -1,5 +1,5 @@
 -- What a parser reads from: the tokens that are left and where the last one stood; and the steps that every rule is made of.
-use Rattle.std.specs.Prelude.{◌≡◌, ℕ, zero, suc, ◌-◌, Bool, true, false, if◌then◌else◌, List, [], ◌∷◌, ◌++◌, length, take, Option, Some, None}
+use Rattle.std.specs.Prelude.{ℕ, zero, suc, ◌-◌, Bool, true, false, if◌then◌else◌, List, [], ◌∷◌, ◌++◌, length, take, Option, Some, None}
 use Rattle.token_core.specs.Span.{joined}
 use Rattle.token_core.specs.declared.span.Span.{Span}
 use Rattle.token_core.specs.declared.span.Span.TheVariants.{CallSite}
@@ -156,7 +156,7 @@ until_from closing item (suc turns) found = do
     value ← item
     more ← eat 1 is_comma
     if more then until_from closing item turns (found ++ value ∷ [])
-      else expect 1 (is_mark closing) >> pure (found ++ value ∷ []))
+        else expect 1 (is_mark closing) >> pure (found ++ value ∷ []))
 
 -- Items that a mark joins: one at least, and one after each mark.
 unfoldable pub joined_from : {A : Type 0} → Parser Bool → Parser A → ℕ → List A → Parser (List A)

@@ -1,5 +1,5 @@
 -- What the tokens that come next begin.
-use Rattle.std.specs.Prelude.{ℕ, Bool, true, false, ◌&&◌, ◌||◌, not, ◌==◌, if◌then◌else◌, List, [], ◌∷◌, Option, Some, None}
+use Rattle.std.specs.Prelude.{ℕ, Bool, true, false, ◌&&◌, ◌||◌, not, ◌==◌, if◌then◌else◌, List, Option, Some, None}
 use Rattle.token_core.specs.declared.tree.Delimiter.TheVariants as delimiter
 use Rattle.token_core.specs.declared.tree.TokenTree.{TokenTree}
 use Rattle.node_core.specs.declared.expr.BinOp.{BinOp}
@@ -19,7 +19,7 @@ use Rattle.grammar_core.specs.declared.look.AtomStart.TheVariants as atom
 use Rattle.grammar_core.specs.declared.look.PostfixStart.{PostfixStart}
 use Rattle.grammar_core.specs.declared.look.PostfixStart.TheVariants as postfix
 use Rattle.grammar_core.specs.declared.look.Infix.{Infix}
-use Rattle.grammar_core.specs.Token.{is_group, is_mark, is_pair, is_joint, mark_of, after_one, is_colon, is_colons, is_dots, is_equals, is_less, is_turbofish, is_and, is_question, lifetime_of, literal_of}
+use Rattle.grammar_core.specs.Token.{is_group, is_mark, is_joint, mark_of, after_one, is_colon, is_colons, is_dots, is_equals, is_less, is_turbofish, is_and, is_question, lifetime_of, literal_of}
 use Rattle.grammar_core.specs.Words.{next_word}
 
 abbrev pub is_there : {A : Type 0} → Option A → Bool
@@ -42,13 +42,13 @@ type_word _ = ty.Nothing
 unfoldable pub type_start : List TokenTree → TypeStart
 type_start trees =
     if is_group delimiter.Parenthesis trees then ty.Parenthesis
-      else (if is_group delimiter.Bracket trees then ty.Bracket
-      else (if is_mark 33 trees then ty.Never
-      else (if is_and trees then ty.Reference
-      else (if is_mark 42 trees then ty.Pointer
-      else (if is_less trees then ty.Qualified
-      else (if is_colons trees then ty.Path
-      else type_word (next_word trees)))))))
+    else (if is_group delimiter.Bracket trees then ty.Bracket
+    else (if is_mark 33 trees then ty.Never
+    else (if is_and trees then ty.Reference
+    else (if is_mark 42 trees then ty.Pointer
+    else (if is_less trees then ty.Qualified
+    else (if is_colons trees then ty.Path
+    else type_word (next_word trees)))))))
 
 -- ---- arguments of a segment
 
@@ -56,9 +56,9 @@ type_start trees =
 unfoldable pub arguments_start : Bool → List TokenTree → ArgumentsStart
 arguments_start in_type trees =
     if is_turbofish trees then arguments.Turbofish
-      else (if in_type && is_less trees then arguments.Less
-      else (if in_type && is_group delimiter.Parenthesis trees then arguments.Parenthesis
-      else arguments.Nothing))
+    else (if in_type && is_less trees then arguments.Less
+    else (if in_type && is_group delimiter.Parenthesis trees then arguments.Parenthesis
+    else arguments.Nothing))
 
 abbrev pub is_bool : Word → Bool
 is_bool word.True = true
@@ -73,7 +73,7 @@ begins_constant trees = is_there (literal_of trees) || is_bool (next_word trees)
 abbrev pub argument_name : List TokenTree → ArgumentStart
 argument_name after =
     if is_equals after then (if begins_constant (after_one after) then argument.AssocConst else argument.AssocType)
-      else (if is_colon after then argument.Constraint else argument.Type)
+    else (if is_colon after then argument.Constraint else argument.Type)
 
 abbrev pub argument_word : Word → List TokenTree → ArgumentStart
 argument_word word.Name after = argument_name after
@@ -82,8 +82,8 @@ argument_word _ after = argument.Type
 unfoldable pub argument_start : List TokenTree → ArgumentStart
 argument_start trees =
     if is_there (lifetime_of trees) then argument.Lifetime
-      else (if begins_constant trees then argument.Constant
-      else argument_word (next_word trees) (after_one trees))
+    else (if begins_constant trees then argument.Constant
+    else argument_word (next_word trees) (after_one trees))
 
 -- ---- expressions
 
@@ -98,22 +98,22 @@ atom_word _ = atom.Nothing
 unfoldable pub atom_start : List TokenTree → AtomStart
 atom_start trees =
     if is_group delimiter.Parenthesis trees then atom.Parenthesis
-      else (if is_group delimiter.Bracket trees then atom.Bracket
-      else (if is_group delimiter.Brace trees then atom.Brace
-      else (if is_group delimiter.None trees then atom.Invisible
-      else (if is_there (literal_of trees) then atom.Literal
-      else (if is_less trees then atom.Qualified
-      else (if is_colons trees then atom.Path
-      else atom_word (next_word trees)))))))
+    else (if is_group delimiter.Bracket trees then atom.Bracket
+    else (if is_group delimiter.Brace trees then atom.Brace
+    else (if is_group delimiter.None trees then atom.Invisible
+    else (if is_there (literal_of trees) then atom.Literal
+    else (if is_less trees then atom.Qualified
+    else (if is_colons trees then atom.Path
+    else atom_word (next_word trees)))))))
 
 -- 45 `-`, 33 `!`, 42 `*`
 unfoldable pub operand_start : List TokenTree → OperandStart
 operand_start trees =
     if is_mark 45 trees then operand.Neg
-      else (if is_mark 33 trees then operand.Not
-      else (if is_mark 42 trees then operand.Deref
-      else (if is_and trees then operand.Reference
-      else operand.Atom (atom_start trees))))
+    else (if is_mark 33 trees then operand.Not
+    else (if is_mark 42 trees then operand.Deref
+    else (if is_and trees then operand.Reference
+    else operand.Atom (atom_start trees))))
 
 abbrev pub is_atom : AtomStart → Bool
 is_atom atom.Nothing = false
@@ -139,10 +139,10 @@ begins_closure trees = is_move (next_word trees) || is_mark 124 trees
 unfoldable pub postfix_start : List TokenTree → PostfixStart
 postfix_start trees =
     if is_group delimiter.Parenthesis trees then postfix.Call
-      else (if is_group delimiter.Bracket trees then postfix.Index
-      else (if is_mark 46 trees && not (is_dots trees) then postfix.Dot
-      else (if is_question trees then postfix.Try
-      else postfix.Nothing)))
+    else (if is_group delimiter.Bracket trees then postfix.Index
+    else (if is_mark 46 trees && not (is_dots trees) then postfix.Dot
+    else (if is_question trees then postfix.Try
+    else postfix.Nothing)))
 
 -- ---- operators between two operands
 
@@ -171,13 +171,13 @@ level_of op.Or = 9
 abbrev pub before_equals : ℕ → Option BinOp
 before_equals ch =
     if ch == 61 then Some op.Eq else (if ch == 33 then Some op.Ne else (if ch == 60 then Some op.Le
-      else (if ch == 62 then Some op.Ge else None)))
+    else (if ch == 62 then Some op.Ge else None)))
 
 -- `&&`, `||`, `<<`, `>>`
 abbrev pub doubled : ℕ → Option BinOp
 doubled ch =
     if ch == 38 then Some op.And else (if ch == 124 then Some op.Or else (if ch == 60 then Some op.Shl
-      else (if ch == 62 then Some op.Shr else None)))
+    else (if ch == 62 then Some op.Shr else None)))
 
 -- an operator of two characters
 abbrev pub double_of : ℕ → ℕ → Option BinOp
@@ -188,9 +188,9 @@ double_of first second =
 abbrev pub single_of : ℕ → Option BinOp
 single_of ch =
     if ch == 42 then Some op.Mul else (if ch == 47 then Some op.Div else (if ch == 37 then Some op.Rem
-      else (if ch == 43 then Some op.Add else (if ch == 45 then Some op.Sub
-      else (if ch == 38 then Some op.BitAnd else (if ch == 94 then Some op.BitXor else (if ch == 124 then Some op.BitOr
-      else (if ch == 60 then Some op.Lt else (if ch == 62 then Some op.Gt else None)))))))))
+    else (if ch == 43 then Some op.Add else (if ch == 45 then Some op.Sub
+    else (if ch == 38 then Some op.BitAnd else (if ch == 94 then Some op.BitXor else (if ch == 124 then Some op.BitOr
+    else (if ch == 60 then Some op.Lt else (if ch == 62 then Some op.Gt else None)))))))))
 
 abbrev pub infix_of : ℕ → BinOp → Infix
 infix_of width op = record { op = op; level = level_of op; width = width }

@@ -1,20 +1,16 @@
 -- Nodes from their parts.
-use Rattle.std.specs.Prelude.{ℕ, Bool, true, false, List, [], ◌∷◌, Option, Some, None}
+use Rattle.std.specs.Prelude.{ℕ, Bool, List, Option}
 use Rattle.token_core.specs.declared.ident.Ident.{Ident}
 use Rattle.token_core.specs.declared.ident.Lifetime.{Lifetime}
 use Rattle.token_core.specs.declared.span.Span.{Span}
 use Rattle.token_core.specs.declared.tree.TokenTree.{TokenTree}
-use Rattle.token_core.specs.declared.tree.TokenStream.{TokenStream, roll-TokenStream}
-use Rattle.node_core.specs.declared.expr.BinOp.{BinOp}
-use Rattle.node_core.specs.declared.expr.UnOp.{UnOp}
-use Rattle.node_core.specs.declared.expr.Member.{Member}
+use Rattle.token_core.specs.declared.tree.TokenStream.{roll-TokenStream}
 use Rattle.node_core.specs.declared.expr.Expr.{Expr}
 use Rattle.node_core.specs.declared.expr.Expr.TheVariants as expr
-use Rattle.node_core.specs.declared.expr.ExprPath.{ExprPath, roll-ExprPath}
-use Rattle.node_core.specs.declared.generics.TraitBound.{TraitBound, roll-TraitBound}
+use Rattle.node_core.specs.declared.expr.ExprPath.{roll-ExprPath}
+use Rattle.node_core.specs.declared.generics.TraitBound.{roll-TraitBound}
 use Rattle.node_core.specs.declared.generics.TypeParamBound.{TypeParamBound}
 use Rattle.node_core.specs.declared.generics.TypeParamBound.TheVariants as bound
-use Rattle.node_core.specs.declared.path.GenericArgument.{GenericArgument}
 use Rattle.node_core.specs.declared.path.Path.{Path, roll-Path}
 use Rattle.node_core.specs.declared.path.PathArguments.{PathArguments}
 use Rattle.node_core.specs.declared.path.PathSegment.{PathSegment, roll-PathSegment}
@@ -23,8 +19,8 @@ use Rattle.node_core.specs.declared.ty.«Type».{«Type» as Ty}
 use Rattle.node_core.specs.declared.ty.«Type».TheVariants as ty
 use Rattle.node_core.specs.declared.ty.NamedArg.{NamedArg}
 use Rattle.node_core.specs.declared.ty.ReturnType.{ReturnType}
-use Rattle.node_core.specs.declared.ty.TypeArray.{TypeArray, roll-TypeArray}
-use Rattle.node_core.specs.declared.ty.TypePath.{TypePath, roll-TypePath}
+use Rattle.node_core.specs.declared.ty.TypeArray.{roll-TypeArray}
+use Rattle.node_core.specs.declared.ty.TypePath.{roll-TypePath}
 
 -- ---- paths
 

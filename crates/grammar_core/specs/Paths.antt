@@ -1,6 +1,5 @@
 -- Paths, their arguments, and bounds.
-use Rattle.std.specs.Prelude.{ℕ, Bool, true, false, if◌then◌else◌, List, [], ◌∷◌, ◌++◌, length, Option, Some, None}
-use Rattle.token_core.specs.declared.ident.Ident.{Ident}
+use Rattle.std.specs.Prelude.{Bool, true, false, if◌then◌else◌, List, [], ◌∷◌, ◌++◌, length}
 use Rattle.token_core.specs.declared.ident.Lifetime.{Lifetime}
 use Rattle.token_core.specs.declared.span.Span.{Span}
 use Rattle.token_core.specs.declared.tree.Delimiter.TheVariants as delimiter
@@ -21,11 +20,11 @@ use Rattle.grammar_core.specs.declared.look.ArgumentsStart.TheVariants as begin
 use Rattle.grammar_core.specs.declared.look.ArgumentStart.{ArgumentStart}
 use Rattle.grammar_core.specs.declared.look.ArgumentStart.TheVariants as argument
 use Rattle.grammar_core.specs.declared.word.Word.TheVariants as word
-use Rattle.grammar_core.specs.Token.{is_arrow, is_colons, is_comma, is_greater, is_less, is_plus, is_question, lifetime_of}
+use Rattle.grammar_core.specs.Token.{is_arrow, is_colons, is_greater, is_less, is_plus, is_question, lifetime_of}
 use Rattle.grammar_core.specs.Words.{name_of, segment_word, sees}
 use Rattle.grammar_core.specs.Look.{arguments_start, argument_start, is_there}
-use Rattle.grammar_core.specs.Input.{Parser, ◌>>=◌, ◌>>◌, ◌<$>◌, pure, refuse, test, here, upto, skip, skip_by, eat, expect, take_as, inside, items_after, until, joined_by}
-use Rattle.grammar_core.specs.Readers.{Readers, any_level, constant_level}
+use Rattle.grammar_core.specs.Input.{Parser, ◌>>=◌, ◌>>◌, ◌<$>◌, pure, test, here, upto, skip, skip_by, eat, expect, take_as, inside, items_after, until, joined_by}
+use Rattle.grammar_core.specs.Readers.{Readers, constant_level}
 use Rattle.grammar_core.specs.Make as make
 
 -- all of a list, with a comma between two items and at most one at its end
@@ -43,7 +42,6 @@ binder = do
   if bound then expect 1 is_less >> angle_list (take_as lifetime_of) else pure []
 
 module _ (readers : Readers) where
-
   -- `-> type`, or nothing. The type has one bound.
   unfoldable pub return_type : Parser (ReturnType Ty)
   return_type = do
@@ -189,5 +187,5 @@ module _ (readers : Readers) where
   -- bounds joined by `+`; or one alone
   unfoldable pub bounds : Bool → Parser (List TypeParamBound)
   bounds many =
-    if many then joined_bounds
+      if many then joined_bounds
       else (λ found. found ∷ []) <$> one_bound

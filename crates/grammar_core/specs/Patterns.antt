@@ -1,12 +1,11 @@
 -- Patterns, which are kept as tokens: `_`, `mut a`, `&a`, `(a, b)`.
-use Rattle.std.specs.Prelude.{ℕ, zero, suc, Bool, true, false, if◌then◌else◌, List, [], ◌∷◌, length, Option, Some, None}
+use Rattle.std.specs.Prelude.{ℕ, zero, suc, Bool, true, false, if◌then◌else◌}
 use Rattle.token_core.specs.declared.tree.Delimiter.TheVariants as delimiter
-use Rattle.token_core.specs.declared.tree.TokenTree.{TokenTree}
 use Rattle.grammar_core.specs.declared.word.Word.{Word}
 use Rattle.grammar_core.specs.declared.word.Word.TheVariants as word
 use Rattle.grammar_core.specs.Token.{is_and, is_group}
 use Rattle.grammar_core.specs.Words.{name_of, next_word, sees}
-use Rattle.grammar_core.specs.Input.{Input, Parser, ◌>>=◌, ◌>>◌, ◌<$>◌, pure, refuse, test, skip, eat, take_as, inside, by_turns}
+use Rattle.grammar_core.specs.Input.{Parser, ◌>>=◌, ◌>>◌, ◌<$>◌, pure, test, eat, take_as, inside, by_turns}
 use Rattle.grammar_core.specs.Paths.{list}
 
 -- how many parentheses of a pattern stand in each other, as many as a text has

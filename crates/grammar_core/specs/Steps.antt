@@ -1,6 +1,5 @@
 -- How the steps of a cursor answer.
-use Rattle.std.specs.Prelude.{◌≡◌, ℕ, Bool, true, false, List, Option, Some, None, Result, Ok, Err}
-use Rattle.token_core.specs.declared.tree.TokenTree.{TokenTree}
+use Rattle.std.specs.Prelude.{◌≡◌, ℕ, Bool, true, false, Option, Some, None, Result, Ok, Err}
 use Rattle.grammar_core.specs.declared.fail.ReadFail.{ReadFail}
 use Rattle.grammar_core.specs.declared.fail.ReadFail.TheVariants.{Syntax, NoMemory}
 use Rattle.grammar_core.specs.Input.{Input, next, skipped, is_end}

@@ -1,6 +1,5 @@
 -- The trees of whole lists of tokens.
-use Rattle.std.specs.Prelude.{◌≡◌, true, List, [], Option, Some, None, if◌then◌else◌}
-use Rattle.token_core.specs.declared.tree.TokenTree.{TokenTree}
+use Rattle.std.specs.Prelude.{true, List, Option, Some, None, if◌then◌else◌}
 use Rattle.token_core.specs.declared.tree.TokenStream.{TokenStream, out-TokenStream}
 use Rattle.node_core.specs.declared.expr.Expr.{Expr}
 use Rattle.node_core.specs.declared.path.Path.{Path}

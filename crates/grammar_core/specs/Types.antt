@@ -1,11 +1,9 @@
 -- Types.
-use Rattle.std.specs.Prelude.{ℕ, Bool, true, false, if◌then◌else◌, List, [], ◌∷◌, Option, Some, None}
+use Rattle.std.specs.Prelude.{Bool, true, false, if◌then◌else◌, List, [], ◌∷◌, Option, Some, None}
 use Rattle.token_core.specs.declared.ident.Ident.{Ident}
 use Rattle.token_core.specs.declared.span.Span.{Span}
 use Rattle.token_core.specs.declared.tree.Delimiter.TheVariants as delimiter
 use Rattle.token_core.specs.declared.tree.TokenTree.{TokenTree}
-use Rattle.node_core.specs.declared.path.Path.{Path}
-use Rattle.node_core.specs.declared.path.QSelf.{QSelf}
 use Rattle.node_core.specs.declared.ty.«Type».{«Type» as Ty}
 use Rattle.node_core.specs.declared.ty.NamedArg.{NamedArg}
 use Rattle.grammar_core.specs.declared.look.TypeStart.{TypeStart}
@@ -32,7 +30,6 @@ abbrev pub arg_name : Parser (Option Ident)
 arg_name = test name_before_colon >>= arg_name_by
 
 module _ (readers : Readers) where
-
   -- what stands in `(..)`: a tuple where a comma stands, or nothing at all
   unfoldable pub type_group : Span → Parser Ty
   type_group span = do
@@ -41,7 +38,7 @@ module _ (readers : Readers) where
       first ← readers.ty true
       more ← eat 1 is_comma
       if more then (λ elems. make.type_tuple elems span) <$> items_after (readers.ty true) (first ∷ [])
-        else pure (make.type_paren first span))
+          else pure (make.type_paren first span))
 
   -- what stands in `[..]`
   unfoldable pub type_bracket : Span → Parser Ty

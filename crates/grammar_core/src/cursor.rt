@@ -13,9 +13,9 @@ use crate::token::{
     contents_of, is_arrow, is_colon, is_colons, is_mark, lifetime_of, literal_of, span_of,
 };
 use crate::word::{Word, name_of, sees, segment_word};
-use std::alloc::Global;
 use base_core::{Items, Mem};
 use node_core::LitInt;
+use std::alloc::Global;
 use std::marker::Model;
 use token_core::{Ident, Lifetime, Literal, Span, TokenTree, TryClone};
 
@@ -28,7 +28,6 @@ pub struct Cursor<'a> {
 
 impl<'a> Model for Cursor<'a> {
     ghost use Rattle.grammar_core.specs.Input.{Input};
-
     ghost use Rattle.token_core.specs.contracts.tree.TokenTree as tree;
     ghost use Rattle.std.specs.Coded.{codes};
 

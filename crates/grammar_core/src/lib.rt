@@ -17,8 +17,9 @@ pub use look::{
     operand_start, operator_at, operator_of, postfix_start, type_start,
 };
 pub use token::{
-    after_one, contents_of, ident_of, is_and, is_arrow, is_bar, is_closed_dots, is_colon, is_colons,
-    is_comma, is_dots, is_equals, is_greater, is_group, is_joint, is_less, is_mark, is_pair, is_plus,
-    is_question, is_semicolon, is_turbofish, lifetime_of, literal_of, mark_of, span_of,
+    after_one, contents_of, ident_of, is_and, is_arrow, is_bar, is_closed_dots, is_colon,
+    is_colons, is_comma, is_dots, is_equals, is_greater, is_group, is_joint, is_less, is_mark,
+    is_pair, is_plus, is_question, is_semicolon, is_turbofish, lifetime_of, literal_of, mark_of,
+    span_of,
 };
 pub use word::{Word, name_of, next_word, sees, segment_word, word_of};

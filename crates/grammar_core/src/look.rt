@@ -4,8 +4,8 @@ ghost use Rattle.std.specs.Prelude.{◌≡◌};
 ghost use Rattle.grammar_core.specs.Look as spec;
 
 use crate::token::{
-    after_one, is_and, is_colon, is_colons, is_dots, is_equals, is_group, is_joint, is_less, is_mark,
-    is_question, is_turbofish, lifetime_of, literal_of, mark_of,
+    after_one, is_and, is_colon, is_colons, is_dots, is_equals, is_group, is_joint, is_less,
+    is_mark, is_question, is_turbofish, lifetime_of, literal_of, mark_of,
 };
 use crate::word::{Word, next_word};
 use node_core::{BinOp, Delimiter, TokenTree};
@@ -290,10 +290,7 @@ pub fn operand_start(trees: &[TokenTree]) -> OperandStart
 pub fn begins_operand(trees: &[TokenTree]) -> bool
     ensures { result ≡ spec.begins_operand trees.now }
 {
-    !matches!(
-        operand_start(trees),
-        OperandStart::Atom(AtomStart::Nothing)
-    )
+    !matches!(operand_start(trees), OperandStart::Atom(AtomStart::Nothing))
 }
 
 /// Whether a closure begins here.

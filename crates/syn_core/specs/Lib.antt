@@ -1,3 +1,1 @@
-pub mod Nests
 pub mod Lists
-pub mod Parts

@@ -3,7 +3,7 @@ use Rattle.std.specs.Prelude.{◌≡◌, ◌≤◌, ℕ, Bool, List, map, Result
 use denote.Ref.{MutBor}
 use Rattle.depth_core.specs.Depth.{deepest}
 use Rattle.grammar_core.specs.declared.fail.ReadFail.{ReadFail}
-use Rattle.grammar_core.specs.Input.{Input, Outcome, Parser, eat}
+use Rattle.grammar_core.specs.Input.{Input, Parser, eat}
 use Rattle.grammar_core.specs.Reads.{Reads}
 use Rattle.grammar_core.specs.Token.{is_colons, is_plus}
 use Rattle.syn_core.specs.declared.list.Joint.{Joint}

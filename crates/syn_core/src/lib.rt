@@ -1,14 +1,7 @@
-//! Parsers of syntax, as an engineer takes `syn` for.
+//! Parsers of syntax, as an engineer takes `syn` for. So far it has the lists that every rule is made
+//! with: each reads exactly the list of its definition, whatever its items are.
 #![tactic(auto)]
 
-mod atoms;
-mod exprs;
-mod knot;
 mod list;
-mod make;
-mod paths;
-mod pattern;
-mod rules;
-mod types;
 
 pub use list::{Joint, Parse, items_after, joined_by, until};

@@ -1,4 +1,4 @@
-use Rattle.std.proofs.Common.{rules, arith, ◌-◌}
+use Rattle.std.proofs.Common.{rules, arith}
 use Rattle.std.proofs.lemmas.Grind.{common_steps}
 use Rattle.depth_core.proofs.Deepest.{deepest-map-push}
 use Rattle.grammar_core.specs.Input.{items_from}

@@ -1,4 +1,4 @@
-use Rattle.std.proofs.Common.{◌-◌, length}
+use Rattle.std.proofs.Common.{◌-◌}
 use Rattle.grammar_core.specs.Input.{items_from}
 use Rattle.syn_core.specs.Lists.{Keeps}
 use Rattle.syn_core.proofs.list.items_after.Given as goal
