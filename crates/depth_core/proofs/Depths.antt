@@ -4,44 +4,44 @@ use Rattle.token_core.specs.declared.ident.Ident.{Ident}
 use Rattle.token_core.specs.declared.ident.Lifetime.{Lifetime}
 use Rattle.token_core.specs.declared.span.Span.{Span}
 use Rattle.token_core.specs.declared.tree.TokenStream.{TokenStream}
-use Rattle.node_core.specs.declared.expr.BinOp.{BinOp}
-use Rattle.node_core.specs.declared.expr.Expr.{Expr, the_lemmas}
-use Rattle.node_core.specs.declared.expr.Expr.TheVariants as expr
-use Rattle.node_core.specs.declared.expr.ExprArray.{ExprArray}
-use Rattle.node_core.specs.declared.expr.ExprClosure.{ExprClosure}
-use Rattle.node_core.specs.declared.expr.ExprPath.{ExprPath, roll-ExprPath}
-use Rattle.node_core.specs.declared.expr.ExprRange.{ExprRange}
-use Rattle.node_core.specs.declared.expr.Member.{Member}
-use Rattle.node_core.specs.declared.expr.UnOp.{UnOp}
-use Rattle.node_core.specs.declared.generics.TraitBound.{TraitBound, roll-TraitBound}
-use Rattle.node_core.specs.declared.generics.TypeParamBound.{TypeParamBound}
-use Rattle.node_core.specs.declared.generics.TypeParamBound.TheVariants as bound
-use Rattle.node_core.specs.declared.lit.Lit.{Lit}
-use Rattle.node_core.specs.declared.path.GenericArgument.{GenericArgument}
-use Rattle.node_core.specs.declared.path.GenericArgument.TheVariants as argument
-use Rattle.node_core.specs.declared.path.Path.{Path, roll-Path}
-use Rattle.node_core.specs.declared.path.PathArguments.{PathArguments}
-use Rattle.node_core.specs.declared.path.PathArguments.TheVariants as arguments
-use Rattle.node_core.specs.declared.path.PathSegment.{PathSegment, roll-PathSegment}
-use Rattle.node_core.specs.declared.path.QSelf.{QSelf}
-use Rattle.node_core.specs.declared.ty.NamedArg.{NamedArg}
-use Rattle.node_core.specs.declared.ty.ReturnType.{ReturnType}
-use Rattle.node_core.specs.declared.ty.ReturnType.TheVariants as output
-use Rattle.node_core.specs.declared.ty.«Type».{«Type» as Type'}
-use Rattle.node_core.specs.declared.ty.«Type».TheVariants as ty
-use Rattle.node_core.specs.declared.ty.TypeArray.{TypeArray, roll-TypeArray}
-use Rattle.node_core.specs.declared.ty.TypeFnPtr.{TypeFnPtr}
-use Rattle.node_core.specs.declared.ty.TypeGroup.{TypeGroup}
-use Rattle.node_core.specs.declared.ty.TypeImplTrait.{TypeImplTrait}
-use Rattle.node_core.specs.declared.ty.TypeInfer.{TypeInfer}
-use Rattle.node_core.specs.declared.ty.TypeNever.{TypeNever}
-use Rattle.node_core.specs.declared.ty.TypeParen.{TypeParen}
-use Rattle.node_core.specs.declared.ty.TypePath.{TypePath, roll-TypePath}
-use Rattle.node_core.specs.declared.ty.TypePtr.{TypePtr}
-use Rattle.node_core.specs.declared.ty.TypeReference.{TypeReference}
-use Rattle.node_core.specs.declared.ty.TypeSlice.{TypeSlice}
-use Rattle.node_core.specs.declared.ty.TypeTraitObject.{TypeTraitObject}
-use Rattle.node_core.specs.declared.ty.TypeTuple.{TypeTuple}
+use Rattle.expr_core.specs.declared.expr.BinOp.{BinOp}
+use Rattle.expr_core.specs.declared.expr.Expr.{Expr, the_lemmas}
+use Rattle.expr_core.specs.declared.expr.Expr.TheVariants as expr
+use Rattle.expr_core.specs.declared.expr.ExprArray.{ExprArray}
+use Rattle.expr_core.specs.declared.expr.ExprClosure.{ExprClosure}
+use Rattle.expr_core.specs.declared.expr.ExprPath.{ExprPath, roll-ExprPath}
+use Rattle.expr_core.specs.declared.expr.ExprRange.{ExprRange}
+use Rattle.expr_core.specs.declared.expr.Member.{Member}
+use Rattle.expr_core.specs.declared.expr.UnOp.{UnOp}
+use Rattle.expr_core.specs.declared.generics.TraitBound.{TraitBound, roll-TraitBound}
+use Rattle.expr_core.specs.declared.generics.TypeParamBound.{TypeParamBound}
+use Rattle.expr_core.specs.declared.generics.TypeParamBound.TheVariants as bound
+use Rattle.expr_core.specs.declared.lit.Lit.{Lit}
+use Rattle.expr_core.specs.declared.path.GenericArgument.{GenericArgument}
+use Rattle.expr_core.specs.declared.path.GenericArgument.TheVariants as argument
+use Rattle.expr_core.specs.declared.path.Path.{Path, roll-Path}
+use Rattle.expr_core.specs.declared.path.PathArguments.{PathArguments}
+use Rattle.expr_core.specs.declared.path.PathArguments.TheVariants as arguments
+use Rattle.expr_core.specs.declared.path.PathSegment.{PathSegment, roll-PathSegment}
+use Rattle.expr_core.specs.declared.path.QSelf.{QSelf}
+use Rattle.expr_core.specs.declared.ty.NamedArg.{NamedArg}
+use Rattle.expr_core.specs.declared.ty.ReturnType.{ReturnType}
+use Rattle.expr_core.specs.declared.ty.ReturnType.TheVariants as output
+use Rattle.expr_core.specs.declared.ty.«Type».{«Type» as Type'}
+use Rattle.expr_core.specs.declared.ty.«Type».TheVariants as ty
+use Rattle.expr_core.specs.declared.ty.TypeArray.{TypeArray, roll-TypeArray}
+use Rattle.expr_core.specs.declared.ty.TypeFnPtr.{TypeFnPtr}
+use Rattle.expr_core.specs.declared.ty.TypeGroup.{TypeGroup}
+use Rattle.expr_core.specs.declared.ty.TypeImplTrait.{TypeImplTrait}
+use Rattle.expr_core.specs.declared.ty.TypeInfer.{TypeInfer}
+use Rattle.expr_core.specs.declared.ty.TypeNever.{TypeNever}
+use Rattle.expr_core.specs.declared.ty.TypeParen.{TypeParen}
+use Rattle.expr_core.specs.declared.ty.TypePath.{TypePath, roll-TypePath}
+use Rattle.expr_core.specs.declared.ty.TypePtr.{TypePtr}
+use Rattle.expr_core.specs.declared.ty.TypeReference.{TypeReference}
+use Rattle.expr_core.specs.declared.ty.TypeSlice.{TypeSlice}
+use Rattle.expr_core.specs.declared.ty.TypeTraitObject.{TypeTraitObject}
+use Rattle.expr_core.specs.declared.ty.TypeTuple.{TypeTuple}
 use Rattle.depth_core.specs.Depth.{deepest, optional, inputs_depth, input_deep, return_depth, expr_depth, type_depth, bound_depth, argument_depth, arguments_depth, trait_bound_depth, path_depth, segment_depth, expr_path_depth, type_path_depth, array_depth}
 
 pub expr_depth-Lit : (it : Lit) → expr_depth (expr.Lit it) ≡ 1

@@ -3,23 +3,23 @@
 -- count. A bounded argument, `Item: Copy`, is as deep as `Item = impl Copy`, whose type is a level;
 -- else bounds could nest in bounds without a level between.
 use Rattle.std.specs.Prelude.{ℕ, suc, max, List, [], ◌∷◌, Option, Some, None}
-use Rattle.node_core.specs.Folds.{Steps, ExprOf, TypeParamBoundOf, GenericArgumentOf, PathArgumentsOf, TypeOf, ExprPathOf, TraitBoundOf, PathOf, PathSegmentOf, TypeArrayOf, TypePathOf, fold_expr, fold_bound, fold_argument, fold_arguments, fold_type, fold_expr_path, fold_trait_bound, fold_path, fold_segment, fold_array, fold_type_path}
-use Rattle.node_core.specs.declared.expr.Expr.{Expr}
-use Rattle.node_core.specs.declared.expr.Expr.TheOpen.{Expr-F, TypeParamBound-F, GenericArgument-F, PathArguments-F, Type-F}
-use Rattle.node_core.specs.declared.expr.ExprPath.{ExprPath}
-use Rattle.node_core.specs.declared.generics.TraitBound.{TraitBound}
-use Rattle.node_core.specs.declared.generics.TypeParamBound.{TypeParamBound}
-use Rattle.node_core.specs.declared.path.GenericArgument.{GenericArgument}
-use Rattle.node_core.specs.declared.path.Path.{Path}
-use Rattle.node_core.specs.declared.path.PathArguments.{PathArguments}
-use Rattle.node_core.specs.declared.path.PathSegment.{PathSegment}
-use Rattle.node_core.specs.declared.path.QSelf.{QSelf}
-use Rattle.node_core.specs.declared.ty.NamedArg.{NamedArg}
-use Rattle.node_core.specs.declared.ty.ReturnType.{ReturnType}
-use Rattle.node_core.specs.declared.ty.ReturnType.TheVariants as output
-use Rattle.node_core.specs.declared.ty.«Type».{«Type» as Type'}
-use Rattle.node_core.specs.declared.ty.TypeArray.{TypeArray}
-use Rattle.node_core.specs.declared.ty.TypePath.{TypePath}
+use Rattle.expr_core.specs.Folds.{Steps, ExprOf, TypeParamBoundOf, GenericArgumentOf, PathArgumentsOf, TypeOf, ExprPathOf, TraitBoundOf, PathOf, PathSegmentOf, TypeArrayOf, TypePathOf, fold_expr, fold_bound, fold_argument, fold_arguments, fold_type, fold_expr_path, fold_trait_bound, fold_path, fold_segment, fold_array, fold_type_path}
+use Rattle.expr_core.specs.declared.expr.Expr.{Expr}
+use Rattle.expr_core.specs.declared.expr.Expr.TheOpen.{Expr-F, TypeParamBound-F, GenericArgument-F, PathArguments-F, Type-F}
+use Rattle.expr_core.specs.declared.expr.ExprPath.{ExprPath}
+use Rattle.expr_core.specs.declared.generics.TraitBound.{TraitBound}
+use Rattle.expr_core.specs.declared.generics.TypeParamBound.{TypeParamBound}
+use Rattle.expr_core.specs.declared.path.GenericArgument.{GenericArgument}
+use Rattle.expr_core.specs.declared.path.Path.{Path}
+use Rattle.expr_core.specs.declared.path.PathArguments.{PathArguments}
+use Rattle.expr_core.specs.declared.path.PathSegment.{PathSegment}
+use Rattle.expr_core.specs.declared.path.QSelf.{QSelf}
+use Rattle.expr_core.specs.declared.ty.NamedArg.{NamedArg}
+use Rattle.expr_core.specs.declared.ty.ReturnType.{ReturnType}
+use Rattle.expr_core.specs.declared.ty.ReturnType.TheVariants as output
+use Rattle.expr_core.specs.declared.ty.«Type».{«Type» as Type'}
+use Rattle.expr_core.specs.declared.ty.TypeArray.{TypeArray}
+use Rattle.expr_core.specs.declared.ty.TypePath.{TypePath}
 
 -- the greatest of the depths; 0 where there is none
 abbrev pub deepest : List ℕ → ℕ

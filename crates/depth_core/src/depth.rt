@@ -1,7 +1,7 @@
 ghost use Rattle.std.specs.Prelude.{◌≤◌, ◌↔◌, IsTrue, map, option_map};
 ghost use Rattle.depth_core.specs.Depth.{argument_depth, arguments_depth, array_depth, bound_depth, deepest, expr_depth, expr_path_depth, inputs_depth, input_deep, optional, path_depth, return_depth, segment_depth, trait_bound_depth, type_depth, type_path_depth};
 
-use node_core::{
+use expr_core::{
     Boxed, Expr, ExprArray, ExprClosure, ExprPath, ExprRange, GenericArgument, NamedArg, Path,
     PathArguments, PathSegment, QSelf, ReturnType, TraitBound, Type, TypeArray, TypeFnPtr,
     TypeGroup, TypeImplTrait, TypeParamBound, TypeParen, TypePath, TypePtr, TypeReference,

@@ -1,5 +1,5 @@
 use crate::{expr_within, type_within};
-use node_core::{
+use expr_core::{
     Boxed, Expr, GenericArgument, Ident, Items, Mem, Path, PathArguments, PathSegment, Span, Text,
     TraitBound, Type, TypeInfer, TypeParamBound, TypePath,
 };

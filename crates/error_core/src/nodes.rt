@@ -2,7 +2,7 @@ ghost use Rattle.std.specs.Prelude.{◌≡◌, [], IfOk};
 ghost use Rattle.fault_core.specs.Fault.{at_span};
 ghost use Rattle.fault_core.specs.Faults.{span_one, at};
 ghost use Rattle.fault_core.specs.Kind.{set_of};
-ghost use Rattle.node_core.specs.PathText.{path_text};
+ghost use Rattle.expr_core.specs.PathText.{path_text};
 ghost use Rattle.span_core.specs.Spanned.{expr_span, lit_span};
 ghost use Rattle.error_core.specs.Changes.{leaf, located, spanned};
 ghost use Rattle.error_core.specs.NodeKinds.{expr_kind, lit_kind};

@@ -13,8 +13,8 @@ use Rattle.node_core.specs.declared.data.Field.{Field}
 use Rattle.node_core.specs.declared.data.Fields.{Fields}
 use Rattle.node_core.specs.declared.data.Visibility.TheVariants.{Inherited}
 use Rattle.node_core.specs.declared.derive.DeriveInput.{DeriveInput}
-use Rattle.node_core.specs.declared.ty.Type.TheVariants as ty
-use Rattle.node_core.specs.declared.ty.TypePath.{TypePath, roll-TypePath}
+use Rattle.expr_core.specs.declared.ty.Type.TheVariants as ty
+use Rattle.expr_core.specs.declared.ty.TypePath.{TypePath, roll-TypePath}
 use Rattle.meta_core.specs.Made.{path_of}
 
 -- `name(tokens)`

@@ -3,13 +3,13 @@ use Rattle.std.specs.Prelude.{ℕ, zero, suc, Bool, true, false, ◌==◌, if◌
 use Rattle.token_core.specs.declared.ident.Ident.{Ident}
 use Rattle.token_core.specs.declared.span.Span.{Span}
 use Rattle.token_core.specs.declared.tree.Delimiter.TheVariants as delimiter
-use Rattle.node_core.specs.declared.expr.Expr.{Expr}
-use Rattle.node_core.specs.declared.expr.Expr.TheVariants as expr
-use Rattle.node_core.specs.declared.expr.Member.{Member}
-use Rattle.node_core.specs.declared.expr.Member.TheVariants as made
-use Rattle.node_core.specs.declared.expr.UnOp.{UnOp}
-use Rattle.node_core.specs.declared.expr.UnOp.TheVariants as op
-use Rattle.node_core.specs.declared.lit.Lit.TheVariants as lit
+use Rattle.expr_core.specs.declared.expr.Expr.{Expr}
+use Rattle.expr_core.specs.declared.expr.Expr.TheVariants as expr
+use Rattle.expr_core.specs.declared.expr.Member.{Member}
+use Rattle.expr_core.specs.declared.expr.Member.TheVariants as made
+use Rattle.expr_core.specs.declared.expr.UnOp.{UnOp}
+use Rattle.expr_core.specs.declared.expr.UnOp.TheVariants as op
+use Rattle.expr_core.specs.declared.lit.Lit.TheVariants as lit
 use Rattle.grammar_core.specs.declared.look.AtomStart.{AtomStart}
 use Rattle.grammar_core.specs.declared.look.AtomStart.TheVariants as atom
 use Rattle.grammar_core.specs.declared.look.OperandStart.{OperandStart}

@@ -1,6 +1,6 @@
 -- The grammar: types, expressions and bounds, each part of which is read one level down.
 use Rattle.std.specs.Prelude.{ℕ, zero, suc, nat_le, if◌then◌else◌, true, List, map, Some, None}
-use Rattle.node_core.specs.declared.generics.TypeParamBound.{TypeParamBound}
+use Rattle.expr_core.specs.declared.generics.TypeParamBound.{TypeParamBound}
 use Rattle.depth_core.specs.Depth.{deepest, bound_depth, expr_depth, type_depth}
 use Rattle.grammar_core.specs.Input.{Outcome}
 use Rattle.grammar_core.specs.Readers.{Readers, no_readers}

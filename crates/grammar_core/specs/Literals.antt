@@ -4,9 +4,9 @@ use Rattle.std.specs.List.{list_all}
 use Rattle.std.specs.Str.{chars}
 use Rattle.token_core.specs.declared.tree.Literal.{Literal}
 use Rattle.token_core.specs.declared.tree.TokenTree.{TokenTree}
-use Rattle.node_core.specs.declared.lit.Lit.{Lit}
-use Rattle.node_core.specs.declared.lit.Lit.TheVariants as lit
-use Rattle.node_core.specs.declared.lit.LitInt.{LitInt}
+use Rattle.expr_core.specs.declared.lit.Lit.{Lit}
+use Rattle.expr_core.specs.declared.lit.Lit.TheVariants as lit
+use Rattle.expr_core.specs.declared.lit.LitInt.{LitInt}
 use Rattle.scan_core.specs.Characters.{Characters}
 use Rattle.scan_core.specs.Numbers.{in_digits}
 use Rattle.scan_core.specs.Scan.{piece}

@@ -2,8 +2,8 @@
 use Rattle.std.specs.Prelude.{ℕ, Bool, true, false, ◌&&◌, ◌||◌, not, ◌==◌, if◌then◌else◌, List, Option, Some, None}
 use Rattle.token_core.specs.declared.tree.Delimiter.TheVariants as delimiter
 use Rattle.token_core.specs.declared.tree.TokenTree.{TokenTree}
-use Rattle.node_core.specs.declared.expr.BinOp.{BinOp}
-use Rattle.node_core.specs.declared.expr.BinOp.TheVariants as op
+use Rattle.expr_core.specs.declared.expr.BinOp.{BinOp}
+use Rattle.expr_core.specs.declared.expr.BinOp.TheVariants as op
 use Rattle.grammar_core.specs.declared.word.Word.{Word}
 use Rattle.grammar_core.specs.declared.word.Word.TheVariants as word
 use Rattle.grammar_core.specs.declared.look.TypeStart.{TypeStart}

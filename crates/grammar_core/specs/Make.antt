@@ -5,22 +5,22 @@ use Rattle.token_core.specs.declared.ident.Lifetime.{Lifetime}
 use Rattle.token_core.specs.declared.span.Span.{Span}
 use Rattle.token_core.specs.declared.tree.TokenTree.{TokenTree}
 use Rattle.token_core.specs.declared.tree.TokenStream.{roll-TokenStream}
-use Rattle.node_core.specs.declared.expr.Expr.{Expr}
-use Rattle.node_core.specs.declared.expr.Expr.TheVariants as expr
-use Rattle.node_core.specs.declared.expr.ExprPath.{roll-ExprPath}
-use Rattle.node_core.specs.declared.generics.TraitBound.{roll-TraitBound}
-use Rattle.node_core.specs.declared.generics.TypeParamBound.{TypeParamBound}
-use Rattle.node_core.specs.declared.generics.TypeParamBound.TheVariants as bound
-use Rattle.node_core.specs.declared.path.Path.{Path, roll-Path}
-use Rattle.node_core.specs.declared.path.PathArguments.{PathArguments}
-use Rattle.node_core.specs.declared.path.PathSegment.{PathSegment, roll-PathSegment}
-use Rattle.node_core.specs.declared.path.QSelf.{QSelf}
-use Rattle.node_core.specs.declared.ty.«Type».{«Type» as Ty}
-use Rattle.node_core.specs.declared.ty.«Type».TheVariants as ty
-use Rattle.node_core.specs.declared.ty.NamedArg.{NamedArg}
-use Rattle.node_core.specs.declared.ty.ReturnType.{ReturnType}
-use Rattle.node_core.specs.declared.ty.TypeArray.{roll-TypeArray}
-use Rattle.node_core.specs.declared.ty.TypePath.{roll-TypePath}
+use Rattle.expr_core.specs.declared.expr.Expr.{Expr}
+use Rattle.expr_core.specs.declared.expr.Expr.TheVariants as expr
+use Rattle.expr_core.specs.declared.expr.ExprPath.{roll-ExprPath}
+use Rattle.expr_core.specs.declared.generics.TraitBound.{roll-TraitBound}
+use Rattle.expr_core.specs.declared.generics.TypeParamBound.{TypeParamBound}
+use Rattle.expr_core.specs.declared.generics.TypeParamBound.TheVariants as bound
+use Rattle.expr_core.specs.declared.path.Path.{Path, roll-Path}
+use Rattle.expr_core.specs.declared.path.PathArguments.{PathArguments}
+use Rattle.expr_core.specs.declared.path.PathSegment.{PathSegment, roll-PathSegment}
+use Rattle.expr_core.specs.declared.path.QSelf.{QSelf}
+use Rattle.expr_core.specs.declared.ty.«Type».{«Type» as Ty}
+use Rattle.expr_core.specs.declared.ty.«Type».TheVariants as ty
+use Rattle.expr_core.specs.declared.ty.NamedArg.{NamedArg}
+use Rattle.expr_core.specs.declared.ty.ReturnType.{ReturnType}
+use Rattle.expr_core.specs.declared.ty.TypeArray.{roll-TypeArray}
+use Rattle.expr_core.specs.declared.ty.TypePath.{roll-TypePath}
 
 -- ---- paths
 

@@ -3,18 +3,18 @@ use Rattle.std.specs.Prelude.{Bool, true, false, if◌then◌else◌, List, [], 
 use Rattle.token_core.specs.declared.ident.Lifetime.{Lifetime}
 use Rattle.token_core.specs.declared.span.Span.{Span}
 use Rattle.token_core.specs.declared.tree.Delimiter.TheVariants as delimiter
-use Rattle.node_core.specs.declared.generics.TypeParamBound.{TypeParamBound}
-use Rattle.node_core.specs.declared.generics.TypeParamBound.TheVariants as bound
-use Rattle.node_core.specs.declared.path.GenericArgument.{GenericArgument}
-use Rattle.node_core.specs.declared.path.GenericArgument.TheVariants as generic
-use Rattle.node_core.specs.declared.path.Path.{Path}
-use Rattle.node_core.specs.declared.path.PathArguments.{PathArguments}
-use Rattle.node_core.specs.declared.path.PathArguments.TheVariants as made
-use Rattle.node_core.specs.declared.path.PathSegment.{PathSegment}
-use Rattle.node_core.specs.declared.path.QSelf.{QSelf}
-use Rattle.node_core.specs.declared.ty.«Type».{«Type» as Ty}
-use Rattle.node_core.specs.declared.ty.ReturnType.{ReturnType}
-use Rattle.node_core.specs.declared.ty.ReturnType.TheVariants as return
+use Rattle.expr_core.specs.declared.generics.TypeParamBound.{TypeParamBound}
+use Rattle.expr_core.specs.declared.generics.TypeParamBound.TheVariants as bound
+use Rattle.expr_core.specs.declared.path.GenericArgument.{GenericArgument}
+use Rattle.expr_core.specs.declared.path.GenericArgument.TheVariants as generic
+use Rattle.expr_core.specs.declared.path.Path.{Path}
+use Rattle.expr_core.specs.declared.path.PathArguments.{PathArguments}
+use Rattle.expr_core.specs.declared.path.PathArguments.TheVariants as made
+use Rattle.expr_core.specs.declared.path.PathSegment.{PathSegment}
+use Rattle.expr_core.specs.declared.path.QSelf.{QSelf}
+use Rattle.expr_core.specs.declared.ty.«Type».{«Type» as Ty}
+use Rattle.expr_core.specs.declared.ty.ReturnType.{ReturnType}
+use Rattle.expr_core.specs.declared.ty.ReturnType.TheVariants as return
 use Rattle.grammar_core.specs.declared.look.ArgumentsStart.{ArgumentsStart}
 use Rattle.grammar_core.specs.declared.look.ArgumentsStart.TheVariants as begin
 use Rattle.grammar_core.specs.declared.look.ArgumentStart.{ArgumentStart}

@@ -1,8 +1,8 @@
 -- The readers of the parts of a rule, which are one level further down.
 use Rattle.std.specs.Prelude.{ℕ, Bool, List}
-use Rattle.node_core.specs.declared.expr.Expr.{Expr}
-use Rattle.node_core.specs.declared.generics.TypeParamBound.{TypeParamBound}
-use Rattle.node_core.specs.declared.ty.«Type».{«Type» as Ty}
+use Rattle.expr_core.specs.declared.expr.Expr.{Expr}
+use Rattle.expr_core.specs.declared.generics.TypeParamBound.{TypeParamBound}
+use Rattle.expr_core.specs.declared.ty.«Type».{«Type» as Ty}
 use Rattle.grammar_core.specs.Input.{Parser, refuse}
 
 pub record Readers : Type 0 where

@@ -1,9 +1,9 @@
 -- The trees of whole lists of tokens.
 use Rattle.std.specs.Prelude.{true, List, Option, Some, None, if◌then◌else◌}
 use Rattle.token_core.specs.declared.tree.TokenStream.{TokenStream, out-TokenStream}
-use Rattle.node_core.specs.declared.expr.Expr.{Expr}
-use Rattle.node_core.specs.declared.path.Path.{Path}
-use Rattle.node_core.specs.declared.ty.«Type».{«Type» as Ty}
+use Rattle.expr_core.specs.declared.expr.Expr.{Expr}
+use Rattle.expr_core.specs.declared.path.Path.{Path}
+use Rattle.expr_core.specs.declared.ty.«Type».{«Type» as Ty}
 use Rattle.token_core.specs.declared.ident.Ident.{Ident}
 use Rattle.grammar_core.specs.Words.{name_of}
 use Rattle.grammar_core.specs.Input.{Outcome, Parser, start_of, take_as, is_end}

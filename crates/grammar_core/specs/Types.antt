@@ -4,8 +4,8 @@ use Rattle.token_core.specs.declared.ident.Ident.{Ident}
 use Rattle.token_core.specs.declared.span.Span.{Span}
 use Rattle.token_core.specs.declared.tree.Delimiter.TheVariants as delimiter
 use Rattle.token_core.specs.declared.tree.TokenTree.{TokenTree}
-use Rattle.node_core.specs.declared.ty.«Type».{«Type» as Ty}
-use Rattle.node_core.specs.declared.ty.NamedArg.{NamedArg}
+use Rattle.expr_core.specs.declared.ty.«Type».{«Type» as Ty}
+use Rattle.expr_core.specs.declared.ty.NamedArg.{NamedArg}
 use Rattle.grammar_core.specs.declared.look.TypeStart.{TypeStart}
 use Rattle.grammar_core.specs.declared.look.TypeStart.TheVariants as begin
 use Rattle.grammar_core.specs.declared.word.Word.TheVariants as word

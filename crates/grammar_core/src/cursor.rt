@@ -14,7 +14,7 @@ use crate::token::{
 };
 use crate::word::{Word, name_of, sees, segment_word};
 use base_core::{Items, Mem};
-use node_core::LitInt;
+use expr_core::LitInt;
 use std::alloc::Global;
 use std::marker::Model;
 use token_core::{Ident, Lifetime, Literal, Span, TokenTree, TryClone};

@@ -6,7 +6,7 @@ ghost use Rattle.grammar_core.specs.Literals as spec;
 use crate::token::literal_of;
 use base_core::Mem;
 use lit_core::Value;
-use node_core::{Lit, LitByte, LitByteStr, LitChar, LitFloat, LitInt, LitStr};
+use expr_core::{Lit, LitByte, LitByteStr, LitChar, LitFloat, LitInt, LitStr};
 use std::alloc::Global;
 use token_core::{Literal, TokenTree, TryClone};
 

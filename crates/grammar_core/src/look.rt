@@ -8,7 +8,7 @@ use crate::token::{
     is_mark, is_question, is_turbofish, lifetime_of, literal_of, mark_of,
 };
 use crate::word::{Word, next_word};
-use node_core::{BinOp, Delimiter, TokenTree};
+use expr_core::{BinOp, Delimiter, TokenTree};
 
 /// What begins a type.
 #[derive(Clone, Copy, Debug, PartialEq, Eq)]

@@ -5,9 +5,9 @@ use Rattle.token_core.specs.declared.span.Span.{Span}
 use Rattle.token_core.specs.declared.tree.TokenStream.{TokenStream}
 use Rattle.node_core.specs.declared.attr.Meta.{Meta}
 use Rattle.node_core.specs.declared.attr.Meta.TheVariants as meta
-use Rattle.node_core.specs.declared.expr.Expr.{Expr}
-use Rattle.node_core.specs.declared.lit.Lit.{Lit}
-use Rattle.node_core.specs.declared.lit.Lit.TheVariants as lit
+use Rattle.expr_core.specs.declared.expr.Expr.{Expr}
+use Rattle.expr_core.specs.declared.lit.Lit.{Lit}
+use Rattle.expr_core.specs.declared.lit.Lit.TheVariants as lit
 use Rattle.meta_core.specs.Nested.{nested_of}
 use Rattle.meta_core.specs.declared.nested.NestedMeta.{NestedMeta}
 use Rattle.meta_core.specs.declared.nested.NestedMeta.TheVariants as nested

@@ -8,12 +8,12 @@ use Rattle.token_core.specs.declared.tree.Group.{Group, out-Group}
 use Rattle.token_core.specs.declared.tree.TokenStream.{TokenStream, out-TokenStream}
 use Rattle.token_core.specs.declared.tree.TokenTree.{TokenTree, out-TokenTree}
 use Rattle.token_core.specs.declared.tree.TokenTree.TheOpen.{TokenTree-F}
-use Rattle.node_core.specs.PathText.{path_text}
+use Rattle.expr_core.specs.PathText.{path_text}
 use Rattle.node_core.specs.declared.attr.Meta.{Meta}
 use Rattle.node_core.specs.declared.attr.Meta.TheVariants as meta
-use Rattle.node_core.specs.declared.lit.Lit.{Lit}
-use Rattle.node_core.specs.declared.lit.Lit.TheVariants as lit
-use Rattle.node_core.specs.declared.path.Path.{Path, out-Path}
+use Rattle.expr_core.specs.declared.lit.Lit.{Lit}
+use Rattle.expr_core.specs.declared.lit.Lit.TheVariants as lit
+use Rattle.expr_core.specs.declared.path.Path.{Path, out-Path}
 use Rattle.meta_core.specs.declared.nested.NestedMeta.{NestedMeta}
 use Rattle.meta_core.specs.declared.nested.NestedMeta.TheVariants as nested
 

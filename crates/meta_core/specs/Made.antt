@@ -4,12 +4,12 @@ use Rattle.token_core.specs.Span.{joined}
 use Rattle.token_core.specs.declared.ident.Ident.{Ident}
 use Rattle.token_core.specs.declared.span.Span.{Span}
 use Rattle.token_core.specs.declared.tree.Literal.{Literal}
-use Rattle.node_core.specs.declared.path.Path.{Path, roll-Path}
-use Rattle.node_core.specs.declared.path.PathSegment.{PathSegment, roll-PathSegment}
-use Rattle.node_core.specs.declared.path.PathArguments.TheVariants as arguments
-use Rattle.node_core.specs.declared.lit.LitStr.{LitStr}
-use Rattle.node_core.specs.declared.lit.Lit.TheVariants as lit
-use Rattle.node_core.specs.declared.expr.Expr.TheVariants as expr
+use Rattle.expr_core.specs.declared.path.Path.{Path, roll-Path}
+use Rattle.expr_core.specs.declared.path.PathSegment.{PathSegment, roll-PathSegment}
+use Rattle.expr_core.specs.declared.path.PathArguments.TheVariants as arguments
+use Rattle.expr_core.specs.declared.lit.LitStr.{LitStr}
+use Rattle.expr_core.specs.declared.lit.Lit.TheVariants as lit
+use Rattle.expr_core.specs.declared.expr.Expr.TheVariants as expr
 use Rattle.node_core.specs.declared.attr.MetaNameValue.{MetaNameValue}
 
 -- one segment without arguments

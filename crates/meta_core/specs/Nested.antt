@@ -5,7 +5,7 @@ use Rattle.std.specs.Prelude.{ℕ, ◌-◌, ◌==◌, if◌then◌else◌, List,
 use Rattle.token_core.specs.declared.tree.TokenStream.{TokenStream}
 use Rattle.token_core.specs.declared.tree.TokenTree.{TokenTree}
 use Rattle.node_core.specs.declared.attr.Meta.TheVariants as meta
-use Rattle.node_core.specs.declared.lit.LitStr.{LitStr}
+use Rattle.expr_core.specs.declared.lit.LitStr.{LitStr}
 use Rattle.meta_core.specs.declared.nested.NestedMeta.{NestedMeta}
 use Rattle.meta_core.specs.declared.nested.NestedMeta.TheVariants as nested
 use Rattle.meta_core.specs.Tree.{◌>>=◌, word, mark, literal, trees_of}

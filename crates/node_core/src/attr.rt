@@ -1,5 +1,4 @@
-use crate::expr::Expr;
-use crate::path::Path;
+use expr_core::{Expr, Path};
 use token_core::{Delimiter, Span, TokenStream};
 
 /// `#[meta]`

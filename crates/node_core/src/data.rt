@@ -1,7 +1,5 @@
 use crate::attr::Attribute;
-use crate::expr::Expr;
-use crate::path::Path;
-use crate::ty::Type;
+use expr_core::{Expr, Path, Type};
 use token_core::{Ident, Items, Span};
 
 /// Nothing, `pub`, `pub(crate)`, or `pub(in path)`

@@ -1,7 +1,5 @@
 use crate::attr::Attribute;
-use crate::expr::Expr;
-use crate::path::Path;
-use crate::ty::Type;
+use expr_core::{Expr, Type, TypeParamBound};
 use token_core::{Ident, Items, Lifetime, Span};
 
 /// `<'a: 'b, T: Copy = u8, const N: usize = 8>`, with `where T: 'a` where it is written
@@ -57,30 +55,6 @@ pub struct ConstParam {
     pub ident: Ident,
     pub ty: Type,
     pub default: Option<Expr>,
-    #[derive_where(skip(EqHashOrd))]
-    pub span: Span,
-}
-
-/// One bound of `Copy + 'a`
-#[cycle(nodes)]
-#[derive(Drop)]
-#[derive_where(PartialEq, Eq, Hash)]
-pub enum TypeParamBound {
-    /// `Copy`, `?Sized`
-    Trait(TraitBound),
-    /// `'a`
-    Lifetime(Lifetime),
-}
-
-/// `Copy`, `?Sized`, `for<'a> Fn(&'a T) -> bool`
-#[cycle(nodes)]
-#[derive(Drop)]
-#[derive_where(PartialEq, Eq, Hash)]
-pub struct TraitBound {
-    /// Whether a `?` stands in front.
-    pub maybe: bool,
-    pub lifetimes: Items<Lifetime>,
-    pub path: Path,
     #[derive_where(skip(EqHashOrd))]
     pub span: Span,
 }

@@ -24,20 +24,20 @@ use Rattle.node_core.specs.declared.data.DataStruct.{DataStruct}
 use Rattle.node_core.specs.declared.data.DataEnum.{DataEnum}
 use Rattle.node_core.specs.declared.data.DataUnion.{DataUnion}
 use Rattle.node_core.specs.declared.derive.DeriveInput.{DeriveInput}
-use Rattle.node_core.specs.declared.expr.Expr.{Expr}
-use Rattle.node_core.specs.declared.expr.Expr.TheOpen.{Type-F}
+use Rattle.expr_core.specs.declared.expr.Expr.{Expr}
+use Rattle.expr_core.specs.declared.expr.Expr.TheOpen.{Type-F}
 use Rattle.node_core.specs.declared.generics.Generics.{Generics}
 use Rattle.node_core.specs.declared.generics.GenericParam.{GenericParam}
 use Rattle.node_core.specs.declared.generics.GenericParam.TheVariants as param
 use Rattle.node_core.specs.declared.generics.LifetimeParam.{LifetimeParam}
 use Rattle.node_core.specs.declared.generics.TypeParam.{TypeParam}
-use Rattle.node_core.specs.declared.generics.TypeParamBound.{TypeParamBound}
+use Rattle.expr_core.specs.declared.generics.TypeParamBound.{TypeParamBound}
 use Rattle.node_core.specs.declared.generics.ConstParam.{ConstParam}
 use Rattle.node_core.specs.declared.generics.WhereClause.{WhereClause}
 use Rattle.node_core.specs.declared.generics.WherePredicate.{WherePredicate}
 use Rattle.node_core.specs.declared.generics.WherePredicate.TheVariants as predicate
-use Rattle.node_core.specs.declared.ty.«Type».{«Type» as Type', out-Type}
-use Rattle.node_core.specs.declared.ty.FnArg.{FnArg}
+use Rattle.expr_core.specs.declared.ty.«Type».{«Type» as Type', out-Type}
+use Rattle.expr_core.specs.declared.ty.FnArg.{FnArg}
 use Rattle.print_core.specs.declared.path.PathStyle.TheVariants.{Plain}
 use Rattle.print_core.specs.Marks.{Trees, contents, ident, lifetime, mark, word, group, comma, joined, unless_empty, optional}
 use Rattle.print_core.specs.Paths.{angled, binder, sum_of}

@@ -5,10 +5,10 @@ use Rattle.std.specs.Prelude.{ℕ, Bool, ◌==◌, if◌then◌else◌, List, []
 use Rattle.token_core.specs.declared.span.Span.{Span}
 use Rattle.token_core.specs.declared.ident.Lifetime.{Lifetime}
 use Rattle.token_core.specs.declared.tree.Delimiter.TheVariants.{Parenthesis}
-use Rattle.node_core.specs.declared.path.QSelf.{QSelf}
-use Rattle.node_core.specs.declared.ty.ReturnType.{ReturnType}
-use Rattle.node_core.specs.declared.ty.ReturnType.TheVariants.{Default, Ty}
-use Rattle.node_core.specs.declared.expr.Expr.TheOpen.{GenericArgument-F, PathArguments-F, Path-F, PathSegment-F, ExprPath-F, TypePath-F, TypeParamBound-F, TraitBound-F}
+use Rattle.expr_core.specs.declared.path.QSelf.{QSelf}
+use Rattle.expr_core.specs.declared.ty.ReturnType.{ReturnType}
+use Rattle.expr_core.specs.declared.ty.ReturnType.TheVariants.{Default, Ty}
+use Rattle.expr_core.specs.declared.expr.Expr.TheOpen.{GenericArgument-F, PathArguments-F, Path-F, PathSegment-F, ExprPath-F, TypePath-F, TypeParamBound-F, TraitBound-F}
 use Rattle.print_core.specs.declared.path.PathStyle.{PathStyle}
 use Rattle.print_core.specs.declared.path.PathStyle.TheVariants.{Plain, Turbofish}
 use Rattle.print_core.specs.Marks.{Trees, ident, lifetime, mark, word, group, comma, plus, colons, after, joined, unless_empty}

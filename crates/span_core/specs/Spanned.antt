@@ -9,7 +9,7 @@ use Rattle.token_core.specs.declared.tree.Group.{Group, out-Group}
 use Rattle.token_core.specs.declared.tree.TokenStream.{TokenStream, out-TokenStream}
 use Rattle.token_core.specs.declared.tree.TokenTree.{TokenTree, out-TokenTree}
 use Rattle.token_core.specs.declared.tree.TokenTree.TheOpen.{TokenTree-F}
-use Rattle.node_core.specs.Layers.{ExprLayer, GenericArgumentLayer, PathArgumentsLayer, TypeLayer, TypeParamBoundLayer}
+use Rattle.expr_core.specs.Layers.{ExprLayer, GenericArgumentLayer, PathArgumentsLayer, TypeLayer, TypeParamBoundLayer}
 use Rattle.node_core.specs.declared.attr.Meta.{Meta}
 use Rattle.node_core.specs.declared.attr.Meta.TheVariants as meta
 use Rattle.node_core.specs.declared.data.Data.{Data}
@@ -18,29 +18,29 @@ use Rattle.node_core.specs.declared.data.Fields.{Fields}
 use Rattle.node_core.specs.declared.data.Fields.TheVariants as fields
 use Rattle.node_core.specs.declared.data.Visibility.{Visibility}
 use Rattle.node_core.specs.declared.data.Visibility.TheVariants as visibility
-use Rattle.node_core.specs.declared.expr.Expr.{Expr, out-Expr}
-use Rattle.node_core.specs.declared.expr.Expr.TheOpen.{Expr-F, GenericArgument-F, PathArguments-F, Type-F, TypeParamBound-F}
-use Rattle.node_core.specs.declared.expr.ExprPath.{ExprPath, out-ExprPath}
-use Rattle.node_core.specs.declared.expr.Member.{Member}
-use Rattle.node_core.specs.declared.expr.Member.TheVariants as member
+use Rattle.expr_core.specs.declared.expr.Expr.{Expr, out-Expr}
+use Rattle.expr_core.specs.declared.expr.Expr.TheOpen.{Expr-F, GenericArgument-F, PathArguments-F, Type-F, TypeParamBound-F}
+use Rattle.expr_core.specs.declared.expr.ExprPath.{ExprPath, out-ExprPath}
+use Rattle.expr_core.specs.declared.expr.Member.{Member}
+use Rattle.expr_core.specs.declared.expr.Member.TheVariants as member
 use Rattle.node_core.specs.declared.generics.GenericParam.{GenericParam}
 use Rattle.node_core.specs.declared.generics.GenericParam.TheVariants as param
 use Rattle.node_core.specs.declared.generics.Generics.{Generics}
-use Rattle.node_core.specs.declared.generics.TraitBound.{TraitBound, out-TraitBound}
-use Rattle.node_core.specs.declared.generics.TypeParamBound.{TypeParamBound, out-TypeParamBound}
+use Rattle.expr_core.specs.declared.generics.TraitBound.{TraitBound, out-TraitBound}
+use Rattle.expr_core.specs.declared.generics.TypeParamBound.{TypeParamBound, out-TypeParamBound}
 use Rattle.node_core.specs.declared.generics.WherePredicate.{WherePredicate}
 use Rattle.node_core.specs.declared.generics.WherePredicate.TheVariants as predicate
-use Rattle.node_core.specs.declared.lit.Lit.{Lit}
-use Rattle.node_core.specs.declared.lit.Lit.TheVariants as lit
-use Rattle.node_core.specs.declared.path.GenericArgument.{GenericArgument, out-GenericArgument}
-use Rattle.node_core.specs.declared.path.Path.{Path, out-Path}
-use Rattle.node_core.specs.declared.path.PathArguments.{PathArguments, out-PathArguments}
-use Rattle.node_core.specs.declared.path.PathSegment.{PathSegment, out-PathSegment}
-use Rattle.node_core.specs.declared.ty.ReturnType.{ReturnType}
-use Rattle.node_core.specs.declared.ty.ReturnType.TheVariants as output
-use Rattle.node_core.specs.declared.ty.«Type».{«Type» as Type', out-Type}
-use Rattle.node_core.specs.declared.ty.TypeArray.{TypeArray, out-TypeArray}
-use Rattle.node_core.specs.declared.ty.TypePath.{TypePath, out-TypePath}
+use Rattle.expr_core.specs.declared.lit.Lit.{Lit}
+use Rattle.expr_core.specs.declared.lit.Lit.TheVariants as lit
+use Rattle.expr_core.specs.declared.path.GenericArgument.{GenericArgument, out-GenericArgument}
+use Rattle.expr_core.specs.declared.path.Path.{Path, out-Path}
+use Rattle.expr_core.specs.declared.path.PathArguments.{PathArguments, out-PathArguments}
+use Rattle.expr_core.specs.declared.path.PathSegment.{PathSegment, out-PathSegment}
+use Rattle.expr_core.specs.declared.ty.ReturnType.{ReturnType}
+use Rattle.expr_core.specs.declared.ty.ReturnType.TheVariants as output
+use Rattle.expr_core.specs.declared.ty.«Type».{«Type» as Type', out-Type}
+use Rattle.expr_core.specs.declared.ty.TypeArray.{TypeArray, out-TypeArray}
+use Rattle.expr_core.specs.declared.ty.TypePath.{TypePath, out-TypePath}
 
 -- the last of one span and more
 abbrev pub last_of : Span → List Span → Span

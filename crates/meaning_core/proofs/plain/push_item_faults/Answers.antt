@@ -1,6 +1,6 @@
 use Rattle.std.proofs.Common.{◌≡◌, ◌∙◌, ◌++◌, ap, refl, map}
 use Rattle.std.proofs.lemmas.Result.{on_ok_weaker}
-use Rattle.node_core.specs.PathText.{path_text}
+use Rattle.expr_core.specs.PathText.{path_text}
 use Rattle.meaning_core.specs.Node.{meta_name}
 use Rattle.meaning_core.specs.Entries.{items}
 use Rattle.meaning_core.specs.Owners.{own}

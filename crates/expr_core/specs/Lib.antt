@@ -1,0 +1,5 @@
+pub mod Folds
+pub mod Layers
+pub mod Make
+pub mod PathIdent
+pub mod PathText
