@@ -12,4 +12,5 @@ pub mod Literals
 pub mod Expressions
 pub mod Grammar
 pub mod Reads
+pub mod Arguments
 pub mod Trees

@@ -1,14 +1,21 @@
 -- The trees of whole lists of tokens.
 use Rattle.std.specs.Prelude.{true, List, Option, Some, None, if◌then◌else◌}
 use Rattle.token_core.specs.declared.tree.TokenStream.{TokenStream, out-TokenStream}
-use Rattle.expr_core.specs.declared.expr.Expr.{Expr}
+use Rattle.expr_core.specs.declared.expr.Expr.{Expr, out-Expr}
+use Rattle.expr_core.specs.declared.expr.Expr.TheOpen.{Expr-F}
+use Rattle.expr_core.specs.declared.expr.ExprArray.{ExprArray}
+use Rattle.expr_core.specs.declared.expr.ExprPath.{ExprPath}
+use Rattle.expr_core.specs.declared.expr.ExprRange.{ExprRange}
+use Rattle.expr_core.specs.Layers.{ExprLayer}
 use Rattle.expr_core.specs.declared.path.Path.{Path}
 use Rattle.expr_core.specs.declared.ty.«Type».{«Type» as Ty}
+use Rattle.expr_core.specs.declared.ty.FnArg.{FnArg}
 use Rattle.token_core.specs.declared.ident.Ident.{Ident}
 use Rattle.grammar_core.specs.Words.{name_of}
 use Rattle.grammar_core.specs.Input.{Outcome, Parser, start_of, take_as, is_end}
 use Rattle.grammar_core.specs.Readers.{any_level}
 use Rattle.grammar_core.specs.Paths.{list, path}
+use Rattle.grammar_core.specs.Arguments.{fn_arg}
 use Rattle.grammar_core.specs.Grammar.{within, max_depth}
 
 abbrev pub all : {A : Type 0} → Outcome A → Option A
@@ -40,3 +47,35 @@ idents_of = whole (list (take_as name_of))
 
 unfoldable pub paths_of : TokenStream → Option (List Path)
 paths_of = whole (list (path (within max_depth) true))
+
+-- the arguments of a function
+unfoldable pub fn_args_of : TokenStream → Option (List FnArg)
+fn_args_of = whole (list (fn_arg (within max_depth)))
+
+-- ---- expressions of one kind
+
+-- the part that an expression of the kind has
+abbrev pub of_kind : {A : Type 0} → (ExprLayer → Option A) → Option Expr → Option A
+of_kind part (Some expr) = part (out-Expr expr)
+of_kind part None = None
+
+abbrev pub array_in : ExprLayer → Option (ExprArray Expr)
+array_in (Expr-F.Expr::Array array) = Some array
+array_in _ = None
+
+abbrev pub path_in : ExprLayer → Option ExprPath
+path_in (Expr-F.Expr::Path path) = Some path
+path_in _ = None
+
+abbrev pub range_in : ExprLayer → Option (ExprRange Expr)
+range_in (Expr-F.Range range) = Some range
+range_in _ = None
+
+unfoldable pub expr_array_of : TokenStream → Option (ExprArray Expr)
+expr_array_of tokens = of_kind array_in (expr_of tokens)
+
+unfoldable pub expr_path_of : TokenStream → Option ExprPath
+expr_path_of tokens = of_kind path_in (expr_of tokens)
+
+unfoldable pub expr_range_of : TokenStream → Option (ExprRange Expr)
+expr_range_of tokens = of_kind range_in (expr_of tokens)

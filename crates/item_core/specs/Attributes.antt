@@ -1,0 +1,127 @@
+-- Attributes, and the meta items in them.
+use Rattle.std.specs.Prelude.{Bool, true, false, if◌then◌else◌, List, [], ◌∷◌, Option, Some, None}
+use Rattle.token_core.specs.declared.span.Span.{Span}
+use Rattle.token_core.specs.declared.tree.Delimiter.{Delimiter}
+use Rattle.token_core.specs.declared.tree.Delimiter.TheVariants as delimiter
+use Rattle.token_core.specs.declared.tree.Group.{out-Group}
+use Rattle.token_core.specs.declared.tree.TokenStream.{roll-TokenStream}
+use Rattle.token_core.specs.declared.tree.TokenTree.{TokenTree, out-TokenTree}
+use Rattle.token_core.specs.declared.tree.TokenTree.TheOpen.{TokenTree-F}
+use Rattle.expr_core.specs.Make.{make_path, make_segment}
+use Rattle.expr_core.specs.declared.expr.Expr.{Expr}
+use Rattle.expr_core.specs.declared.expr.Expr.TheVariants as expr
+use Rattle.expr_core.specs.declared.lit.Lit.{Lit}
+use Rattle.expr_core.specs.declared.lit.Lit.TheVariants as lit
+use Rattle.expr_core.specs.declared.path.Path.{Path}
+use Rattle.expr_core.specs.declared.path.PathArguments.TheVariants as arguments
+use Rattle.expr_core.specs.declared.path.PathSegment.{PathSegment}
+use Rattle.node_core.specs.declared.attr.Attribute.{Attribute}
+use Rattle.node_core.specs.declared.attr.Meta.{Meta}
+use Rattle.node_core.specs.declared.attr.Meta.TheVariants as made
+use Rattle.grammar_core.specs.Token.{Layer, ident_of, literal_of, contents_of, is_colons, is_equals, is_mark}
+use Rattle.grammar_core.specs.Input.{Parser, ◌>>=◌, ◌>>◌, ◌<$>◌, pure, refuse, test, start_of, here, upto, skip, eat, expect, take_as, at_end, inside, joined_by}
+use Rattle.grammar_core.specs.Literals.{lit_of}
+use Rattle.grammar_core.specs.Readers.{any_level}
+use Rattle.grammar_core.specs.Grammar.{within, max_depth}
+use Rattle.grammar_core.specs.Trees.{all}
+use Rattle.item_core.specs.Lists.{given, take_all, each_while}
+
+-- ---- paths of any words, keywords and `_` too
+
+unfoldable pub meta_segment : Parser PathSegment
+meta_segment = do
+  start ← here
+  ident ← take_as ident_of
+  span ← upto start
+  pure (make_segment ident arguments.None span)
+
+unfoldable pub meta_path : Parser Path
+meta_path = do
+  start ← here
+  leading_colon ← eat 2 is_colons
+  segments ← joined_by (eat 2 is_colons) meta_segment
+  span ← upto start
+  pure (make_path leading_colon segments span)
+
+-- ---- values
+
+-- a number with a minus before it; other literals have none
+abbrev pub negative : Span → Lit → Option Lit
+negative span (lit.Int it) = Some (lit.Int (record it { negative = true; span = span }))
+negative span (lit.Float it) = Some (lit.Float (record it { negative = true; span = span }))
+negative span _ = None
+
+-- `-1`, `-1.5`: 45 is the minus
+unfoldable pub signed : Parser Lit
+signed = do
+  start ← here
+  minus ← expect 1 (is_mark 45)
+  token ← take_as literal_of
+  span ← upto start
+  given (negative span (lit_of token))
+
+abbrev pub value_by : List TokenTree → Option Lit → Option Expr → Expr
+value_by trees (Some number) found = expr.Lit number
+value_by trees None (Some found) = found
+value_by trees None None = expr.Verbatim (roll-TokenStream (record { trees = trees }))
+
+-- What tokens are as the value of an attribute: a number with its sign, or an expression; else they are kept.
+unfoldable pub value_of : List TokenTree → Expr
+value_of trees = value_by trees (all (signed (start_of trees))) (all ((within max_depth).expr any_level (start_of trees)))
+
+-- ---- meta items
+
+abbrev pub delimiter_in : Layer → Option Delimiter
+delimiter_in (TokenTree-F.Group group) = Some (out-Group group).delimiter
+delimiter_in _ = None
+
+-- between which delimiters the group stands that comes next
+unfoldable pub delimiter_of : List TokenTree → Option Delimiter
+delimiter_of [] = None
+delimiter_of (tree ∷ trees) = delimiter_in (out-TokenTree tree)
+
+-- the group behind the path
+unfoldable pub meta_list : Span → Path → Delimiter → Parser Meta
+meta_list start path between = do
+  tokens ← test contents_of
+  group ← skip
+  span ← upto start
+  pure (made.List (record { path = path; delimiter = between; tokens = roll-TokenStream (record { trees = tokens }); span = span }))
+
+-- `=` and at least one token behind the path
+unfoldable pub name_value : Span → Path → Parser Meta
+name_value start path = do
+  eq_span ← here
+  equals ← expect 1 is_equals
+  none ← at_end
+  if none then refuse else (do
+    value ← take_all
+    span ← upto start
+    pure (made.NameValue (record { path = path; eq_span = eq_span; value = value_of value; span = span })))
+
+abbrev pub meta_by : Span → Path → Option Delimiter → Parser Meta
+meta_by start path (Some between) = meta_list start path between
+meta_by start path None = do
+  done ← at_end
+  if done then pure (made.Path path) else name_value start path
+
+-- `path`, `path(tokens)`, `path = value`
+unfoldable pub meta : Parser Meta
+meta = do
+  start ← here
+  path ← meta_path
+  grouped ← test delimiter_of
+  meta_by start path grouped
+
+-- `#[meta]`: 35 is the `#`
+unfoldable pub attribute : Parser Attribute
+attribute = do
+  start ← here
+  hash ← expect 1 (is_mark 35)
+  found ← inside delimiter.Bracket meta
+  span ← upto start
+  pure (record { meta = found; span = span })
+
+-- the attributes that come next
+unfoldable pub attributes : Parser (List Attribute)
+attributes = each_while (is_mark 35) attribute

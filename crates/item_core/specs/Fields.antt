@@ -1,0 +1,78 @@
+-- Fields and variants.
+use Rattle.std.specs.Prelude.{Bool, true, false, if◌then◌else◌, List, Option, Some, None}
+use Rattle.token_core.specs.declared.span.Span.{Span}
+use Rattle.token_core.specs.declared.tree.Delimiter.TheVariants as delimiter
+use Rattle.node_core.specs.declared.data.Field.{Field}
+use Rattle.node_core.specs.declared.data.Fields.{Fields}
+use Rattle.node_core.specs.declared.data.Fields.TheVariants as made
+use Rattle.node_core.specs.declared.data.FieldsNamed.{FieldsNamed}
+use Rattle.node_core.specs.declared.data.FieldsUnnamed.{FieldsUnnamed}
+use Rattle.node_core.specs.declared.data.Variant.{Variant}
+use Rattle.grammar_core.specs.Token.{is_colon, is_equals, is_group}
+use Rattle.grammar_core.specs.Words.{name_of}
+use Rattle.grammar_core.specs.Input.{Parser, ◌>>=◌, ◌>>◌, ◌<$>◌, pure, test, here, upto, expect, take_as, inside}
+use Rattle.grammar_core.specs.Readers.{any_level}
+use Rattle.grammar_core.specs.Grammar.{within, max_depth}
+use Rattle.grammar_core.specs.Paths.{list}
+use Rattle.item_core.specs.Attributes.{attributes}
+use Rattle.item_core.specs.Generics.{behind}
+use Rattle.item_core.specs.Visibility.{visibility}
+
+-- `#[attr] pub name: T`
+unfoldable pub named_field : Parser Field
+named_field = do
+  start ← here
+  attrs ← attributes
+  vis ← visibility
+  ident ← take_as name_of
+  colon ← expect 1 is_colon
+  ty ← (within max_depth).ty true
+  span ← upto start
+  pure (record { attrs = attrs; vis = vis; ident = Some ident; ty = ty; span = span })
+
+-- `#[attr] pub T`
+unfoldable pub unnamed_field : Parser Field
+unnamed_field = do
+  start ← here
+  attrs ← attributes
+  vis ← visibility
+  ty ← (within max_depth).ty true
+  span ← upto start
+  pure (record { attrs = attrs; vis = vis; ident = None; ty = ty; span = span })
+
+-- `{ a: A, b: B }`
+unfoldable pub fields_named : Parser FieldsNamed
+fields_named = do
+  span ← here
+  found ← inside delimiter.Brace (list named_field)
+  pure (record { named = found; span = span })
+
+-- `(A, B)`
+unfoldable pub fields_unnamed : Parser FieldsUnnamed
+fields_unnamed = do
+  span ← here
+  found ← inside delimiter.Parenthesis (list unnamed_field)
+  pure (record { unnamed = found; span = span })
+
+abbrev pub fields_by : Bool → Bool → Parser Fields
+fields_by true unnamed = made.Named <$> fields_named
+fields_by false true = made.Unnamed <$> fields_unnamed
+fields_by false false = pure made.Unit
+
+-- the fields of a variant
+unfoldable pub fields : Parser Fields
+fields = do
+  named ← test (is_group delimiter.Brace)
+  unnamed ← test (is_group delimiter.Parenthesis)
+  fields_by named unnamed
+
+-- `#[attr] Name(A, B) = 1`
+unfoldable pub variant : Parser Variant
+variant = do
+  start ← here
+  attrs ← attributes
+  ident ← take_as name_of
+  found ← fields
+  discriminant ← behind is_equals None (Some <$> (within max_depth).expr any_level)
+  span ← upto start
+  pure (record { attrs = attrs; ident = ident; fields = found; discriminant = discriminant; span = span })

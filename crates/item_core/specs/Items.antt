@@ -1,0 +1,114 @@
+-- Items: structs, enums and unions.
+use Rattle.std.specs.Prelude.{Bool, true, false, if◌then◌else◌, List, codes, Option, Some, None}
+use Rattle.token_core.specs.declared.ident.Ident.{Ident}
+use Rattle.token_core.specs.declared.span.Span.{Span}
+use Rattle.token_core.specs.declared.tree.Delimiter.TheVariants as delimiter
+use Rattle.token_core.specs.declared.tree.TokenTree.{TokenTree}
+use Rattle.node_core.specs.declared.data.«Data».{«Data»}
+use Rattle.node_core.specs.declared.data.«Data».TheVariants as body
+use Rattle.node_core.specs.declared.data.Fields.TheVariants as made
+use Rattle.node_core.specs.declared.derive.DeriveInput.{DeriveInput}
+use Rattle.node_core.specs.declared.generics.WhereClause.{WhereClause}
+use Rattle.grammar_core.specs.declared.word.Word.{Word}
+use Rattle.grammar_core.specs.declared.word.Word.TheVariants as word
+use Rattle.grammar_core.specs.Token.{ident_of, is_group, is_semicolon}
+use Rattle.grammar_core.specs.Words.{name_of, next_word, same_text}
+use Rattle.grammar_core.specs.Input.{Parser, ◌>>=◌, ◌>>◌, ◌<$>◌, pure, refuse, test, here, upto, skip, expect, take_as, inside}
+use Rattle.grammar_core.specs.Paths.{list}
+use Rattle.item_core.specs.declared.look.ItemStart.{ItemStart}
+use Rattle.item_core.specs.declared.look.ItemStart.TheVariants as begin
+use Rattle.item_core.specs.Attributes.{attributes}
+use Rattle.item_core.specs.Fields.{fields_named, fields_unnamed, variant}
+use Rattle.item_core.specs.Generics.{maybe_where, params}
+use Rattle.item_core.specs.Visibility.{visibility}
+
+-- ---- which item it is
+
+-- `union` is no keyword: it is one where an item may begin
+abbrev pub is_union : Option Ident → Bool
+is_union (Some ident) = if ident.raw then false else same_text ident.text (codes "union")
+is_union None = false
+
+abbrev pub start_by : Word → Bool → ItemStart
+start_by word.Struct union = begin.Struct
+start_by word.Enum union = begin.Enum
+start_by _ true = begin.Union
+start_by _ false = begin.Nothing
+
+-- which item begins at its keyword
+unfoldable pub item_start : List TokenTree → ItemStart
+item_start trees = start_by (next_word trees) (is_union (ident_of trees))
+
+-- ---- bodies, each with the `where` clause that stands before or in it
+
+-- `(A, B) where ..;`
+unfoldable pub tuple_struct : Parser (Option WhereClause × «Data»)
+tuple_struct = do
+  start ← here
+  unnamed ← fields_unnamed
+  clause ← maybe_where
+  end ← expect 1 is_semicolon
+  span ← upto start
+  pure (clause, body.Struct (record { fields = made.Unnamed unnamed; span = span }))
+
+-- `{ a: A }`, or `;`
+unfoldable pub other_struct : Parser «Data»
+other_struct = do
+  span ← here
+  braced ← test (is_group delimiter.Brace)
+  if braced then (λ named. body.Struct (record { fields = made.Named named; span = span })) <$> fields_named
+      else expect 1 is_semicolon >> pure (body.Struct (record { fields = made.Unit; span = span }))
+
+-- `{ A, B(T) }`
+unfoldable pub variants : Parser «Data»
+variants = do
+  span ← here
+  found ← inside delimiter.Brace (list variant)
+  pure (body.Enum (record { variants = found; span = span }))
+
+unfoldable pub union_fields : Parser «Data»
+union_fields = do
+  span ← here
+  named ← fields_named
+  pure (body.Union (record { fields = named; span = span }))
+
+-- a body behind its clause
+abbrev pub behind_where : Parser «Data» → Parser (Option WhereClause × «Data»)
+behind_where parser = do
+  clause ← maybe_where
+  found ← parser
+  pure (clause, found)
+
+unfoldable pub struct_body : Parser (Option WhereClause × «Data»)
+struct_body = do
+  unnamed ← test (is_group delimiter.Parenthesis)
+  if unnamed then tuple_struct else behind_where other_struct
+
+abbrev pub body_by : ItemStart → Parser (Option WhereClause × «Data»)
+body_by begin.Struct = struct_body
+body_by begin.Enum = behind_where variants
+body_by begin.Union = behind_where union_fields
+body_by begin.Nothing = refuse
+
+-- ---- a whole item
+
+-- `#[attr] pub struct Name<T> where .. { a: T }`
+unfoldable pub item : Parser DeriveInput
+item = do
+  start ← here
+  attrs ← attributes
+  vis ← visibility
+  begins ← test item_start
+  keyword ← skip
+  ident ← take_as name_of
+  generics ← params
+  found ← body_by begins
+  span ← upto start
+  pure (record {
+    attrs = attrs;
+    vis = vis;
+    ident = ident;
+    generics = record { params = generics.0; where_clause = found.0; span = generics.1 };
+    body = found.1;
+    span = span;
+  })
