@@ -11,6 +11,7 @@ mod data;
 mod derive;
 mod error;
 mod generics;
+mod laws;
 mod punctuated;
 
 pub use attr::{Attribute, Meta, MetaList, MetaNameValue};
@@ -32,4 +33,5 @@ pub use expr_core::{
 pub use generics::{
     ConstParam, GenericParam, Generics, LifetimeParam, TypeParam, WhereClause, WherePredicate,
 };
+pub use laws::equality_of_items_ignores_their_span;
 pub use punctuated::{Comma, Punctuated};

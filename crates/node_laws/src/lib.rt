@@ -182,7 +182,6 @@ pub fn equality_ignores_the_span()
     ensures data_struct { (a : DataStruct) (span : Span) → ⟦<DataStruct as PartialEq>⟧.eq a (record a { span = span }) ≡ true }
     ensures data_enum { (a : DataEnum) (span : Span) → ⟦<DataEnum as PartialEq>⟧.eq a (record a { span = span }) ≡ true }
     ensures data_union { (a : DataUnion) (span : Span) → ⟦<DataUnion as PartialEq>⟧.eq a (record a { span = span }) ≡ true }
-    ensures derive_input { (a : DeriveInput) (span : Span) → ⟦<DeriveInput as PartialEq>⟧.eq a (record a { span = span }) ≡ true }
     ensures generics { (a : Generics) (span : Span) → ⟦<Generics as PartialEq>⟧.eq a (record a { span = span }) ≡ true }
     ensures lifetime_param { (a : LifetimeParam) (span : Span) → ⟦<LifetimeParam as PartialEq>⟧.eq a (record a { span = span }) ≡ true }
     ensures type_param { (a : TypeParam) (span : Span) → ⟦<TypeParam as PartialEq>⟧.eq a (record a { span = span }) ≡ true }

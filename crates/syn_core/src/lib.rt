@@ -3,6 +3,5 @@
 #![tactic(auto)]
 
 mod list;
-mod rules;
 
 pub use list::{Joint, Parse, items_after, joined_by, until};

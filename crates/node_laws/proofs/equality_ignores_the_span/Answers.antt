@@ -8,7 +8,6 @@ use Rattle.node_core.specs.contracts.data.VariantEq.TheImpl.Laws as variant
 use Rattle.node_core.specs.contracts.data.DataStructEq.TheImpl.Laws as data_struct
 use Rattle.node_core.specs.contracts.data.DataEnumEq.TheImpl.Laws as data_enum
 use Rattle.node_core.specs.contracts.data.DataUnionEq.TheImpl.Laws as data_union
-use Rattle.node_core.specs.contracts.derive.DeriveInputEq.TheImpl.Laws as derive_input
 use Rattle.node_core.specs.contracts.generics.GenericsEq.TheImpl.Laws as generics
 use Rattle.node_core.specs.contracts.generics.LifetimeParamEq.TheImpl.Laws as lifetime_param
 use Rattle.node_core.specs.contracts.generics.TypeParamEq.TheImpl.Laws as type_param
@@ -55,9 +54,6 @@ returns-clause-data_enum c = λ a span. data_enum.laws-law.refl a
 
 pub returns-clause-data_union : goal.returns-clause-data_union
 returns-clause-data_union c = λ a span. data_union.laws-law.refl a
-
-pub returns-clause-derive_input : goal.returns-clause-derive_input
-returns-clause-derive_input c = λ a span. derive_input.laws-law.refl a
 
 pub returns-clause-generics : goal.returns-clause-generics
 returns-clause-generics c = λ a span. generics.laws-law.refl a
