@@ -357,15 +357,19 @@ fn refuses<T: Drop>(alloc: Global, outcome: Result<T>, text: &str) -> Mem<bool> 
     }
 }
 
+fn starts_anew(outcome: Result<Accumulator>) -> bool {
+    match outcome {
+        Ok(fresh) => fresh.into_inner().is_empty(),
+        Err(_) => false,
+    }
+}
+
 #[test]
 fn an_accumulator_gives_its_value_where_it_holds_no_error(rt: HostRuntime) -> Tested {
     let alloc = rt.alloc();
-    assert!(rt; matches!(Error::accumulator(alloc).finish_with(5), Ok(5)));
-    assert!(rt; matches!(Error::accumulator(alloc).finish(), Ok(())));
-    match Error::accumulator(alloc).checkpoint() {
-        Ok(fresh) => assert!(rt; fresh.into_inner().is_empty()),
-        Err(_) => assert!(rt; false),
-    }
+    assert!(rt; Error::accumulator(alloc).finish_with(5).ok() == Some(5));
+    assert!(rt; Error::accumulator(alloc).finish().is_ok());
+    assert!(rt; starts_anew(Error::accumulator(alloc).checkpoint()));
     let mut errors = Error::accumulator(alloc);
     let collected = collect(&mut errors, alloc);
     let outcome = errors.finish_with(5);
@@ -460,62 +464,19 @@ fn deep(alloc: Global, levels: usize) -> Mem<Error> {
 }
 
 #[test]
-fn deep_drop(rt: HostRuntime) -> Tested {
+fn trees_of_many_levels_keep_within_the_stack(rt: HostRuntime) -> Tested {
     let alloc = rt.alloc();
-    assert!(rt; deep(alloc, LEVELS)?.len() == LEVELS + 1);
-    Ok(())
-}
-
-#[test]
-fn deep_faults(rt: HostRuntime) -> Tested {
-    let alloc = rt.alloc();
-    let faults = deep(alloc, LEVELS)?.into_faults(alloc)?;
-    assert!(rt; faults.len() == LEVELS + 1);
-    Ok(())
-}
-
-#[test]
-fn deep_flatten(rt: HostRuntime) -> Tested {
-    let alloc = rt.alloc();
+    let tree = deep(alloc, LEVELS)?;
+    assert!(rt; tree.len() == LEVELS + 1);
+    // `Multiple errors: (`, `, ` and `)` in each level, and the text of each leaf
+    assert!(rt; tree.to_text(alloc)?.len() == LEVELS * 21 + (LEVELS + 1) * 18);
+    let mut children = tree.into_iter(alloc)?;
+    assert!(rt; children.next().is_some());
     assert!(rt; deep(alloc, LEVELS)?.flatten(alloc)?.len() == LEVELS + 1);
-    Ok(())
-}
-
-#[test]
-fn deep_text(rt: HostRuntime) -> Tested {
-    let alloc = rt.alloc();
-    let t = deep(alloc, LEVELS)?;
-    assert!(rt; t.to_text(alloc)?.len() == LEVELS * 21 + LEVELS * 19 + 19);
-    Ok(())
-}
-
-#[test]
-fn deep_syn(rt: HostRuntime) -> Tested {
-    let alloc = rt.alloc();
-    assert!(rt; deep(alloc, LEVELS)?.into_syn(alloc)?.more.len() == LEVELS);
-    Ok(())
-}
-
-#[test]
-fn deep_write(rt: HostRuntime) -> Tested {
-    let alloc = rt.alloc();
-    assert!(rt; deep(alloc, LEVELS)?.write_errors(alloc)?.trees.len() == LEVELS * 8 + 8);
-    Ok(())
-}
-
-#[test]
-fn deep_iter(rt: HostRuntime) -> Tested {
-    let alloc = rt.alloc();
-    let mut it = deep(alloc, LEVELS)?.into_iter(alloc)?;
-    assert!(rt; it.next().is_some());
-    Ok(())
-}
-
-#[test]
-fn deep_siblings(rt: HostRuntime) -> Tested {
-    let alloc = rt.alloc();
+    assert!(rt; deep(alloc, LEVELS)?.write_errors(alloc)?.trees.len() == (LEVELS + 1) * 8);
     let alts = names(alloc, &["a"])?;
-    let error = deep(alloc, LEVELS)?.add_sibling_alts_for_unknown_field(alloc, alts.as_slice())?;
-    assert!(rt; error.len() == LEVELS + 1);
+    let tree = deep(alloc, LEVELS / 2)?;
+    let wider = tree.add_sibling_alts_for_unknown_field(alloc, alts.as_slice())?;
+    assert!(rt; wider.len() == LEVELS / 2 + 1);
     Ok(())
 }
