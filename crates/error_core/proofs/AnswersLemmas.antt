@@ -5,7 +5,7 @@ use Rattle.token_core.specs.declared.span.Span.{Span}
 use Rattle.fault_core.specs.declared.fault.Fault.{Fault}
 use Rattle.fault_core.specs.Faults.{siblings}
 use Rattle.fault_core.specs.Outcome.{Outcome, Faults, with_span, under, with_siblings}
-use Rattle.error_core.specs.Told.{Told, One, Several, part_leaves, first_leaf, more_leaves, leaves, below}
+use Rattle.error_core.specs.Told.{Told, One, Several, part_leaves, leaves, below}
 use Rattle.error_core.specs.Changes.{located, spanned}
 use Rattle.error_core.specs.Answers.{refusal}
 use Rattle.error_core.proofs.ToldLemmas.{map_below-more}

@@ -1,3 +1,4 @@
 pub mod ToldLemmas
 pub mod TextLemmas
 pub mod AnswersLemmas
+pub mod TokenLemmas

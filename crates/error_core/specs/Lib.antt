@@ -5,3 +5,4 @@ pub mod Falls
 pub mod Answers
 pub mod NodeKinds
 pub mod Syn
+pub mod CompileErrors

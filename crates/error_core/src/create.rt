@@ -12,7 +12,7 @@ impl Error {
     fn leaf(alloc: Global, kind: FaultKind) -> Error
         ensures { result ≡ leaf kind }
     {
-        Error::from_fault(Fault::new(alloc, kind))
+        Error::from_fault(alloc, Fault::new(alloc, kind))
     }
 
     /// A message of the caller's own.

@@ -18,6 +18,8 @@ pub struct Error {
     pub(crate) span: Option<Span>,
     // The number of leaves: `len` takes no memory, and a sum over the tree might not fit.
     pub(crate) count: usize,
+    // `Display` is handed no allocator.
+    pub(crate) alloc: Global,
 }
 
 #[cycle(error)]
@@ -47,7 +49,7 @@ impl Model for Error {
 }
 
 impl Error {
-    pub(crate) fn from_fault(fault: Fault) -> Error
+    pub(crate) fn from_fault(alloc: Global, fault: Fault) -> Error
         ensures { result ≡ One fault }
     {
         let Fault { kind, path, span } = fault;
@@ -56,6 +58,7 @@ impl Error {
             locations: path,
             span,
             count: 1,
+            alloc,
         }
     }
 
@@ -75,6 +78,7 @@ impl Error {
             locations: Items::new(alloc),
             span: None,
             count,
+            alloc,
         })
     }
 

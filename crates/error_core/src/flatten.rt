@@ -1,9 +1,9 @@
-ghost use Rattle.std.specs.Prelude.{◌≡◌, ◌++◌, map, length, IfOk, OnOk};
+ghost use Rattle.std.specs.Prelude.{◌≡◌, ◌++◌, ◌∷◌, [], map, length, IfOk, OnOk};
 ghost use Rattle.error_core.specs.Changes.{flat};
 ghost use Rattle.error_core.specs.Told.{leaves, below};
 
 use crate::error::{Error, Node};
-use fault_core::{Fault, Items, Mem, Text};
+use fault_core::{Fault, FaultKind, Items, Mem, Span, Text};
 use std::alloc::Global;
 
 impl Error {
@@ -25,10 +25,33 @@ impl Error {
         let faults = self.into_faults(alloc)?;
         let mut errors = Vec::new(alloc);
         for fault in faults.into_vec() {
-            errors.push(Error::from_fault(fault))?;
+            errors.push(Error::from_fault(alloc, fault))?;
         }
         Error::multiple(alloc, errors)
     }
+}
+
+// The parts of `gather` that do not recur stand apart, so that each level takes little stack.
+
+#[inline(never)]
+fn path_below(alloc: Global, above: &[Text], locations: Items<Text>) -> Mem<Items<Text>>
+    ensures { IfOk result (λ path. path ≡ above.now ++ locations) }
+{
+    let mut path = Items::from_slice(alloc, above)?;
+    path.append(locations)?;
+    Ok(path)
+}
+
+#[inline(never)]
+fn push_fault(
+    faults: &mut Items<Fault>,
+    kind: FaultKind,
+    path: Items<Text>,
+    span: Option<Span>,
+) -> Mem<()>
+    ensures { OnOk result (faults.new ≡ faults.old ++ record { kind = kind; path = path; span = span } ∷ []) }
+{
+    faults.push(Fault { kind, path, span })
 }
 
 /// Puts the faults of the error behind the others, each with the path `above` in front of its own.
@@ -39,12 +62,11 @@ fn gather(error: Error, alloc: Global, above: &[Text], faults: &mut Items<Fault>
         node,
         locations,
         span,
-        count: _,
+        ..
     } = error;
-    let mut path = Items::from_slice(alloc, above)?;
-    path.append(locations)?;
+    let path = path_below(alloc, above, locations)?;
     match node {
-        Node::Leaf(kind) => faults.push(Fault { kind, path, span }),
+        Node::Leaf(kind) => push_fault(faults, kind, path, span),
         Node::Many(errors) => {
             for child in errors {
                 gather(child, alloc, path.as_slice(), faults)?;

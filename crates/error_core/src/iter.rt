@@ -48,16 +48,13 @@ impl Error {
             node,
             locations,
             span,
-            count: _,
+            ..
         } = self;
         let children = match node {
             Node::Leaf(kind) => {
                 let mut one = Vec::new(alloc);
-                one.push(Error::from_fault(Fault {
-                    kind,
-                    path: locations,
-                    span,
-                }))?;
+                let path = locations;
+                one.push(Error::from_fault(alloc, Fault { kind, path, span }))?;
                 one
             }
             Node::Many(errors) => errors,

@@ -6,6 +6,7 @@
 #![tactic(auto)]
 
 mod accumulator;
+mod compile_errors;
 mod create;
 mod error;
 mod fail;
@@ -15,9 +16,12 @@ mod laws;
 mod nodes;
 mod siblings;
 mod syn;
+#[cfg(test)]
+mod tests;
 mod text;
 
 pub use accumulator::Accumulator;
+pub use compile_errors::into_compile_error;
 pub use error::Error;
 pub use fail::{Fail, Result};
 pub use fault_core::{Fault, FaultKind, Items, Mem, Span, Text, TryClone};

@@ -1,9 +1,10 @@
-ghost use Rattle.std.specs.Prelude.{◌≡◌, length, IfOk};
+ghost use Rattle.std.specs.Prelude.{◌≡◌, ◌++◌, ◌∷◌, [], length, IfOk, OnOk};
 ghost use Rattle.fault_core.specs.Faults.{siblings};
+ghost use Rattle.fault_core.specs.Kind.{with_alternatives};
 ghost use Rattle.error_core.specs.Told.{leaves, span_of};
 
 use crate::error::{Error, Node};
-use fault_core::{Mem, Text};
+use fault_core::{FaultKind, Mem, Text};
 use std::alloc::Global;
 
 impl Error {
@@ -21,26 +22,47 @@ impl Error {
             locations,
             span,
             count,
+            ..
         } = self;
         match node {
             Node::Leaf(kind) => Ok(Error {
-                node: Node::Leaf(kind.with_alternatives(alloc, alts)?),
+                node: Node::Leaf(widened(alloc, kind, alts)?),
                 locations,
                 span,
                 count,
+                alloc,
             }),
             Node::Many(errors) => {
                 let mut children = Vec::new(alloc);
                 for child in errors {
-                    children.push(child.add_sibling_alts_for_unknown_field(alloc, alts)?)?;
+                    let wider = child.add_sibling_alts_for_unknown_field(alloc, alts)?;
+                    push_child(&mut children, wider)?;
                 }
                 Ok(Error {
                     node: Node::Many(children),
                     locations,
                     span,
                     count,
+                    alloc,
                 })
             }
         }
     }
+}
+
+// What does not recur stands apart, so that each level takes little stack.
+
+#[inline(never)]
+fn widened(alloc: Global, kind: FaultKind, alts: &[Text]) -> Mem<FaultKind>
+    ensures { IfOk result (λ it. it ≡ with_alternatives kind alts.now) }
+{
+    kind.with_alternatives(alloc, alts)
+}
+
+#[inline(never)]
+fn push_child(children: &mut Vec<Error>, child: Error) -> Mem<()>
+    ensures { OnOk result (children.new.items ≡ children.old.items ++ child ∷ []) }
+{
+    children.push(child)?;
+    Ok(())
 }

@@ -16,7 +16,8 @@ impl Error {
     {
         let SynError { first, more: _ } = e;
         let (span, message) = first;
-        Ok(Error::from_fault(Fault::at_span(alloc, FaultKind::Custom(message), span)))
+        let fault = Fault::at_span(alloc, FaultKind::Custom(message), span);
+        Ok(Error::from_fault(alloc, fault))
     }
 
     /// The faults as errors of syntax, in order: one with a place is told there, without its path, and

@@ -4,6 +4,7 @@ ghost use Rattle.error_core.specs.Told.{error_text};
 use crate::error::{Error, Node};
 use fault_core::{Mem, Text, kind_text, path_text};
 use std::alloc::Global;
+use std::fmt::{self, Display};
 
 impl Error {
     /// The text of the one fault, or `Multiple errors: (a, b)` with those of the children, and then
@@ -14,6 +15,18 @@ impl Error {
         let mut text = Text::new(alloc);
         push_error(self, alloc, &mut text)?;
         Ok(text)
+    }
+}
+
+/// The text of [`to_text`](Error::to_text), which takes memory: want of it is an `fmt::Error`.
+impl Display for Error {
+    ghost use Rattle.std.specs.Prelude.{Some};
+
+    ghost output = { λ error. Some (error_text error) };
+
+    fn fmt<W: fmt::Write>(&self, f: &mut fmt::Formatter<W>) -> fmt::Result {
+        let text = self.to_text(self.alloc)?;
+        f.write_str(text.as_str())
     }
 }
 
