@@ -1,2 +1,3 @@
 pub mod Deepest
 pub mod Depths
+pub mod MadeDepths

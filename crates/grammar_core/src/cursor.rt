@@ -152,6 +152,13 @@ impl<'a> Cursor<'a> {
         self.eat(is_colon(self.rest), 1)
     }
 
+    /// Takes `:`, which must come next.
+    pub fn expect_colon(&mut self) -> Result<(), ReadFail>
+        ensures { Expects 1 (token.is_colon self.old.rest) self.old result self.new }
+    {
+        self.expect(is_colon(self.rest), 1)
+    }
+
     /// Takes `::`, if it comes next.
     pub fn eat_colons(&mut self) -> bool
         ensures found { result ≡ token.is_colons self.old.rest }

@@ -1,1 +1,2 @@
-pub mod Lists
+pub mod OneTree
+pub mod Parses

@@ -1,0 +1,8 @@
+use Rattle.std.proofs.Common.{rules, arith, true}
+use Rattle.depth_core.specs.Depth.{expr_depth}
+use Rattle.grammar_core.specs.Grammar.{max_depth, within}
+use Rattle.grammar_core.specs.Readers.{any_level}
+use Rattle.syn_core.proofs.front.exprs.Goals as goal
+
+pub returns : goal.returns
+returns c = rw c.new-none.ensures at (c.items_after.ensures expr_depth max_depth ((within max_depth).expr any_level) (record { reads = λ old new r p. search rules }) (search rules) (omega arith))

@@ -1,0 +1,12 @@
+use Rattle.std.proofs.Common.{rules, true}
+use Rattle.depth_core.specs.Depth.{expr_depth}
+use Rattle.grammar_core.specs.Grammar.{max_depth, within}
+use Rattle.grammar_core.specs.Readers.{any_level}
+use Rattle.grammar_core.specs.Paths.{list}
+use Rattle.rule_core.specs.Lists.{all_depth}
+use Rattle.grammar_core.specs.Trees.{exprs_of}
+use Rattle.syn_core.proofs.parse.parse_exprs.Goals as goal
+
+pub returns : goal.returns
+unfolding exprs_of
+returns c = c.whole.ensures (all_depth expr_depth) max_depth (list ((within max_depth).expr any_level)) (record { reads = λ old new r p. search rules })

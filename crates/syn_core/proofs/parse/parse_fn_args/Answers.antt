@@ -1,0 +1,12 @@
+use Rattle.std.proofs.Common.{rules, true}
+use Rattle.depth_core.specs.Depth.{type_depth}
+use Rattle.grammar_core.specs.Arguments.{fn_arg}
+use Rattle.grammar_core.specs.Grammar.{max_depth, within}
+use Rattle.grammar_core.specs.Paths.{list}
+use Rattle.rule_core.specs.Lists.{all_depth}
+use Rattle.grammar_core.specs.Trees.{fn_args_of}
+use Rattle.syn_core.proofs.parse.parse_fn_args.Goals as goal
+
+pub returns : goal.returns
+unfolding fn_args_of
+returns c = c.whole.ensures (all_depth (λ arg. type_depth arg.ty)) max_depth (list (fn_arg (within max_depth))) (record { reads = λ old new r p. search rules })

@@ -1,0 +1,11 @@
+use Rattle.std.proofs.Common.{rules, true}
+use Rattle.grammar_core.specs.Input.{take_as}
+use Rattle.grammar_core.specs.Words.{name_of}
+use Rattle.grammar_core.specs.Paths.{list}
+use Rattle.rule_core.specs.Lists.{all_depth}
+use Rattle.grammar_core.specs.Trees.{idents_of}
+use Rattle.syn_core.proofs.parse.parse_idents.Goals as goal
+
+pub returns : goal.returns
+unfolding idents_of
+returns c = c.whole.ensures (all_depth (λ name. 0)) 0 (list (take_as name_of)) (record { reads = λ old new r p. search rules })

@@ -1,0 +1,11 @@
+use Rattle.std.proofs.Common.{rules, true}
+use Rattle.depth_core.specs.Depth.{path_depth}
+use Rattle.grammar_core.specs.Grammar.{max_depth, within}
+use Rattle.grammar_core.specs.Paths.{list, path}
+use Rattle.rule_core.specs.Lists.{all_depth}
+use Rattle.grammar_core.specs.Trees.{paths_of}
+use Rattle.syn_core.proofs.parse.parse_paths.Goals as goal
+
+pub returns : goal.returns
+unfolding paths_of
+returns c = c.whole.ensures (all_depth path_depth) max_depth (list (path (within max_depth) true)) (record { reads = λ old new r p. search rules })

@@ -1,0 +1,34 @@
+use node_core::SynError;
+use std::alloc::{AllocError, AllocFailed};
+
+/// Why a parser gives no tree.
+#[derive(Debug, Drop)]
+pub enum ParseFail {
+    Syn(SynError),
+    NoMemory,
+}
+
+/// A tree, or why there is none.
+pub type Parse<T> = Result<T, ParseFail>;
+
+impl From<AllocError> for ParseFail {
+    ghost use Rattle.std.specs.Prelude.{◌≡◌};
+    ghost use Rattle.syn_core.specs.declared.fail.ParseFail.TheVariants.{NoMemory};
+
+    ghost from_gives = { λ _ fail. fail ≡ NoMemory };
+
+    fn from(_: AllocError) -> ParseFail {
+        ParseFail::NoMemory
+    }
+}
+
+impl<T: Drop> From<AllocFailed<T>> for ParseFail {
+    ghost use Rattle.std.specs.Prelude.{◌≡◌};
+    ghost use Rattle.syn_core.specs.declared.fail.ParseFail.TheVariants.{NoMemory};
+
+    ghost from_gives = { λ _ fail. fail ≡ NoMemory };
+
+    fn from(_: AllocFailed<T>) -> ParseFail {
+        ParseFail::NoMemory
+    }
+}

@@ -1,0 +1,101 @@
+//! What stands at the front of tokens, with the limit of depth that every parser keeps.
+
+ghost use Rattle.std.specs.Prelude.{◌≡◌, ℕ, true, map};
+ghost use Rattle.expr_core.specs.declared.ty.FnArg.{FnArg};
+ghost use Rattle.depth_core.specs.Depth.{deepest, expr_depth, path_depth, type_depth};
+ghost use Rattle.grammar_core.specs.Arguments as arguments;
+ghost use Rattle.grammar_core.specs.Grammar.{max_depth, within};
+ghost use Rattle.grammar_core.specs.Input as input;
+ghost use Rattle.grammar_core.specs.Paths as paths;
+ghost use Rattle.grammar_core.specs.Readers.{any_level};
+ghost use Rattle.grammar_core.specs.Reads.{Reads};
+ghost use Rattle.grammar_core.specs.Words.{name_of};
+ghost use Rattle.rule_core.specs.Lists.{all_depth};
+
+use base_core::Items;
+use expr_core::{Expr, FnArg, Ident, Path, TokenStream, Type};
+use grammar_core::Cursor;
+use rule_core::{
+    ANY_LEVEL, Front, MAX_PATTERN, items_after, pattern, read_expr, read_path, read_type,
+};
+use std::alloc::Global;
+
+/// How deep a type or an expression may be.
+pub const MAX_DEPTH: usize = 256;
+
+/// A type, where a `dyn` or `impl` has several bounds.
+pub(crate) fn ty(alloc: Global, tokens: &mut Cursor<'_>) -> Front<Type>
+    ensures { Reads type_depth max_depth ((within max_depth).ty true tokens.old) result tokens.new }
+{
+    read_type(alloc, tokens, MAX_DEPTH, true)
+}
+
+/// Any expression.
+pub(crate) fn expr(alloc: Global, tokens: &mut Cursor<'_>) -> Front<Expr>
+    ensures { Reads expr_depth max_depth ((within max_depth).expr any_level tokens.old) result tokens.new }
+{
+    read_expr(alloc, tokens, MAX_DEPTH, ANY_LEVEL)
+}
+
+/// A path as in a type.
+pub(crate) fn path(alloc: Global, tokens: &mut Cursor<'_>) -> Front<Path>
+    ensures { Reads path_depth max_depth (paths.path (within max_depth) true tokens.old) result tokens.new }
+{
+    read_path(alloc, tokens, MAX_DEPTH, true)
+}
+
+/// An identifier, which has no depth.
+pub(crate) fn name(alloc: Global, tokens: &mut Cursor<'_>) -> Front<Ident>
+    ensures { Reads (λ name. 0) 0 (input.take_as name_of tokens.old) result tokens.new }
+{
+    let name = tokens.take_name(alloc)?;
+    Ok((name, 0))
+}
+
+/// One argument of a function, as deep as its type: `name: T`, `&(mut a, _): T`
+#[tactic(auto, unfolding(grammar_core::specs::Arguments::fn_arg))]
+fn fn_arg(alloc: Global, tokens: &mut Cursor<'_>) -> Front<FnArg>
+    ensures { Reads (λ arg. type_depth arg.ty) max_depth (arguments.fn_arg (within max_depth) tokens.old) result tokens.new }
+{
+    let before = tokens.rest();
+    let start = tokens.here();
+    pattern(tokens, MAX_PATTERN)?;
+    let trees = tokens.read_since(alloc, before)?;
+    tokens.expect_colon()?;
+    let (ty, depth) = ty(alloc, tokens)?;
+    let span = tokens.upto(start);
+    let pat = TokenStream { trees };
+    Ok((FnArg { pat, ty, span }, depth))
+}
+
+/// The arguments of a function.
+pub(crate) fn fn_args(alloc: Global, tokens: &mut Cursor<'_>) -> Front<Items<FnArg>>
+    ensures { Reads (all_depth (λ arg. type_depth arg.ty)) max_depth (paths.list (arguments.fn_arg (within max_depth)) tokens.old) result tokens.new }
+{
+    let none = Items::new(alloc);
+    items_after(tokens, |tokens: &mut Cursor<'_>| fn_arg(alloc, tokens), none, 0)
+}
+
+/// A list of expressions.
+pub(crate) fn exprs(alloc: Global, tokens: &mut Cursor<'_>) -> Front<Items<Expr>>
+    ensures { Reads (all_depth expr_depth) max_depth (paths.list ((within max_depth).expr any_level) tokens.old) result tokens.new }
+{
+    let none = Items::new(alloc);
+    items_after(tokens, |tokens: &mut Cursor<'_>| expr(alloc, tokens), none, 0)
+}
+
+/// A list of identifiers.
+pub(crate) fn names(alloc: Global, tokens: &mut Cursor<'_>) -> Front<Items<Ident>>
+    ensures { Reads (all_depth (λ name. 0)) 0 (paths.list (input.take_as name_of) tokens.old) result tokens.new }
+{
+    let none = Items::new(alloc);
+    items_after(tokens, |tokens: &mut Cursor<'_>| name(alloc, tokens), none, 0)
+}
+
+/// A list of paths.
+pub(crate) fn path_list(alloc: Global, tokens: &mut Cursor<'_>) -> Front<Items<Path>>
+    ensures { Reads (all_depth path_depth) max_depth (paths.list (paths.path (within max_depth) true) tokens.old) result tokens.new }
+{
+    let none = Items::new(alloc);
+    items_after(tokens, |tokens: &mut Cursor<'_>| path(alloc, tokens), none, 0)
+}

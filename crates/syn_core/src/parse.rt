@@ -1,0 +1,197 @@
+//! The public parsers. Each reads all of the tokens, or refuses them with one fault where they stand.
+
+ghost use Rattle.std.specs.Prelude.{◌≡◌, ℕ, codes};
+ghost use Rattle.expr_core.specs.declared.expr.Expr.{out-Expr};
+ghost use Rattle.grammar_core.specs.Input.{Parser};
+ghost use Rattle.grammar_core.specs.Trees as trees;
+ghost use Rattle.rule_core.specs.Lists.{ReadsItems};
+ghost use Rattle.syn_core.specs.Parses.{Parses, Refuses};
+
+use crate::fail::{Parse, ParseFail};
+use crate::front;
+use base_core::Items;
+use expr_core::{Expr, ExprArray, ExprPath, ExprRange, FnArg, Ident, Path, TokenStream, Type};
+use grammar_core::{Cursor, ReadFail};
+use node_core::SynError;
+use rule_core::Front;
+use span_core::Spanned;
+use std::alloc::Global;
+
+/// The one fault over all of the tokens.
+fn refusal(alloc: Global, tokens: &TokenStream, text: &str) -> ParseFail
+    ensures { Refuses text.now tokens.now result }
+{
+    match SynError::new(alloc, tokens.spanned(), text) {
+        Ok(error) => ParseFail::Syn(error),
+        Err(_) => ParseFail::NoMemory,
+    }
+}
+
+/// What `reader` reads of all of the tokens, or the one fault `text`.
+pub fn whole<A: Drop, P: Fn(&mut Cursor<'_>) -> Front<A>>(
+    alloc: Global,
+    tokens: &TokenStream,
+    text: &str,
+    reader: P,
+) -> Parse<A>
+where
+    P: Drop,
+    requires { P.IsAlwaysCallable reader }
+    ensures { (size : A → ℕ) (limit : ℕ) (parser : Parser A) → ReadsItems size limit parser (P.post reader)
+        → Parses text.now tokens.now (trees.whole parser tokens.now) result }
+{
+    let mut cursor = Cursor::new(tokens.trees.as_slice());
+    match reader(&mut cursor) {
+        Ok((tree, _)) => {
+            if cursor.at_end() {
+                Ok(tree)
+            } else {
+                Err(refusal(alloc, tokens, text))
+            }
+        }
+        Err(ReadFail::Syntax) => Err(refusal(alloc, tokens, text)),
+        Err(ReadFail::NoMemory) => Err(ParseFail::NoMemory),
+    }
+}
+
+/// A type: `Vec<T>`, `&'a [T; 8]`
+pub fn parse_type(alloc: Global, tokens: &TokenStream) -> Parse<Type>
+    ensures { Parses (codes "expected a type") tokens.now (trees.type_of tokens.now) result }
+{
+    whole(alloc, tokens, "expected a type", |cursor: &mut Cursor<'_>| {
+        front::ty(alloc, cursor)
+    })
+}
+
+/// A path as in a type: `std::vec::Vec<T>`
+pub fn parse_path(alloc: Global, tokens: &TokenStream) -> Parse<Path>
+    ensures { Parses (codes "expected a path") tokens.now (trees.path_of tokens.now) result }
+{
+    whole(alloc, tokens, "expected a path", |cursor: &mut Cursor<'_>| {
+        front::path(alloc, cursor)
+    })
+}
+
+/// An expression: `a + b`, `|x| f(x)`
+pub fn parse_expr(alloc: Global, tokens: &TokenStream) -> Parse<Expr>
+    ensures { Parses (codes "expected an expression") tokens.now (trees.expr_of tokens.now) result }
+{
+    expr_or(alloc, tokens, "expected an expression")
+}
+
+/// An identifier that is no keyword; a raw one always.
+pub fn parse_ident(alloc: Global, tokens: &TokenStream) -> Parse<Ident>
+    ensures { Parses (codes "expected an identifier") tokens.now (trees.ident_of tokens.now) result }
+{
+    whole(alloc, tokens, "expected an identifier", |cursor: &mut Cursor<'_>| {
+        front::name(alloc, cursor)
+    })
+}
+
+/// An array of expressions: `[a, b]`
+#[tactic(auto, unfolding(grammar_core::specs::Trees::expr_array_of))]
+pub fn parse_expr_array(alloc: Global, tokens: &TokenStream) -> Parse<ExprArray>
+    ensures { Parses (codes "expected an array") tokens.now (trees.expr_array_of tokens.now) result }
+{
+    let expr = expr_or(alloc, tokens, "expected an array")?;
+    match as_array(expr) {
+        Some(array) => Ok(array),
+        None => Err(refusal(alloc, tokens, "expected an array")),
+    }
+}
+
+/// A path as an expression: `a::b::<T>`, `<T as Trait>::f`
+#[tactic(auto, unfolding(grammar_core::specs::Trees::expr_path_of))]
+pub fn parse_expr_path(alloc: Global, tokens: &TokenStream) -> Parse<ExprPath>
+    ensures { Parses (codes "expected an expression path") tokens.now (trees.expr_path_of tokens.now) result }
+{
+    let expr = expr_or(alloc, tokens, "expected an expression path")?;
+    match as_path(expr) {
+        Some(path) => Ok(path),
+        None => Err(refusal(alloc, tokens, "expected an expression path")),
+    }
+}
+
+/// A range: `a..b`, `..=b`, `..`
+#[tactic(auto, unfolding(grammar_core::specs::Trees::expr_range_of))]
+pub fn parse_expr_range(alloc: Global, tokens: &TokenStream) -> Parse<ExprRange>
+    ensures { Parses (codes "expected a range") tokens.now (trees.expr_range_of tokens.now) result }
+{
+    let expr = expr_or(alloc, tokens, "expected a range")?;
+    match as_range(expr) {
+        Some(range) => Ok(range),
+        None => Err(refusal(alloc, tokens, "expected a range")),
+    }
+}
+
+/// The arguments of a function: `a: A, &(mut b, _): B`
+pub fn parse_fn_args(alloc: Global, tokens: &TokenStream) -> Parse<Items<FnArg>>
+    ensures { Parses (codes "expected a list") tokens.now (trees.fn_args_of tokens.now) result }
+{
+    whole(alloc, tokens, "expected a list", |cursor: &mut Cursor<'_>| {
+        front::fn_args(alloc, cursor)
+    })
+}
+
+/// A list of expressions: `a, b + c`
+pub fn parse_exprs(alloc: Global, tokens: &TokenStream) -> Parse<Items<Expr>>
+    ensures { Parses (codes "expected a list") tokens.now (trees.exprs_of tokens.now) result }
+{
+    whole(alloc, tokens, "expected a list", |cursor: &mut Cursor<'_>| {
+        front::exprs(alloc, cursor)
+    })
+}
+
+/// A list of identifiers: `a, b`
+pub fn parse_idents(alloc: Global, tokens: &TokenStream) -> Parse<Items<Ident>>
+    ensures { Parses (codes "expected a list") tokens.now (trees.idents_of tokens.now) result }
+{
+    whole(alloc, tokens, "expected a list", |cursor: &mut Cursor<'_>| {
+        front::names(alloc, cursor)
+    })
+}
+
+/// A list of paths as in types: `a::b, Vec<T>`
+pub fn parse_paths(alloc: Global, tokens: &TokenStream) -> Parse<Items<Path>>
+    ensures { Parses (codes "expected a list") tokens.now (trees.paths_of tokens.now) result }
+{
+    whole(alloc, tokens, "expected a list", |cursor: &mut Cursor<'_>| {
+        front::path_list(alloc, cursor)
+    })
+}
+
+/// An expression of all of the tokens, or the one fault `text`.
+fn expr_or(alloc: Global, tokens: &TokenStream, text: &str) -> Parse<Expr>
+    ensures { Parses text.now tokens.now (trees.expr_of tokens.now) result }
+{
+    whole(alloc, tokens, text, |cursor: &mut Cursor<'_>| {
+        front::expr(alloc, cursor)
+    })
+}
+
+fn as_array(expr: Expr) -> Option<ExprArray>
+    ensures { result ≡ trees.array_in (out-Expr expr) }
+{
+    match expr {
+        Expr::Array(array) => Some(array),
+        _ => None,
+    }
+}
+
+fn as_path(expr: Expr) -> Option<ExprPath>
+    ensures { result ≡ trees.path_in (out-Expr expr) }
+{
+    match expr {
+        Expr::Path(path) => Some(path),
+        _ => None,
+    }
+}
+
+fn as_range(expr: Expr) -> Option<ExprRange>
+    ensures { result ≡ trees.range_in (out-Expr expr) }
+{
+    match expr {
+        Expr::Range(range) => Some(range),
+        _ => None,
+    }
+}
