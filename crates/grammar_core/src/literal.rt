@@ -5,8 +5,8 @@ ghost use Rattle.grammar_core.specs.Literals as spec;
 
 use crate::token::literal_of;
 use base_core::Mem;
-use lit_core::Value;
 use expr_core::{Lit, LitByte, LitByteStr, LitChar, LitFloat, LitInt, LitStr};
+use lit_core::Value;
 use std::alloc::Global;
 use token_core::{Literal, TokenTree, TryClone};
 

@@ -22,13 +22,13 @@ pub use data::{
 pub use derive::DeriveInput;
 pub use error::SynError;
 pub use expr_core::{
-    make, path_to_string, BinOp, Boxed, Delimiter, Expr, ExprArray, ExprClosure, ExprPath,
-    ExprRange, FnArg, GenericArgument, Group, Ident, Items, Lifetime, Lit, LitBool, LitByte,
-    LitByteStr, LitChar, LitFloat, LitInt, LitStr, Literal, Mem, Member, NamedArg, Path,
-    PathArguments, PathSegment, Punct, QSelf, ReturnType, Span, Text, TokenStream, TokenTree,
-    TraitBound, TryClone, Type, TypeArray, TypeFnPtr, TypeGroup, TypeImplTrait, TypeInfer,
-    TypeNever, TypeParamBound, TypeParen, TypePath, TypePtr, TypeReference, TypeSlice,
-    TypeTraitObject, TypeTuple, UnOp,
+    BinOp, Boxed, Delimiter, Expr, ExprArray, ExprClosure, ExprPath, ExprRange, FnArg,
+    GenericArgument, Group, Ident, Items, Lifetime, Lit, LitBool, LitByte, LitByteStr, LitChar,
+    LitFloat, LitInt, LitStr, Literal, Mem, Member, NamedArg, Path, PathArguments, PathSegment,
+    Punct, QSelf, ReturnType, Span, Text, TokenStream, TokenTree, TraitBound, TryClone, Type,
+    TypeArray, TypeFnPtr, TypeGroup, TypeImplTrait, TypeInfer, TypeNever, TypeParamBound,
+    TypeParen, TypePath, TypePtr, TypeReference, TypeSlice, TypeTraitObject, TypeTuple, UnOp, make,
+    path_to_string,
 };
 pub use generics::{
     ConstParam, GenericParam, Generics, LifetimeParam, TypeParam, WhereClause, WherePredicate,

@@ -1,6 +1,7 @@
 //! What equality and hashing of nodes promise, and the texts of paths. These functions do nothing:
 //! their clauses are the laws.
 #![tactic(auto)]
+
 ghost use Rattle.std.specs.Prelude.{◌≡◌, true, Bool, List, Option};
 ghost use Rattle.std.specs.Cmp.{IsEquivalence};
 ghost use Rattle.std.specs.Hash.{Alike};

@@ -73,7 +73,12 @@ pub(crate) fn fn_args(alloc: Global, tokens: &mut Cursor<'_>) -> Front<Items<FnA
     ensures { Reads (all_depth (λ arg. type_depth arg.ty)) max_depth (paths.list (arguments.fn_arg (within max_depth)) tokens.old) result tokens.new }
 {
     let none = Items::new(alloc);
-    items_after(tokens, |tokens: &mut Cursor<'_>| fn_arg(alloc, tokens), none, 0)
+    items_after(
+        tokens,
+        |tokens: &mut Cursor<'_>| fn_arg(alloc, tokens),
+        none,
+        0,
+    )
 }
 
 /// A list of expressions.
@@ -81,7 +86,12 @@ pub(crate) fn exprs(alloc: Global, tokens: &mut Cursor<'_>) -> Front<Items<Expr>
     ensures { Reads (all_depth expr_depth) max_depth (paths.list ((within max_depth).expr any_level) tokens.old) result tokens.new }
 {
     let none = Items::new(alloc);
-    items_after(tokens, |tokens: &mut Cursor<'_>| expr(alloc, tokens), none, 0)
+    items_after(
+        tokens,
+        |tokens: &mut Cursor<'_>| expr(alloc, tokens),
+        none,
+        0,
+    )
 }
 
 /// A list of identifiers.
@@ -89,7 +99,12 @@ pub(crate) fn names(alloc: Global, tokens: &mut Cursor<'_>) -> Front<Items<Ident
     ensures { Reads (all_depth (λ name. 0)) 0 (paths.list (input.take_as name_of) tokens.old) result tokens.new }
 {
     let none = Items::new(alloc);
-    items_after(tokens, |tokens: &mut Cursor<'_>| name(alloc, tokens), none, 0)
+    items_after(
+        tokens,
+        |tokens: &mut Cursor<'_>| name(alloc, tokens),
+        none,
+        0,
+    )
 }
 
 /// A list of paths.
@@ -97,5 +112,10 @@ pub(crate) fn path_list(alloc: Global, tokens: &mut Cursor<'_>) -> Front<Items<P
     ensures { Reads (all_depth path_depth) max_depth (paths.list (paths.path (within max_depth) true) tokens.old) result tokens.new }
 {
     let none = Items::new(alloc);
-    items_after(tokens, |tokens: &mut Cursor<'_>| path(alloc, tokens), none, 0)
+    items_after(
+        tokens,
+        |tokens: &mut Cursor<'_>| path(alloc, tokens),
+        none,
+        0,
+    )
 }

@@ -28,7 +28,7 @@ fn refusal(alloc: Global, tokens: &TokenStream, text: &str) -> ParseFail
 }
 
 /// What `reader` reads of all of the tokens, or the one fault `text`.
-pub fn whole<A: Drop, P: Fn(&mut Cursor<'_>) -> Front<A>>(
+fn whole<A: Drop, P: Fn(Global, &mut Cursor<'_>) -> Front<A>>(
     alloc: Global,
     tokens: &TokenStream,
     text: &str,
@@ -37,11 +37,11 @@ pub fn whole<A: Drop, P: Fn(&mut Cursor<'_>) -> Front<A>>(
 where
     P: Drop,
     requires { P.IsAlwaysCallable reader }
-    ensures { (size : A → ℕ) (limit : ℕ) (parser : Parser A) → ReadsItems size limit parser (P.post reader)
+    ensures { (size : A → ℕ) (limit : ℕ) (parser : Parser A) → ReadsItems size limit parser (P.post reader alloc)
         → Parses text.now tokens.now (trees.whole parser tokens.now) result }
 {
     let mut cursor = Cursor::new(tokens.trees.as_slice());
-    match reader(&mut cursor) {
+    match reader(alloc, &mut cursor) {
         Ok((tree, _)) => {
             if cursor.at_end() {
                 Ok(tree)
@@ -58,18 +58,14 @@ where
 pub fn parse_type(alloc: Global, tokens: &TokenStream) -> Parse<Type>
     ensures { Parses (codes "expected a type") tokens.now (trees.type_of tokens.now) result }
 {
-    whole(alloc, tokens, "expected a type", |cursor: &mut Cursor<'_>| {
-        front::ty(alloc, cursor)
-    })
+    whole(alloc, tokens, "expected a type", front::ty)
 }
 
 /// A path as in a type: `std::vec::Vec<T>`
 pub fn parse_path(alloc: Global, tokens: &TokenStream) -> Parse<Path>
     ensures { Parses (codes "expected a path") tokens.now (trees.path_of tokens.now) result }
 {
-    whole(alloc, tokens, "expected a path", |cursor: &mut Cursor<'_>| {
-        front::path(alloc, cursor)
-    })
+    whole(alloc, tokens, "expected a path", front::path)
 }
 
 /// An expression: `a + b`, `|x| f(x)`
@@ -83,9 +79,7 @@ pub fn parse_expr(alloc: Global, tokens: &TokenStream) -> Parse<Expr>
 pub fn parse_ident(alloc: Global, tokens: &TokenStream) -> Parse<Ident>
     ensures { Parses (codes "expected an identifier") tokens.now (trees.ident_of tokens.now) result }
 {
-    whole(alloc, tokens, "expected an identifier", |cursor: &mut Cursor<'_>| {
-        front::name(alloc, cursor)
-    })
+    whole(alloc, tokens, "expected an identifier", front::name)
 }
 
 /// An array of expressions: `[a, b]`
@@ -128,45 +122,35 @@ pub fn parse_expr_range(alloc: Global, tokens: &TokenStream) -> Parse<ExprRange>
 pub fn parse_fn_args(alloc: Global, tokens: &TokenStream) -> Parse<Items<FnArg>>
     ensures { Parses (codes "expected a list") tokens.now (trees.fn_args_of tokens.now) result }
 {
-    whole(alloc, tokens, "expected a list", |cursor: &mut Cursor<'_>| {
-        front::fn_args(alloc, cursor)
-    })
+    whole(alloc, tokens, "expected a list", front::fn_args)
 }
 
 /// A list of expressions: `a, b + c`
 pub fn parse_exprs(alloc: Global, tokens: &TokenStream) -> Parse<Items<Expr>>
     ensures { Parses (codes "expected a list") tokens.now (trees.exprs_of tokens.now) result }
 {
-    whole(alloc, tokens, "expected a list", |cursor: &mut Cursor<'_>| {
-        front::exprs(alloc, cursor)
-    })
+    whole(alloc, tokens, "expected a list", front::exprs)
 }
 
 /// A list of identifiers: `a, b`
 pub fn parse_idents(alloc: Global, tokens: &TokenStream) -> Parse<Items<Ident>>
     ensures { Parses (codes "expected a list") tokens.now (trees.idents_of tokens.now) result }
 {
-    whole(alloc, tokens, "expected a list", |cursor: &mut Cursor<'_>| {
-        front::names(alloc, cursor)
-    })
+    whole(alloc, tokens, "expected a list", front::names)
 }
 
 /// A list of paths as in types: `a::b, Vec<T>`
 pub fn parse_paths(alloc: Global, tokens: &TokenStream) -> Parse<Items<Path>>
     ensures { Parses (codes "expected a list") tokens.now (trees.paths_of tokens.now) result }
 {
-    whole(alloc, tokens, "expected a list", |cursor: &mut Cursor<'_>| {
-        front::path_list(alloc, cursor)
-    })
+    whole(alloc, tokens, "expected a list", front::path_list)
 }
 
 /// An expression of all of the tokens, or the one fault `text`.
 fn expr_or(alloc: Global, tokens: &TokenStream, text: &str) -> Parse<Expr>
     ensures { Parses text.now tokens.now (trees.expr_of tokens.now) result }
 {
-    whole(alloc, tokens, text, |cursor: &mut Cursor<'_>| {
-        front::expr(alloc, cursor)
-    })
+    whole(alloc, tokens, text, front::expr)
 }
 
 fn as_array(expr: Expr) -> Option<ExprArray>

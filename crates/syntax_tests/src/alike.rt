@@ -57,10 +57,18 @@ pub fn alike<N: TryClone + PartialEq + Hash + Spanned + ToTokens + Drop>(
 ) -> Tested<()> {
     let copy = node.try_clone(alloc)?;
     holds(copy == *node, printed, "its copy differs")?;
-    holds(copy.spanned() == node.spanned(), printed, "its copy stands elsewhere")?;
+    holds(
+        copy.spanned() == node.spanned(),
+        printed,
+        "its copy stands elsewhere",
+    )?;
     holds(*other == *node, printed, "another place makes a difference")?;
     holds(hash(other) == hash(node), printed, "equal nodes hash apart")?;
-    holds(node.spanned() == text.spanned(), printed, "it stands elsewhere")?;
+    holds(
+        node.spanned() == text.spanned(),
+        printed,
+        "it stands elsewhere",
+    )?;
     prints(alloc, node, printed)
 }
 

@@ -11,6 +11,7 @@ const TYPES: [(&str, &str, &str); 5] = [
     ("A < ", "A", " >"),
     ("A < B : A < ", "A", " > >"),
 ];
+
 const EXPRS: [(&str, &str, &str); 9] = [
     ("- ", "a", ""),
     ("! ", "a", ""),
@@ -44,13 +45,19 @@ fn trees_of_256_levels_are_read_and_deeper_ones_refused(rt: HostRuntime) -> Test
         let most = nested(alloc, if form.2 == " > >" { 127 } else { 255 }, form)?;
         given(parse_type(alloc, &tokens(alloc, 0, most.as_str())?), form.0)?;
         let deeper = nested(alloc, if form.2 == " > >" { 128 } else { 256 }, form)?;
-        refused(parse_type(alloc, &tokens(alloc, 0, deeper.as_str())?), form.0)?;
+        refused(
+            parse_type(alloc, &tokens(alloc, 0, deeper.as_str())?),
+            form.0,
+        )?;
     }
     for form in EXPRS {
         let most = nested(alloc, 255, form)?;
         given(parse_expr(alloc, &tokens(alloc, 0, most.as_str())?), form.2)?;
         let deeper = nested(alloc, 256, form)?;
-        refused(parse_expr(alloc, &tokens(alloc, 0, deeper.as_str())?), form.2)?;
+        refused(
+            parse_expr(alloc, &tokens(alloc, 0, deeper.as_str())?),
+            form.2,
+        )?;
     }
     Ok(())
 }

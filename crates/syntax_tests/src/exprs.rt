@@ -1,8 +1,8 @@
 use crate::alike::{Tested, alike, given, prints, refused, tokens};
+use expr_core::Expr;
 use std::alloc::Global;
 use std::test::Fail;
 use syn_core::{parse_expr, parse_expr_array, parse_expr_path, parse_expr_range};
-use expr_core::Expr;
 
 // Expressions that are printed as they stand.
 const EXPRS: [&str; 96] = [
@@ -281,9 +281,21 @@ fn expressions_of_one_kind(rt: HostRuntime) -> Tested<()> {
     let alloc = rt.alloc();
     for (text, kind) in KINDS {
         let tokens = tokens(alloc, 0, text)?;
-        assert_eq!(rt; parse_expr_array(alloc, &tokens).is_ok(), kind == "array", "{text}");
-        assert_eq!(rt; parse_expr_path(alloc, &tokens).is_ok(), kind == "path", "{text}");
-        assert_eq!(rt; parse_expr_range(alloc, &tokens).is_ok(), kind == "range", "{text}");
+        assert_eq!(rt;
+            parse_expr_array(alloc, &tokens).is_ok(),
+            kind == "array",
+            "{text}"
+        );
+        assert_eq!(rt;
+            parse_expr_path(alloc, &tokens).is_ok(),
+            kind == "path",
+            "{text}"
+        );
+        assert_eq!(rt;
+            parse_expr_range(alloc, &tokens).is_ok(),
+            kind == "range",
+            "{text}"
+        );
     }
     Ok(())
 }

@@ -1,14 +1,19 @@
 use crate::alike::{Tested, given, refused, tokens};
+use print_core::ToTokens;
 use syn_core::{parse_exprs, parse_fn_args, parse_idents, parse_paths};
 use tok_core::to_text;
-use print_core::ToTokens;
 
 // Lists with the number of their items.
 const EXPRS: [(&str, usize); 4] = [("", 0), ("a + b", 1), ("a, b,", 2), ("a, (b, c), |d| e", 3)];
+
 const NO_EXPRS: [&str; 4] = [",", "a b", "a,,", "a; b"];
+
 const IDENTS: [(&str, usize); 3] = [("", 0), ("a", 1), ("a, r#fn,", 2)];
+
 const NO_IDENTS: [&str; 4] = [",", "a b", "fn", "a::b"];
+
 const PATHS: [(&str, usize); 3] = [("", 0), ("a::b", 1), ("A<B, C>, ::d", 2)];
+
 const NO_PATHS: [&str; 4] = [",", "a b", "a, <A>::b", "1"];
 
 #[test]
@@ -53,6 +58,7 @@ const FN_ARGS: [(&str, &str); 6] = [
     ("&a: A", "& a : A"),
     ("(a, &mut b): (A, B)", "(a , & mut b) : (A , B)"),
 ];
+
 const NO_FN_ARGS: [&str; 7] = [",", "a", "a: A b: B", "a::A", "1: A", "a: ", "self"];
 
 #[test]

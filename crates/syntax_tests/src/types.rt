@@ -166,8 +166,11 @@ fn what_is_no_type_is_refused(rt: HostRuntime) -> Tested<()> {
 
 // Paths that are printed as they stand, and what is none.
 const PATHS: [&str; 5] = ["a", ":: a", "a :: b < C > :: d", "Fn (A) -> B", "Self"];
+
 const NO_PATHS: [&str; 7] = ["", "a b", "a::", "<A>::b", "&a", "fn", "a."];
+
 const NAMES: [&str; 3] = ["a", "union", "r#fn"];
+
 const NO_NAMES: [&str; 6] = ["", "fn", "self", "_", "a b", "1"];
 
 fn path(alloc: Global, text: &str) -> Tested<()> {
