@@ -76,12 +76,7 @@ pub(crate) fn bounds(
 }
 
 /// A path whose parts are at most `depth` deep, as in a type or as in an expression.
-pub fn path(
-    alloc: Global,
-    tokens: &mut Cursor<'_>,
-    depth: usize,
-    in_type: bool,
-) -> Front<Path>
+pub fn path(alloc: Global, tokens: &mut Cursor<'_>, depth: usize, in_type: bool) -> Front<Path>
     requires { depth ≤ 1000 }
     ensures { Reads path_depth depth (paths.path (within depth) in_type tokens.old) result tokens.new }
 {

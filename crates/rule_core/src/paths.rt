@@ -11,7 +11,7 @@ ghost use Rattle.token_core.specs.declared.tree.Delimiter.TheVariants as delimit
 ghost use Rattle.rule_core.specs.Lists.{all_depth};
 ghost use Rattle.rule_core.specs.Nests.{Nests};
 
-use crate::list::{Joint, Front, items_after, joined_by, until};
+use crate::list::{Front, Joint, items_after, joined_by, until};
 use crate::rules::{CONSTANT_LEVEL, Rules, inside};
 use expr_core::{
     Boxed, Delimiter, Expr, GenericArgument, Items, Lifetime, Path, PathArguments, PathSegment,
