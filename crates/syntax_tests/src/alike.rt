@@ -1,0 +1,134 @@
+//! What holds of every node that a parser gives.
+
+use print_core::ToTokens;
+use span_core::Spanned;
+use std::alloc::Global;
+use std::hash::{DefaultHasher, Hash, Hasher};
+use std::test::Fail;
+use syn_core::{Parse, ParseFail};
+use tok_core::{Items, TokenStream, TryClone, lex, to_text};
+
+pub type Tested<T> = Result<T, Fail>;
+
+/// The tokens of a short text.
+pub fn tokens(alloc: Global, source: u32, text: &str) -> Tested<TokenStream> {
+    if text.len() > 4_000_000 {
+        return Err(Fail::new(format_args!("the text is too long")));
+    }
+    match lex(alloc, source, text) {
+        Ok(tokens) => Ok(tokens),
+        Err(_) => Err(Fail::new(format_args!("{text} has no tokens"))),
+    }
+}
+
+/// The tree that a parser gives, where it gives one.
+pub fn read<T: Drop>(parsed: Parse<T>) -> Tested<Option<T>> {
+    match parsed {
+        Ok(tree) => Ok(Some(tree)),
+        Err(ParseFail::Syn(_)) => Ok(None),
+        Err(ParseFail::NoMemory) => Err(Fail::new(format_args!("no memory is left"))),
+    }
+}
+
+/// The tree that a parser has to give for the text.
+fn given<T: Drop>(parsed: Parse<T>, text: &str) -> Tested<T> {
+    match read(parsed)? {
+        Some(tree) => Ok(tree),
+        None => Err(Fail::new(format_args!("{text} is refused"))),
+    }
+}
+
+/// Whether a parser gives a tree. Trees are let go here, for whatever they are.
+pub fn is_read<T: Drop>(parsed: Parse<T>) -> Tested<bool> {
+    Ok(read(parsed)?.is_some())
+}
+
+/// How many items a list has.
+pub fn count<T: Drop>(parsed: Parse<Items<T>>, text: &str) -> Tested<usize> {
+    let items = given(parsed, text)?;
+    Ok(items.len())
+}
+
+/// Whether the first item of a list is printed so.
+pub fn first_prints<T: ToTokens + Drop>(
+    alloc: Global,
+    parsed: Parse<Items<T>>,
+    text: &str,
+    printed: &str,
+) -> Tested<()> {
+    let items = given(parsed, text)?;
+    match items.first() {
+        Some(first) => prints(alloc, first, printed),
+        None => Err(Fail::new(format_args!("{text} has no items"))),
+    }
+}
+
+/// Two readings of one text, at other places, as [`alike`] tells.
+pub fn both<N: TryClone + PartialEq + Hash + Spanned + ToTokens + Drop>(
+    alloc: Global,
+    first: Parse<N>,
+    second: Parse<N>,
+    text: &TokenStream,
+    printed: &str,
+) -> Tested<()> {
+    let node = given(first, printed)?;
+    let other = given(second, printed)?;
+    alike(alloc, &node, &other, text, printed)
+}
+
+/// Whether a parser refuses the text.
+pub fn refused<T: Drop>(parsed: Parse<T>, text: &str) -> Tested<()> {
+    match read(parsed)? {
+        Some(_) => Err(Fail::new(format_args!("{text} is read"))),
+        None => Ok(()),
+    }
+}
+
+/// Two readings of one text, at other places: a copy equals its source and stands where it does, the
+/// two are equal and hash alike, they stand where their text does, and their printing is `printed`.
+fn alike<N: TryClone + PartialEq + Hash + Spanned + ToTokens + Drop>(
+    alloc: Global,
+    node: &N,
+    other: &N,
+    text: &TokenStream,
+    printed: &str,
+) -> Tested<()> {
+    let copy = node.try_clone(alloc)?;
+    holds(copy == *node, printed, "its copy differs")?;
+    holds(
+        copy.spanned() == node.spanned(),
+        printed,
+        "its copy stands elsewhere",
+    )?;
+    holds(*other == *node, printed, "another place makes a difference")?;
+    holds(hash(other) == hash(node), printed, "equal nodes hash apart")?;
+    holds(
+        node.spanned() == text.spanned(),
+        printed,
+        "it stands elsewhere",
+    )?;
+    prints(alloc, node, printed)
+}
+
+/// Whether the printing of the node has this text.
+pub fn prints<N: ToTokens>(alloc: Global, node: &N, printed: &str) -> Tested<()> {
+    let tokens = node.to_token_stream(alloc)?;
+    let text = to_text(alloc, &tokens)?;
+    if text.is(printed) {
+        return Ok(());
+    }
+    Err(Fail::new(format_args!("{printed} is printed {}", text.as_str())))
+}
+
+fn holds(fact: bool, text: &str, otherwise: &str) -> Tested<()> {
+    if fact {
+        return Ok(());
+    }
+    Err(Fail::new(format_args!("{text}: {otherwise}")))
+}
+
+fn hash<N: Hash>(node: &N) -> u64 {
+    let mut state = DefaultHasher::new();
+    node.hash(&mut state);
+    state.finish()
+}
