@@ -3,7 +3,7 @@ use Rattle.std.proofs.Common.{◌≡◌, ◌<◌, ◌≤◌, ◌⊎◌, ℕ, Lis
 use Rattle.edge_core.specs.Faults.{HasRisen}
 use Rattle.node_core.specs.declared.derive.DeriveInput.{DeriveInput}
 use Rattle.darling_run.specs.declared.status.Status.{Status}
-use Rattle.darling_run.specs.declared.status.Status.TheVariants.{Done, Usage, ReadFault, TooLong, NotText, NoParts, Unbuilt, WriteFault, NoMemory}
+use Rattle.darling_run.specs.declared.status.Status.TheVariants.{Done, Usage, ReadFault, TooLong, NotText, NoParts, TooDeep, Syntax, Unbuilt, WriteFault, NoMemory}
 use Rattle.darling_run.specs.declared.report.Report.{Report}
 use Rattle.darling_run.specs.declared.tool.Ended.{Ended}
 use Rattle.darling_run.specs.Status.{refusal_text}
@@ -46,6 +46,8 @@ module _ (words : List (List ℕ)) (reading : Reading) where
   usage_of (Err TooLong) a n = absurd (n a.0)
   usage_of (Err (NotText at)) a n = absurd (n a.0)
   usage_of (Err NoParts) a n = absurd (n a.0)
+  usage_of (Err (TooDeep number at)) a n = absurd (n a.0)
+  usage_of (Err (Syntax number at)) a n = absurd (n a.0)
   usage_of (Err (Unbuilt span)) a n = absurd (n a.0)
   usage_of (Err NoMemory) a n = inr (inl refl)
   usage_of (Err Done) a n = absurd a
@@ -59,6 +61,8 @@ module _ (words : List (List ℕ)) (reading : Reading) where
     too_long_of (Err TooLong) a long = inl refl
     too_long_of (Err (NotText at)) a long = absurd (not_long told a.1.0 left a.1.1 long)
     too_long_of (Err NoParts) a long = absurd (not_long told a.1.0 left a.1.1 long)
+    too_long_of (Err (TooDeep number at)) a long = absurd (not_long told a.1.0 left a.1.1 long)
+    too_long_of (Err (Syntax number at)) a long = absurd (not_long told a.1.0 left a.1.1 long)
     too_long_of (Err (Unbuilt span)) a long = absurd (not_long told a.1.0 left a.1.1 long)
     too_long_of (Err NoMemory) a long = inr (inl refl)
     too_long_of (Err Done) a long = absurd a
@@ -79,6 +83,8 @@ module _ (words : List (List ℕ)) (reading : Reading) where
     refuses_of (Err TooLong) a within status r = absurd (short within a.1)
     refuses_of (Err (NotText at)) a within status r = inl (IsRefused-unique told (NotText at) status (refused_as told a.1.0 (NotText at) left a.1.1 a.1.2) r)
     refuses_of (Err NoParts) a within status r = inl (IsRefused-unique told NoParts status (refused_as told a.1.0 NoParts left a.1.1 a.1.2) r)
+    refuses_of (Err (TooDeep number at)) a within status r = inl (IsRefused-unique told (TooDeep number at) status (refused_as told a.1.0 (TooDeep number at) left a.1.1 a.1.2) r)
+    refuses_of (Err (Syntax number at)) a within status r = inl (IsRefused-unique told (Syntax number at) status (refused_as told a.1.0 (Syntax number at) left a.1.1 a.1.2) r)
     refuses_of (Err (Unbuilt span)) a within status r = inl (IsRefused-unique told (Unbuilt span) status (refused_as told a.1.0 (Unbuilt span) left a.1.1 a.1.2) r)
     refuses_of (Err NoMemory) a within status r = inr (inl refl)
     refuses_of (Err Done) a within status r = absurd a
@@ -92,6 +98,8 @@ module _ (words : List (List ℕ)) (reading : Reading) where
     complete_of (Err TooLong) a within d ss i = absurd (short within a.1)
     complete_of (Err (NotText at)) a within d ss i = absurd (input_is_not_refused told d ss (NotText at) i (refused_as told a.1.0 (NotText at) left a.1.1 a.1.2))
     complete_of (Err NoParts) a within d ss i = absurd (input_is_not_refused told d ss NoParts i (refused_as told a.1.0 NoParts left a.1.1 a.1.2))
+    complete_of (Err (TooDeep number at)) a within d ss i = absurd (input_is_not_refused told d ss (TooDeep number at) i (refused_as told a.1.0 (TooDeep number at) left a.1.1 a.1.2))
+    complete_of (Err (Syntax number at)) a within d ss i = absurd (input_is_not_refused told d ss (Syntax number at) i (refused_as told a.1.0 (Syntax number at) left a.1.1 a.1.2))
     complete_of (Err (Unbuilt span)) a within d ss i = absurd (input_is_not_refused told d ss (Unbuilt span) i (refused_as told a.1.0 (Unbuilt span) left a.1.1 a.1.2))
     complete_of (Err NoMemory) a within d ss i = inr (inl refl)
     complete_of (Err Done) a within d ss i = absurd a

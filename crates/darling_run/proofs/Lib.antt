@@ -1,4 +1,6 @@
 mod EndsLemmas
 mod InputLemmas
+mod PartLemmas
+mod UnreadLemmas
 mod ValueLemmas
 mod WordLemmas

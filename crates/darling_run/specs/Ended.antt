@@ -5,7 +5,7 @@ use Rattle.edge_core.specs.Sink.{Takes}
 use Rattle.node_core.specs.declared.derive.DeriveInput.{DeriveInput}
 use Rattle.meaning_core.specs.Receiver.{item_meaning}
 use Rattle.darling_run.specs.declared.status.Status.{Status}
-use Rattle.darling_run.specs.declared.status.Status.TheVariants.{Done, Usage, ReadFault, TooLong, NotText, NoParts, Unbuilt, WriteFault, NoMemory}
+use Rattle.darling_run.specs.declared.status.Status.TheVariants.{Done, Usage, ReadFault, TooLong, NotText, NoParts, TooDeep, Syntax, Unbuilt, WriteFault, NoMemory}
 use Rattle.darling_run.specs.declared.report.Report.{Report}
 use Rattle.darling_run.specs.declared.tool.Ended.{Ended}
 use Rattle.darling_run.specs.Status.{refusal_text}
@@ -51,6 +51,8 @@ Causes words reading ReadFault = IsRun words × HasRisen reading.faults reading.
 Causes words reading TooLong = IsRun words × IfSome reading.left (λ told. limit < length told)
 Causes words reading (NotText at) = IsRun words × InputRefused reading (NotText at)
 Causes words reading NoParts = IsRun words × InputRefused reading NoParts
+Causes words reading (TooDeep number at) = IsRun words × InputRefused reading (TooDeep number at)
+Causes words reading (Syntax number at) = IsRun words × InputRefused reading (Syntax number at)
 Causes words reading (Unbuilt span) = IsRun words × InputRefused reading (Unbuilt span)
 Causes words reading NoMemory = Unit {0}
 Causes words reading Done = ⊥

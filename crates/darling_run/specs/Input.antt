@@ -1,81 +1,85 @@
--- What an input holds, and why one is refused.
-use Rattle.std.specs.Prelude.{◌≡◌, ℕ, ◌⊎◌, List, [], ◌∷◌, length, chars, Option, Some, None}
+-- What an input is: a declaration and its subjects, or why it is refused.
+use Rattle.std.specs.Prelude.{◌≡◌, ℕ, ◌⊎◌, if◌then◌else◌, List, [], ◌∷◌, length, Option, Some, None, Result, Ok, Err}
 use Rattle.std.specs.Option.{option_to_list}
 use Rattle.std.specs.Str.{IsUtf8}
 use Rattle.std.specs.Str.Lossy.{utf8_valid_len}
 use Rattle.token_core.specs.declared.span.Span.{Span}
 use Rattle.token_core.specs.declared.span.Span.TheVariants.{At}
 use Rattle.token_core.specs.declared.tree.TokenStream.{TokenStream}
-use Rattle.tok_core.specs.Small.{IsSmall}
-use Rattle.tok_core.specs.Spells.{Spells}
-use Rattle.tok_core.specs.Endings.{IsWithin}
 use Rattle.node_core.specs.declared.derive.DeriveInput.{DeriveInput}
-use Rattle.form_core.specs.FirstForm.{declaration_of, subjects_of}
+use Rattle.form_core.specs.FirstForm.{is_first_form}
 use Rattle.parts_core.specs.Parts.{IsDivision, divider_count}
+use Rattle.meaning_core.specs.Receiver.{attribute_names}
+use Rattle.darling_run.specs.declared.input.Input.{Input}
+use Rattle.darling_run.specs.declared.part.Part.{Part}
+use Rattle.darling_run.specs.declared.part.Part.TheVariants as part
 use Rattle.darling_run.specs.declared.status.Status.{Status}
-use Rattle.darling_run.specs.declared.status.Status.TheVariants.{Done, Usage, ReadFault, TooLong, NotText, NoParts, Unbuilt, WriteFault, NoMemory}
+use Rattle.darling_run.specs.declared.status.Status.TheVariants.{Done, Usage, ReadFault, TooLong, NotText, NoParts, TooDeep, Syntax, Unbuilt, WriteFault, NoMemory}
+use Rattle.darling_run.specs.Parts.{IsPart}
+use Rattle.darling_run.specs.Unread.{first_unread}
 
--- the text, which has the number `source`, is a small one, it spells these tokens, and they keep the limit
-abbrev pub HasTokens : ℕ → List ℕ → TokenStream → Type 0
-HasTokens source text tokens = IsSmall (chars text) × Spells source (chars text) tokens × IsWithin tokens
-
--- the text is a declaration in the first form
-pub record IsDeclaration (text : List ℕ) (declaration : DeriveInput) : Type 0 where
-  pub tokens : TokenStream
-  pub spelled : HasTokens 0 text tokens
-  pub formed : declaration_of tokens ≡ Some declaration
-
--- the text is subjects in the first form
-pub record AreSubjects (text : List ℕ) (subjects : List DeriveInput) : Type 0 where
-  pub tokens : TokenStream
-  pub spelled : HasTokens 1 text tokens
-  pub formed : subjects_of tokens ≡ Some subjects
-
--- the bytes are a text of two parts, a declaration and subjects in their first forms
-pub record IsInput (bytes : List ℕ) (declaration : DeriveInput) (subjects : List DeriveInput) : Type 0 where
-  pub first : List ℕ
-  pub second : List ℕ
-  pub utf8 : IsUtf8 bytes
-  pub division : IsDivision bytes (first ∷ second ∷ [])
-  pub declared : IsDeclaration first declaration
-  pub subjected : AreSubjects second subjects
+-- ---- what is made of the parts
 
 -- all of a part's text
 abbrev pub whole : ℕ → List ℕ → Span
 whole source text = At source 0 (length text)
 
-abbrev pub HasDeclaration : List ℕ → Type 0
-HasDeclaration text = (declaration : DeriveInput) × IsDeclaration text declaration
+-- the declaration of a part that is one in the first form
+abbrev pub declaration_in : TokenStream → List DeriveInput → Option DeriveInput
+declaration_in tokens (declaration ∷ []) = if is_first_form tokens then Some declaration else None
+declaration_in tokens _ = None
 
-abbrev pub HasSubjects : List ℕ → Type 0
-HasSubjects text = (subjects : List DeriveInput) × AreSubjects text subjects
+-- the subjects under the declaration, unless one has an attribute that is not read
+abbrev pub read_by : DeriveInput → List DeriveInput → Option Span → Result Input Status
+read_by declaration subjects (Some span) = Err (Unbuilt span)
+read_by declaration subjects None = Ok (record { declaration = declaration; subjects = subjects })
 
--- there is a table, and it has this span
-abbrev pub TableAt : Option (List ℕ) → Span → Type 0
-TableAt None span = ⊥
-TableAt (Some table) span = span ≡ whole 2 table
+-- what is read so far: a declaration in the first form, no table, and attributes in the forms that are read
+abbrev pub built_by : List ℕ → Option (List ℕ) → Option DeriveInput → List DeriveInput → Result Input Status
+built_by text table None subjects = Err (Unbuilt (whole 0 text))
+built_by text (Some table) (Some declaration) subjects = Err (Unbuilt (whole 2 table))
+built_by text None (Some declaration) subjects = read_by declaration subjects (first_unread (attribute_names declaration.attrs) subjects)
 
--- the first of these parts that is not in a form that is read has this span
-abbrev pub IsUnbuilt : List ℕ → List ℕ → Option (List ℕ) → Span → Type 0
-IsUnbuilt first second table span =
-    ((¬ HasDeclaration first) × (span ≡ whole 0 first))
-    ⊎ ((HasDeclaration first × (¬ HasSubjects second) × (span ≡ whole 1 second))
-    ⊎ (HasDeclaration first × HasSubjects second × TableAt table span))
+-- What an input of two parts is; of several reasons to refuse it, the first counts. The first part's text and the
+-- table stand in front.
+abbrev pub decided : List ℕ → Option (List ℕ) → Part → Part → Result Input Status
+decided text table (part.TooDeep at) second = Err (TooDeep 1 at)
+decided text table (part.Syntax at) (part.TooDeep to) = Err (TooDeep 2 to)
+decided text table (part.Syntax at) _ = Err (Syntax 1 at)
+decided text table (part.Items tokens items) (part.TooDeep at) = Err (TooDeep 2 at)
+decided text table (part.Items tokens items) (part.Syntax at) = Err (Syntax 2 at)
+decided text table (part.Items tokens items) (part.Items others subjects) = built_by text table (declaration_in tokens items) subjects
 
--- the bytes are a text of these parts, and one is not in a form that is read
-pub record HasUnbuilt (bytes : List ℕ) (span : Span) : Type 0 where
+-- the answer is the decided one, unless memory ran out
+abbrev pub Decides : Result Input Status → Result Input Status → Type 0
+Decides decided answer = (answer ≡ decided) ⊎ (answer ≡ Err NoMemory)
+
+-- ---- what bytes are
+
+-- the bytes are a text of two parts and perhaps a table, and this is what they are
+pub record AreDecided (bytes : List ℕ) (answer : Result Input Status) : Type 0 where
   pub first : List ℕ
   pub second : List ℕ
   pub table : Option (List ℕ)
   pub utf8 : IsUtf8 bytes
   pub division : IsDivision bytes (first ∷ second ∷ option_to_list table)
-  pub unbuilt : IsUnbuilt first second table span
+  pub first_part : Part
+  pub second_part : Part
+  pub is_first : IsPart 0 first first_part
+  pub is_second : IsPart 1 second second_part
+  pub decision : answer ≡ decided first table first_part second_part
+
+-- the bytes are a declaration and its subjects
+abbrev pub IsInput : List ℕ → DeriveInput → List DeriveInput → Type 0
+IsInput bytes declaration subjects = AreDecided bytes (Ok (record { declaration = declaration; subjects = subjects }))
 
 -- why the bytes are no input
 abbrev pub IsRefused : List ℕ → Status → Type 0
 IsRefused bytes (NotText at) = (¬ IsUtf8 bytes) × (at ≡ utf8_valid_len bytes)
 IsRefused bytes NoParts = IsUtf8 bytes × (¬ ((divider_count bytes ≡ 1) ⊎ (divider_count bytes ≡ 2)))
-IsRefused bytes (Unbuilt span) = HasUnbuilt bytes span
+IsRefused bytes (TooDeep number at) = AreDecided bytes (Err (TooDeep number at))
+IsRefused bytes (Syntax number at) = AreDecided bytes (Err (Syntax number at))
+IsRefused bytes (Unbuilt span) = AreDecided bytes (Err (Unbuilt span))
 IsRefused bytes Done = ⊥
 IsRefused bytes Usage = ⊥
 IsRefused bytes ReadFault = ⊥

@@ -1,14 +1,18 @@
-ghost use Rattle.std.specs.Prelude.{◌≡◌, ◌≤◌, List, ℕ, length, IfOk, IfErr, IfSome, IfNone, OnErr};
-ghost use Rattle.node_core.specs.declared.derive.DeriveInput.{DeriveInput};
-ghost use Rattle.token_core.specs.declared.tree.TokenStream.{TokenStream};
-ghost use Rattle.darling_run.specs.Input.{HasTokens, IsDeclaration, AreSubjects, IsInput, Refuses, HasDeclaration, HasSubjects, whole};
+//! What an input is: a declaration and its subjects, or why it is refused.
 
+ghost use Rattle.std.specs.Prelude.{◌≡◌, ◌≤◌, length, map, IfOk, IfErr, IfSome};
+ghost use Rattle.std.specs.Option.{option_copied};
+ghost use Rattle.darling_run.specs.Input as spec;
+ghost use Rattle.darling_run.specs.Input.{Decides, IsInput, Refuses};
+
+use crate::part::{Part, read_part};
 use crate::status::Status;
-use form_core::{parse_declaration, parse_subjects};
+use crate::unread::first_unread;
+use form_core::is_first_form;
+use meaning_core::Receiver;
 use node_core::DeriveInput;
 use parts_core::{as_text, divide};
-use std::alloc::{AllocError, Global};
-use tok_core::{LexError, is_small, lex};
+use std::alloc::Global;
 use token_core::{Items, Mem, Span, TokenStream};
 
 /// The trees of an input's parts.
@@ -18,7 +22,7 @@ pub(crate) struct Input {
     pub(crate) subjects: Items<DeriveInput>,
 }
 
-/// Reads the two parts of an input in their first forms.
+/// Reads the two parts of an input.
 pub(crate) fn read_input(alloc: Global, bytes: &[u8]) -> Result<Input, Status>
     requires { length bytes.now ≤ 16777216 }
     ensures ok { IfOk result (λ input. IsInput bytes.now input.declaration input.subjects) }
@@ -33,33 +37,88 @@ pub(crate) fn read_input(alloc: Global, bytes: &[u8]) -> Result<Input, Status>
     let Some(parts) = divide(text) else {
         return Err(Status::NoParts);
     };
-    let Some(declaration) = read_declaration(alloc, parts.declarations)? else {
-        return Err(unbuilt(0, parts.declarations));
-    };
-    let input = match read_subjects(alloc, parts.subjects) {
-        Ok(Some(subjects)) => Input {
-            declaration,
-            subjects,
-        },
-        Ok(None) => return Err(instead_of(declaration, unbuilt(1, parts.subjects))),
-        Err(AllocError) => return Err(instead_of(declaration, Status::NoMemory)),
-    };
-    match parts.table {
-        None => Ok(input),
-        Some(table) => Err(instead_of(input, unbuilt(2, table))),
+    let first = read_part(alloc, 0, parts.declarations)?;
+    let second = read_part(alloc, 1, parts.subjects)?;
+    decide(alloc, parts.declarations, parts.table, first, second)
+}
+
+/// What an input of these parts is, of which the first and the table are `text` and `table`.
+fn decide(
+    alloc: Global,
+    text: &str,
+    table: Option<&str>,
+    first: Part,
+    second: Part,
+) -> Result<Input, Status>
+    requires text { length text.now ≤ 16777216 }
+    requires table { IfSome table (λ table. length table.now ≤ 16777216) }
+    ensures { Decides (spec.decided text.now (option_copied table.entry) first second) result }
+{
+    match (first, second) {
+        (Part::TooDeep { at }, _) => Err(Status::TooDeep { part: 1, at }),
+        (_, Part::TooDeep { at }) => Err(Status::TooDeep { part: 2, at }),
+        (Part::Syntax { at }, _) => Err(Status::Syntax { part: 1, at }),
+        (_, Part::Syntax { at }) => Err(Status::Syntax { part: 2, at }),
+        (
+            Part::Items { tokens, items },
+            Part::Items {
+                items: subjects,
+                ..
+            },
+        ) => {
+            let declaration = declaration_in(alloc, &tokens, items)?;
+            build(alloc, text, table, declaration, subjects)
+        }
     }
 }
 
-/// The status, where what was read is let go. The trees are dropped here alone, as their drop is long.
-fn instead_of<T: Drop>(_read: T, status: Status) -> Status
-    ensures { result ≡ status }
+/// The declaration of a part that is one in the first form.
+fn declaration_in(
+    alloc: Global,
+    tokens: &TokenStream,
+    items: Items<DeriveInput>,
+) -> Mem<Option<DeriveInput>>
+    ensures { IfOk result (λ declaration. declaration ≡ spec.declaration_in tokens.now items) }
 {
-    status
+    let mut items = items;
+    if items.len() != 1 || !is_first_form(alloc, tokens)? {
+        return Ok(None);
+    }
+    Ok(items.pop())
 }
 
+/// What an input of this declaration and these subjects is.
+fn build(
+    alloc: Global,
+    text: &str,
+    table: Option<&str>,
+    declaration: Option<DeriveInput>,
+    subjects: Items<DeriveInput>,
+) -> Result<Input, Status>
+    requires text { length text.now ≤ 16777216 }
+    requires table { IfSome table (λ table. length table.now ≤ 16777216) }
+    ensures { Decides (spec.built_by text.now (option_copied table.entry) declaration subjects) result }
+{
+    let Some(declaration) = declaration else {
+        return Err(unbuilt(0, text));
+    };
+    if let Some(table) = table {
+        return Err(unbuilt(2, table));
+    }
+    let receiver = Receiver::new(alloc, &declaration)?;
+    match first_unread(alloc, &receiver, subjects.as_slice())? {
+        Some(span) => Err(Status::Unbuilt { span }),
+        None => Ok(Input {
+            declaration,
+            subjects,
+        }),
+    }
+}
+
+/// All of this part is in a form that is not read.
 fn unbuilt(source: u32, part: &str) -> Status
     requires { length part.now ≤ 16777216 }
-    ensures { result ≡ Status.Unbuilt (whole source part.now) }
+    ensures { result ≡ Status.Unbuilt (spec.whole source part.now) }
 {
     let span = Span::At {
         source,
@@ -67,44 +126,4 @@ fn unbuilt(source: u32, part: &str) -> Status
         end: part.len() as u32,
     };
     Status::Unbuilt { span }
-}
-
-fn read_declaration(alloc: Global, text: &str) -> Mem<Option<DeriveInput>>
-    requires { length text.now ≤ 16777216 }
-    ensures some { IfOk result (λ read. IfSome read (IsDeclaration text.now)) }
-    ensures none { IfOk result (λ read. IfNone read (¬ HasDeclaration text.now)) }
-{
-    match read_tokens(alloc, 0, text)? {
-        Some(tokens) => parse_declaration(alloc, &tokens),
-        None => Ok(None),
-    }
-}
-
-fn read_subjects(alloc: Global, text: &str) -> Mem<Option<Items<DeriveInput>>>
-    requires { length text.now ≤ 16777216 }
-    ensures some { IfOk result (λ read. IfSome read (AreSubjects text.now)) }
-    ensures none { IfOk result (λ read. IfNone read (¬ HasSubjects text.now)) }
-{
-    match read_tokens(alloc, 1, text)? {
-        Some(tokens) => parse_subjects(alloc, &tokens),
-        None => Ok(None),
-    }
-}
-
-/// The tokens of a part, where it is a small text and spells some.
-fn read_tokens(alloc: Global, source: u32, text: &str) -> Mem<Option<TokenStream>>
-    requires { length text.now ≤ 16777216 }
-    ensures some { IfOk result (λ read. IfSome read (HasTokens source text.now)) }
-    ensures one { IfOk result (λ read. IfSome read (λ tokens.
-        (other : TokenStream) → HasTokens source text.now other → other ≡ tokens)) }
-    ensures none { IfOk result (λ read. IfNone read ((other : TokenStream) → ¬ HasTokens source text.now other)) }
-{
-    if !is_small(alloc, text)? {
-        return Ok(None);
-    }
-    match lex(alloc, source, text) {
-        Ok(tokens) => Ok(Some(tokens)),
-        Err(LexError::NoMemory) => Err(AllocError),
-        Err(LexError::TooDeep { .. } | LexError::Syntax { .. }) => Ok(None),
-    }
 }

@@ -1,16 +1,19 @@
 //! The derived parsers of a text of declarations, run over a text of annotated items.
 //!
 //! [`run_tool`] reads an input of two parts, a declaration and the items, and writes a line for
-//! each item: its value, or its faults with their places. So far one form of declaration is read,
-//! a struct of required `String` fields that derives `FromDeriveInput`.
+//! each item: its value, or its faults with their places. The items are any structs, enums and unions;
+//! so far one form of declaration is read, a struct of required `String` fields that derives
+//! `FromDeriveInput`.
 #![tactic(auto)]
 
 mod input;
+mod part;
 mod report;
 mod status;
 #[cfg(test)]
 mod tests;
 mod tool;
+mod unread;
 mod values;
 
 pub use fault_core::{Fault, FaultKind, fault_line};

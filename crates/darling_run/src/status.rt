@@ -20,7 +20,12 @@ pub enum Status {
     NotText { at: u32 },
     /// No line is `%%`, or more than two are.
     NoParts,
-    /// A part is not in a form that is read so far. The span is that whole part.
+    /// More than 128 delimiters are open at byte `at` of the part, counted from 1.
+    TooDeep { part: u32, at: u32 },
+    /// The part is no list of items from its byte `at` on.
+    Syntax { part: u32, at: u32 },
+    /// The first part or the table is not in a form that is read so far, and the span is all of it; or
+    /// an attribute is not, and the span is the attribute.
     Unbuilt { span: Span },
     /// The sink failed.
     WriteFault,
@@ -48,8 +53,12 @@ impl Status {
         match self {
             Status::Done => 0,
             Status::Usage => 2,
-            Status::TooLong | Status::NotText { .. } | Status::NoParts | Status::Unbuilt { .. } =>
-                3,
+            Status::TooLong
+            | Status::NotText { .. }
+            | Status::NoParts
+            | Status::TooDeep { .. }
+            | Status::Syntax { .. }
+            | Status::Unbuilt { .. } => 3,
             Status::ReadFault => 4,
             Status::WriteFault => 5,
             Status::NoMemory => 6,
@@ -57,7 +66,7 @@ impl Status {
     }
 }
 
-ghost use Rattle.darling_run.specs.Status.{refusal_text};
+ghost use Rattle.darling_run.specs.Status.{place_line, refusal_text};
 
 /// The line that tells of a refusal. It is empty for a status that is none, and where nothing can
 /// be written.
@@ -71,6 +80,10 @@ pub fn refusal_text(alloc: Global, status: &Status) -> Mem<Text>
         Status::TooLong => Text::from_str(alloc, "refused: input over 16777216 bytes\n"),
         Status::NotText { at } => not_text_line(alloc, *at),
         Status::NoParts => Text::from_str(alloc, "refused: no parts\n"),
+        Status::TooDeep { part, at } => {
+            place_line(alloc, "refused: too deep in part ", *part, *at)
+        }
+        Status::Syntax { part, at } => place_line(alloc, "refused: syntax in part ", *part, *at),
         Status::Unbuilt { span } => unbuilt_line(alloc, *span),
     }
 }
@@ -81,6 +94,17 @@ fn not_text_line(alloc: Global, at: u32) -> Mem<Text>
     let mut text = Text::from_str(alloc, "refused: not UTF-8 at ")?;
     let digits = at.to_string(alloc)?;
     text.push_str(digits.as_str())?;
+    text.push_str("\n")?;
+    Ok(text)
+}
+
+fn place_line(alloc: Global, reason: &str, part: u32, at: u32) -> Mem<Text>
+    ensures { IfOk result (λ text. text ≡ place_line reason.now part at) }
+{
+    let mut text = Text::from_str(alloc, reason)?;
+    text.push_str(part.to_string(alloc)?.as_str())?;
+    text.push_str(" at ")?;
+    text.push_str(at.to_string(alloc)?.as_str())?;
     text.push_str("\n")?;
     Ok(text)
 }

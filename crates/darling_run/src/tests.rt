@@ -11,7 +11,7 @@ struct Opts { name: String }
 ";
 
 // Lists of the attribute `my`, with what is written of the item.
-const LISTS: [(&str, &str); 5] = [
+const LISTS: [(&str, &str); 7] = [
     ("(name = \"a\")", "ok S Opts {name: \"a\"}\n"),
     ("", "err S 1\n  - Missing field `name`\n"),
     (
@@ -23,10 +23,65 @@ const LISTS: [(&str, &str); 5] = [
         "(nom = \"a\", name = \"b\",)",
         "err S 1\n  5..14 Unknown field: `nom`. Available values: `name`\n",
     ),
+    (
+        "(name = \"\\u{e9}\\\"\")",
+        "ok S Opts {name: \"\u{e9}\\\"\"}\n",
+    ),
+    ("(name = r#\"a\"#)", "ok S Opts {name: \"a\"}\n"),
+];
+
+// Items of any kind, each with what is written of it.
+const ITEMS: [(&str, &str); 5] = [
+    (
+        "/// x\n#[a::my(b)] #[my(name = \"a\")] pub enum E<T> where T: A { B(T), C = 1 }",
+        "ok E Opts {name: \"a\"}\n",
+    ),
+    (
+        "#[::my(name = \"a\")] pub(crate) union r#type { a: A }",
+        "ok r#type Opts {name: \"a\"}\n",
+    ),
+    (
+        "struct S<const N: usize>([u8; N]);",
+        "err S 1\n  - Missing field `name`\n",
+    ),
+    (
+        "#[my(name = \"a\")] struct S { #[my(other)] a: A }\nstruct T;",
+        "ok S Opts {name: \"a\"}\nerr T 1\n  - Missing field `name`\n",
+    ),
+    ("", ""),
+];
+
+// Second parts that are refused, each with the line.
+const NO_ITEMS: [(&str, &str); 10] = [
+    (
+        "#[my(n = 340282366920938463463374607431768211456)] struct S;",
+        "refused: syntax in part 2 at 9\n",
+    ),
+    ("struct S", "refused: syntax in part 2 at 0\n"),
+    (
+        "struct S; struct T {} fn f() {}",
+        "refused: syntax in part 2 at 22\n",
+    ),
+    ("struct S; \"", "refused: syntax in part 2 at 10\n"),
+    (
+        "#[my[name = \"a\"]] struct S;",
+        "refused: unbuilt at 0..17\n",
+    ),
+    (
+        "struct R; #[other = 1] #[my = \"a\"] struct S;",
+        "refused: unbuilt at 23..34\n",
+    ),
+    ("#[my(name)] struct S;", "refused: unbuilt at 0..11\n"),
+    ("#[my(name = 1)] struct S;", "refused: unbuilt at 0..15\n"),
+    (
+        "#[my] #[my(\"a\")] struct S;",
+        "refused: unbuilt at 6..16\n",
+    ),
+    ("struct S;\n%%\nx", "refused: unbuilt at 0..1\n"),
 ];
 
 // Inputs that are refused, with the line.
-const REFUSALS: [(&[u8], &str); 6] = [
+const REFUSALS: [(&[u8], &str); 11] = [
     (b"struct A;\n%%\n", "refused: unbuilt at 0..10\n"),
     (b"struct A;\n", "refused: no parts\n"),
     (b"%%\n%%\n%%\n", "refused: no parts\n"),
@@ -36,10 +91,27 @@ const REFUSALS: [(&[u8], &str); 6] = [
         "refused: unbuilt at 0..19\n",
     ),
     (b"", "refused: no parts\n"),
+    (
+        b"#[doc = \"x\n%%\n\"] struct D;\n%%\n",
+        "refused: syntax in part 1 at 8\n",
+    ),
+    (b"struct A { a }\n%%\n", "refused: syntax in part 1 at 0\n"),
+    (b"struct A; ]\n%%\n(\n", "refused: syntax in part 1 at 10\n"),
+    (
+        b"struct A;\n%%\nstruct\n",
+        "refused: syntax in part 2 at 0\n",
+    ),
+    (b"%%\n%%\nx", "refused: unbuilt at 0..0\n"),
 ];
 
 fn input(alloc: Global, list: &str) -> Result<String, Fail> {
     Ok(format!(in alloc; "{DECLARATION}#[my{list}] struct S;\n")?)
+}
+
+/// What is written of these subjects, and the program's number.
+fn written(alloc: Global, subjects: &str) -> Result<(u8, Vec<u8>), Fail> {
+    let input = format!(in alloc; "{DECLARATION}{subjects}")?;
+    end_of(alloc, &["run"], input.into_bytes(), 0, 0)
 }
 
 /// The program's number and what is written, where the tool runs on `bytes` and the read and the
@@ -73,6 +145,50 @@ fn items_are_read(rt: HostRuntime) -> Result<(), Fail> {
         assert_eq!(rt; number, 0);
         assert!(rt; text.as_slice() == output.as_bytes());
     }
+    Ok(())
+}
+
+#[test]
+fn any_items_are_read(rt: HostRuntime) -> Result<(), Fail> {
+    let alloc = rt.alloc();
+    for (subjects, output) in ITEMS {
+        let (number, text) = written(alloc, subjects)?;
+        assert_eq!(rt; number, 0, "{subjects}");
+        assert!(rt; text.as_slice() == output.as_bytes(), "{subjects}");
+    }
+    for (subjects, line) in NO_ITEMS {
+        let (number, text) = written(alloc, subjects)?;
+        assert_eq!(rt; number, 3, "{subjects}");
+        assert!(rt; text.as_slice() == line.as_bytes(), "{subjects}");
+    }
+    Ok(())
+}
+
+/// The attribute `a` with so many parentheses in it, on a struct.
+fn deep(alloc: Global, levels: usize) -> Result<String, Fail> {
+    let mut text = "#[a".to_string(alloc)?;
+    for _level in 0..levels {
+        text.push('(')?;
+    }
+    for _level in 0..levels {
+        text.push(')')?;
+    }
+    text.push_str("] struct S;")?;
+    Ok(text)
+}
+
+#[test]
+fn more_than_128_open_delimiters_are_too_deep(rt: HostRuntime) -> Result<(), Fail> {
+    let alloc = rt.alloc();
+    let (number, text) = written(alloc, deep(alloc, 127)?.as_str())?;
+    assert_eq!(rt; number, 0);
+    assert!(rt; text.as_slice() == b"err S 1\n  - Missing field `name`\n".as_slice());
+    let (number, text) = written(alloc, deep(alloc, 128)?.as_str())?;
+    assert_eq!(rt; number, 3);
+    assert!(rt; text.as_slice() == b"refused: too deep in part 2 at 130\n".as_slice());
+    let first = format!(in alloc; "\"\n%%\n{}", deep(alloc, 128)?.as_str())?;
+    let (_, text) = end_of(alloc, &["run"], first.into_bytes(), 0, 0)?;
+    assert!(rt; text.as_slice() == b"refused: too deep in part 2 at 130\n".as_slice());
     Ok(())
 }
 

@@ -1,3 +1,1 @@
 pub mod Distinct
-pub mod Seven
-pub mod Subjects

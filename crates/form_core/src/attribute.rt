@@ -1,131 +1,24 @@
-ghost use Rattle.std.specs.Prelude.{◌≡◌, IfOk, is_some};
-ghost use Rattle.form_core.specs.Attribute.{contents, path_meta, list_meta, meta_of, attribute, has_items, subject_attribute, is_word, is_identifier, is_derive, is_attributes, is_darling, derive_attribute, darling_attribute};
-ghost use Rattle.meta_core.specs.Nested.{nested_of};
+ghost use Rattle.std.specs.Prelude.{◌≡◌};
+ghost use Rattle.form_core.specs.Attribute.{contents, derives, reads_attribute, is_attributes, is_darling, is_derive, is_identifier, is_word};
 
-use crate::made::meta_list;
 use crate::name::identifier;
-use base_core::Mem;
-use meta_core::{group, mark, parse_meta_list, path_of, word, word_named};
-use node_core::{Attribute, Meta};
-use std::alloc::Global;
-use token_core::{Delimiter, TokenStream, TokenTree};
+use meta_core::{group, mark, word_named};
+use token_core::{Delimiter, TokenTree};
 
 /// `#[derive(FromDeriveInput)]`
-#[tactic(auto, unfolding(crate::specs::Attribute::derive_attribute))]
-pub fn derive_attribute(
-    alloc: Global,
-    hash: &TokenTree,
-    brackets: &TokenTree,
-) -> Mem<Option<Attribute>>
-    ensures { IfOk result (λ attr. attr ≡ derive_attribute hash.now brackets.now) }
+#[tactic(auto, unfolding(crate::specs::Attribute::derives))]
+pub fn derives(hash: &TokenTree, brackets: &TokenTree) -> bool
+    ensures { result ≡ derives hash.now brackets.now }
 {
-    if is_derive(contents(brackets, Delimiter::Bracket)) {
-        attribute(alloc, hash, brackets)
-    } else {
-        Ok(None)
-    }
+    mark(hash, '#').is_some() && is_derive(contents(brackets, Delimiter::Bracket))
 }
 
 /// `#[darling(attributes(name))]`
-#[tactic(auto, unfolding(crate::specs::Attribute::darling_attribute))]
-pub fn darling_attribute(
-    alloc: Global,
-    hash: &TokenTree,
-    brackets: &TokenTree,
-) -> Mem<Option<Attribute>>
-    ensures { IfOk result (λ attr. attr ≡ darling_attribute hash.now brackets.now) }
+#[tactic(auto, unfolding(crate::specs::Attribute::reads_attribute))]
+pub fn reads_attribute(hash: &TokenTree, brackets: &TokenTree) -> bool
+    ensures { result ≡ reads_attribute hash.now brackets.now }
 {
-    if is_darling(contents(brackets, Delimiter::Bracket)) {
-        attribute(alloc, hash, brackets)
-    } else {
-        Ok(None)
-    }
-}
-
-/// `#[name]` or `#[name(items)]`
-#[tactic(auto, unfolding(crate::specs::Attribute::subject_attribute))]
-pub fn subject_attribute(
-    alloc: Global,
-    hash: &TokenTree,
-    brackets: &TokenTree,
-) -> Mem<Option<Attribute>>
-    ensures { IfOk result (λ attr. attr ≡ subject_attribute hash.now brackets.now) }
-{
-    let Some(attr) = attribute(alloc, hash, brackets)? else {
-        return Ok(None);
-    };
-    if has_items(alloc, &attr.meta)? {
-        Ok(Some(attr))
-    } else {
-        Ok(None)
-    }
-}
-
-#[tactic(auto, unfolding(crate::specs::Attribute::attribute))]
-fn attribute(alloc: Global, hash: &TokenTree, brackets: &TokenTree) -> Mem<Option<Attribute>>
-    ensures { IfOk result (λ attr. attr ≡ attribute hash.now brackets.now) }
-{
-    let Some(start) = mark(hash, '#') else {
-        return Ok(None);
-    };
-    let Some(inner) = group(brackets, Delimiter::Bracket) else {
-        return Ok(None);
-    };
-    let Some(meta) = meta_of(alloc, inner.stream.trees.as_slice())? else {
-        return Ok(None);
-    };
-    let span = start.join(inner.span);
-    Ok(Some(Attribute { meta, span }))
-}
-
-/// `name` or `name(tokens)`
-fn meta_of(alloc: Global, trees: &[TokenTree]) -> Mem<Option<Meta>>
-    ensures { IfOk result (λ meta. meta ≡ meta_of trees.now) }
-{
-    match trees {
-        [name] => path_meta(alloc, name),
-        [name, arguments] => list_meta(alloc, name, arguments),
-        _ => Ok(None),
-    }
-}
-
-#[tactic(auto, unfolding(crate::specs::Attribute::path_meta))]
-fn path_meta(alloc: Global, name: &TokenTree) -> Mem<Option<Meta>>
-    ensures { IfOk result (λ meta. meta ≡ path_meta name.now) }
-{
-    let Some(ident) = word(name) else {
-        return Ok(None);
-    };
-    Ok(Some(Meta::Path(path_of(alloc, ident)?)))
-}
-
-#[tactic(auto, unfolding(crate::specs::Attribute::list_meta))]
-fn list_meta(alloc: Global, name: &TokenTree, arguments: &TokenTree) -> Mem<Option<Meta>>
-    ensures { IfOk result (λ meta. meta ≡ list_meta name.now arguments.now) }
-{
-    let Some(ident) = word(name) else {
-        return Ok(None);
-    };
-    let Some(tokens) = group(arguments, Delimiter::Parenthesis) else {
-        return Ok(None);
-    };
-    Ok(Some(Meta::List(meta_list(alloc, ident, tokens)?)))
-}
-
-fn has_items(alloc: Global, meta: &Meta) -> Mem<bool>
-    ensures { IfOk result (λ has. has ≡ has_items meta.now) }
-{
-    match meta {
-        Meta::List(list) => are_items(alloc, &list.tokens),
-        _ => Ok(true),
-    }
-}
-
-fn are_items(alloc: Global, tokens: &TokenStream) -> Mem<bool>
-    ensures { IfOk result (λ are. are ≡ is_some (nested_of tokens.now)) }
-{
-    let items = parse_meta_list(alloc, tokens)?;
-    Ok(items.is_some())
+    mark(hash, '#').is_some() && is_darling(contents(brackets, Delimiter::Bracket))
 }
 
 /// What stands in the group between these delimiters; nothing where the tree is no such group.

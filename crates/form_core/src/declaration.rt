@@ -1,75 +1,56 @@
-ghost use Rattle.std.specs.Prelude.{◌≡◌, ◌∷◌, [], IfOk};
-ghost use Rattle.form_core.specs.FirstForm.{named_struct, declaration, declaration_of};
+ghost use Rattle.std.specs.Prelude.{◌≡◌, IfOk};
+ghost use Rattle.std.specs.Option.{option_copied};
+ghost use Rattle.form_core.specs.FirstForm.{holds_fields, is_declaration, is_first_form, is_struct};
 
-use crate::attribute::{darling_attribute, derive_attribute};
-use crate::field::fields;
-use crate::made::struct_of;
+use crate::attribute::{derives, reads_attribute};
+use crate::field::are_fields;
 use crate::name::declared_name;
-use base_core::{Items, Mem};
+use base_core::Mem;
 use meta_core::{group, word_named};
-use node_core::{Attribute, DeriveInput, Fields, FieldsNamed};
 use std::alloc::Global;
-use token_core::{Delimiter, TokenStream, TokenTree};
+use token_core::{Delimiter, Group, TokenStream, TokenTree};
 
-/// Reads `#[derive(FromDeriveInput)] #[darling(attributes(name))] struct Name { a: String }`.
+/// Whether the tokens are `#[derive(FromDeriveInput)] #[darling(attributes(name))] struct Name { a: String }`.
 ///
 /// The names are identifiers; that of the struct is not `String`, and those of the fields are
-/// distinct, none a magic or a generated one. `None` where the tokens are no such declaration.
-pub fn parse_declaration(alloc: Global, tokens: &TokenStream) -> Mem<Option<DeriveInput>>
-    ensures { IfOk result (λ item. item ≡ declaration_of tokens.now) }
+/// distinct, none a magic or a generated one.
+pub fn is_first_form(alloc: Global, tokens: &TokenStream) -> Mem<bool>
+    ensures { IfOk result (λ is. is ≡ is_first_form tokens.now) }
 {
-    declaration(alloc, tokens.trees.as_slice())
+    is_declaration(alloc, tokens.trees.as_slice())
 }
 
-#[tactic(auto, unfolding(crate::specs::FirstForm::declaration))]
-fn declaration(alloc: Global, trees: &[TokenTree]) -> Mem<Option<DeriveInput>>
-    ensures { IfOk result (λ item. item ≡ declaration trees.now) }
+#[tactic(auto, unfolding(crate::specs::FirstForm::is_declaration))]
+fn is_declaration(alloc: Global, trees: &[TokenTree]) -> Mem<bool>
+    ensures { IfOk result (λ is. is ≡ is_declaration trees.now) }
 {
     let [hash, derive, other_hash, darling, keyword, name, braces] = trees else {
-        return Ok(None);
+        return Ok(false);
     };
-    let Some(first) = derive_attribute(alloc, hash, derive)? else {
-        return Ok(None);
-    };
-    let Some(second) = darling_attribute(alloc, other_hash, darling)? else {
-        return Ok(None);
-    };
-    let attrs = two(alloc, first, second)?;
-    named_struct(alloc, attrs, keyword, name, braces)
-}
-
-fn two(alloc: Global, first: Attribute, second: Attribute) -> Mem<Items<Attribute>>
-    ensures { IfOk result (λ attrs. attrs ≡ first ∷ second ∷ []) }
-{
-    let mut attrs = Items::of(alloc, first)?;
-    attrs.push(second)?;
-    Ok(attrs)
+    if derives(hash, derive) && reads_attribute(other_hash, darling) {
+        is_struct(alloc, keyword, name, braces)
+    } else {
+        Ok(false)
+    }
 }
 
 /// `struct Name { fields }`
-#[tactic(auto, unfolding(crate::specs::FirstForm::named_struct))]
-fn named_struct(
-    alloc: Global,
-    attrs: Items<Attribute>,
-    keyword: &TokenTree,
-    name: &TokenTree,
-    braces: &TokenTree,
-) -> Mem<Option<DeriveInput>>
-    ensures { IfOk result (λ item. item ≡ named_struct attrs keyword.now name.now braces.now) }
+#[tactic(auto, unfolding(crate::specs::FirstForm::is_struct))]
+fn is_struct(alloc: Global, keyword: &TokenTree, name: &TokenTree, braces: &TokenTree) -> Mem<bool>
+    ensures { IfOk result (λ is. is ≡ is_struct keyword.now name.now braces.now) }
 {
-    let Some(keyword) = word_named(keyword, "struct") else {
-        return Ok(None);
-    };
-    let Some(ident) = declared_name(name) else {
-        return Ok(None);
-    };
-    let Some(inner) = group(braces, Delimiter::Brace) else {
-        return Ok(None);
-    };
-    let Some(named) = fields(alloc, inner.stream.trees.as_slice())? else {
-        return Ok(None);
-    };
-    let span = inner.span;
-    let body = Fields::Named(FieldsNamed { named, span });
-    Ok(Some(struct_of(alloc, attrs, keyword, ident, body, span)?))
+    if word_named(keyword, "struct").is_some() && declared_name(name).is_some() {
+        holds_fields(alloc, group(braces, Delimiter::Brace))
+    } else {
+        Ok(false)
+    }
+}
+
+fn holds_fields(alloc: Global, group: Option<&Group>) -> Mem<bool>
+    ensures { IfOk result (λ holds. holds ≡ holds_fields (option_copied group.entry)) }
+{
+    match group {
+        Some(inner) => are_fields(alloc, inner.stream.trees.as_slice()),
+        None => Ok(false),
+    }
 }

@@ -84,8 +84,11 @@ is_word word.As word.As = true
 is_word word.Const word.Const = true
 is_word word.Fn word.Fn = true
 is_word word.For word.For = true
+is_word word.In word.In = true
 is_word word.Move word.Move = true
 is_word word.Mut word.Mut = true
+is_word word.Pub word.Pub = true
+is_word word.Where word.Where = true
 is_word _ _ = false
 
 -- whether this word comes next

@@ -10,7 +10,7 @@ ghost use Rattle.grammar_core.specs.Steps.{Expects, Takes, Finishes};
 use crate::fail::ReadFail;
 use crate::literal::index_of;
 use crate::token::{
-    contents_of, is_arrow, is_colon, is_colons, is_mark, lifetime_of, literal_of, span_of,
+    contents_of, ident_of, is_arrow, is_colon, is_colons, is_mark, lifetime_of, literal_of, span_of,
 };
 use crate::word::{Word, name_of, sees, segment_word};
 use base_core::{Items, Mem};
@@ -182,7 +182,7 @@ impl<'a> Cursor<'a> {
         self.expect(is_colons(self.rest), 2)
     }
 
-    /// Takes this word, if it comes next: one of `as`, `const`, `fn`, `for`, `move`, `mut`.
+    /// Takes this word, if it comes next and is one of those that [`sees`] asks for.
     pub fn eat_word(&mut self, wanted: Word) -> bool
         ensures found { result ≡ words.sees wanted self.old.rest }
         ensures after { self.new ≡ spec.after_eat 1 (words.sees wanted self.old.rest) self.old }
@@ -190,7 +190,7 @@ impl<'a> Cursor<'a> {
         self.eat(sees(wanted, self.rest), 1)
     }
 
-    /// Takes this word, which must come next: one of `as`, `const`, `fn`, `for`, `move`, `mut`.
+    /// Takes this word, which must come next and is one of those that [`sees`] asks for.
     pub fn expect_word(&mut self, wanted: Word) -> Result<(), ReadFail>
         ensures { Expects 1 (words.sees wanted self.old.rest) self.old result self.new }
     {
@@ -202,6 +202,18 @@ impl<'a> Cursor<'a> {
         ensures { Takes (words.name_of self.old.rest) self.old result self.new }
     {
         let Some(ident) = name_of(self.rest) else {
+            return Err(ReadFail::Syntax);
+        };
+        let ident = ident.try_clone(alloc)?;
+        self.skip();
+        Ok(ident)
+    }
+
+    /// Takes an identifier token, a keyword too.
+    pub fn take_word(&mut self, alloc: Global) -> Result<Ident, ReadFail>
+        ensures { Takes (token.ident_of self.old.rest) self.old result self.new }
+    {
+        let Some(ident) = ident_of(self.rest) else {
             return Err(ReadFail::Syntax);
         };
         let ident = ident.try_clone(alloc)?;

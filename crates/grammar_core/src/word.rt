@@ -120,7 +120,8 @@ pub fn segment_word(trees: &[TokenTree]) -> Option<&Ident>
     }
 }
 
-/// Whether this one of the words `as`, `const`, `fn`, `for`, `move` and `mut` comes next.
+/// Whether this one of the words `as`, `const`, `fn`, `for`, `in`, `move`, `mut`, `pub` and `where`
+/// comes next.
 pub fn sees(wanted: Word, trees: &[TokenTree]) -> bool
     ensures { result ≡ sees wanted trees.now }
 {
@@ -130,8 +131,11 @@ pub fn sees(wanted: Word, trees: &[TokenTree]) -> bool
             | (Word::Const, Word::Const)
             | (Word::Fn, Word::Fn)
             | (Word::For, Word::For)
+            | (Word::In, Word::In)
             | (Word::Move, Word::Move)
             | (Word::Mut, Word::Mut)
+            | (Word::Pub, Word::Pub)
+            | (Word::Where, Word::Where)
     )
 }
 

@@ -4,7 +4,7 @@ use Rattle.token_core.specs.declared.span.Span.{Span}
 use Rattle.token_core.specs.declared.tree.Delimiter.{Delimiter}
 use Rattle.token_core.specs.declared.tree.Delimiter.TheVariants as delimiter
 use Rattle.token_core.specs.declared.tree.Group.{out-Group}
-use Rattle.token_core.specs.declared.tree.TokenStream.{roll-TokenStream}
+use Rattle.token_core.specs.declared.tree.TokenStream.{TokenStream, roll-TokenStream}
 use Rattle.token_core.specs.declared.tree.TokenTree.{TokenTree, out-TokenTree}
 use Rattle.token_core.specs.declared.tree.TokenTree.TheOpen.{TokenTree-F}
 use Rattle.expr_core.specs.Make.{make_path, make_segment}
@@ -19,12 +19,13 @@ use Rattle.node_core.specs.declared.attr.Attribute.{Attribute}
 use Rattle.node_core.specs.declared.attr.Meta.{Meta}
 use Rattle.node_core.specs.declared.attr.Meta.TheVariants as made
 use Rattle.grammar_core.specs.Token.{Layer, ident_of, literal_of, contents_of, is_colons, is_equals, is_mark}
-use Rattle.grammar_core.specs.Input.{Parser, ◌>>=◌, ◌>>◌, ◌<$>◌, pure, refuse, test, start_of, here, upto, skip, eat, expect, take_as, at_end, inside, joined_by}
+use Rattle.grammar_core.specs.Input.{Parser, ◌>>=◌, ◌>>◌, ◌<$>◌, pure, refuse, test, start_of, here, upto, skip, eat, expect, taken, take_as, at_end, inside, joined_by}
 use Rattle.grammar_core.specs.Literals.{lit_of}
 use Rattle.grammar_core.specs.Readers.{any_level}
 use Rattle.grammar_core.specs.Grammar.{within, max_depth}
 use Rattle.grammar_core.specs.Trees.{all}
-use Rattle.item_core.specs.Lists.{given, take_all, each_while}
+use Rattle.item_core.specs.declared.lists.While.TheVariants as while
+use Rattle.item_core.specs.Lists.{take_all, each_while, goes_on}
 
 -- ---- paths of any words, keywords and `_` too
 
@@ -58,16 +59,27 @@ signed = do
   minus ← expect 1 (is_mark 45)
   token ← take_as literal_of
   span ← upto start
-  given (negative span (lit_of token))
+  taken (negative span (lit_of token))
+
+-- the number with its sign that all of the tokens are
+abbrev pub number_in : List TokenTree → Option Lit
+number_in trees = all (signed (start_of trees))
+
+-- the expression that all of the tokens are
+abbrev pub expr_in : List TokenTree → Option Expr
+expr_in trees = all ((within max_depth).expr any_level (start_of trees))
+
+abbrev pub stream : List TokenTree → TokenStream
+stream trees = roll-TokenStream (record { trees = trees })
 
 abbrev pub value_by : List TokenTree → Option Lit → Option Expr → Expr
 value_by trees (Some number) found = expr.Lit number
 value_by trees None (Some found) = found
-value_by trees None None = expr.Verbatim (roll-TokenStream (record { trees = trees }))
+value_by trees None None = expr.Verbatim (stream trees)
 
 -- What tokens are as the value of an attribute: a number with its sign, or an expression; else they are kept.
 unfoldable pub value_of : List TokenTree → Expr
-value_of trees = value_by trees (all (signed (start_of trees))) (all ((within max_depth).expr any_level (start_of trees)))
+value_of trees = value_by trees (number_in trees) (expr_in trees)
 
 -- ---- meta items
 
@@ -86,7 +98,7 @@ meta_list start path between = do
   tokens ← test contents_of
   group ← skip
   span ← upto start
-  pure (made.List (record { path = path; delimiter = between; tokens = roll-TokenStream (record { trees = tokens }); span = span }))
+  pure (made.List (record { path = path; delimiter = between; tokens = stream tokens; span = span }))
 
 -- `=` and at least one token behind the path
 unfoldable pub name_value : Span → Path → Parser Meta
@@ -124,4 +136,4 @@ attribute = do
 
 -- the attributes that come next
 unfoldable pub attributes : Parser (List Attribute)
-attributes = each_while (is_mark 35) attribute
+attributes = each_while (goes_on while.Hash) attribute

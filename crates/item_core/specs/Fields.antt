@@ -2,6 +2,7 @@
 use Rattle.std.specs.Prelude.{Bool, true, false, if◌then◌else◌, List, Option, Some, None}
 use Rattle.token_core.specs.declared.span.Span.{Span}
 use Rattle.token_core.specs.declared.tree.Delimiter.TheVariants as delimiter
+use Rattle.expr_core.specs.declared.expr.Expr.{Expr}
 use Rattle.node_core.specs.declared.data.Field.{Field}
 use Rattle.node_core.specs.declared.data.Fields.{Fields}
 use Rattle.node_core.specs.declared.data.Fields.TheVariants as made
@@ -12,10 +13,9 @@ use Rattle.grammar_core.specs.Token.{is_colon, is_equals, is_group}
 use Rattle.grammar_core.specs.Words.{name_of}
 use Rattle.grammar_core.specs.Input.{Parser, ◌>>=◌, ◌>>◌, ◌<$>◌, pure, test, here, upto, expect, take_as, inside}
 use Rattle.grammar_core.specs.Readers.{any_level}
-use Rattle.grammar_core.specs.Grammar.{within, max_depth}
 use Rattle.grammar_core.specs.Paths.{list}
 use Rattle.item_core.specs.Attributes.{attributes}
-use Rattle.item_core.specs.Generics.{behind}
+use Rattle.item_core.specs.Generics.{any_type, behind, expr_at}
 use Rattle.item_core.specs.Visibility.{visibility}
 
 -- `#[attr] pub name: T`
@@ -26,7 +26,7 @@ named_field = do
   vis ← visibility
   ident ← take_as name_of
   colon ← expect 1 is_colon
-  ty ← (within max_depth).ty true
+  ty ← any_type
   span ← upto start
   pure (record { attrs = attrs; vis = vis; ident = Some ident; ty = ty; span = span })
 
@@ -36,22 +36,28 @@ unnamed_field = do
   start ← here
   attrs ← attributes
   vis ← visibility
-  ty ← (within max_depth).ty true
+  ty ← any_type
   span ← upto start
   pure (record { attrs = attrs; vis = vis; ident = None; ty = ty; span = span })
+
+abbrev pub named_fields : Parser (List Field)
+named_fields = list named_field
+
+abbrev pub unnamed_fields : Parser (List Field)
+unnamed_fields = list unnamed_field
 
 -- `{ a: A, b: B }`
 unfoldable pub fields_named : Parser FieldsNamed
 fields_named = do
   span ← here
-  found ← inside delimiter.Brace (list named_field)
+  found ← inside delimiter.Brace named_fields
   pure (record { named = found; span = span })
 
 -- `(A, B)`
 unfoldable pub fields_unnamed : Parser FieldsUnnamed
 fields_unnamed = do
   span ← here
-  found ← inside delimiter.Parenthesis (list unnamed_field)
+  found ← inside delimiter.Parenthesis unnamed_fields
   pure (record { unnamed = found; span = span })
 
 abbrev pub fields_by : Bool → Bool → Parser Fields
@@ -66,6 +72,10 @@ fields = do
   unnamed ← test (is_group delimiter.Parenthesis)
   fields_by named unnamed
 
+-- `= 1`, or nothing
+abbrev pub discriminant_of : Parser (Option Expr)
+discriminant_of = behind is_equals None (Some <$> expr_at any_level)
+
 -- `#[attr] Name(A, B) = 1`
 unfoldable pub variant : Parser Variant
 variant = do
@@ -73,6 +83,9 @@ variant = do
   attrs ← attributes
   ident ← take_as name_of
   found ← fields
-  discriminant ← behind is_equals None (Some <$> (within max_depth).expr any_level)
+  discriminant ← discriminant_of
   span ← upto start
   pure (record { attrs = attrs; ident = ident; fields = found; discriminant = discriminant; span = span })
+
+abbrev pub variants : Parser (List Variant)
+variants = list variant

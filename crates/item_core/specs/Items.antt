@@ -14,12 +14,13 @@ use Rattle.grammar_core.specs.declared.word.Word.TheVariants as word
 use Rattle.grammar_core.specs.Token.{ident_of, is_group, is_semicolon}
 use Rattle.grammar_core.specs.Words.{name_of, next_word, same_text}
 use Rattle.grammar_core.specs.Input.{Parser, ◌>>=◌, ◌>>◌, ◌<$>◌, pure, refuse, test, here, upto, skip, expect, take_as, inside}
-use Rattle.grammar_core.specs.Paths.{list}
 use Rattle.item_core.specs.declared.look.ItemStart.{ItemStart}
 use Rattle.item_core.specs.declared.look.ItemStart.TheVariants as begin
+use Rattle.item_core.specs.declared.lists.While.TheVariants as while
 use Rattle.item_core.specs.Attributes.{attributes}
-use Rattle.item_core.specs.Fields.{fields_named, fields_unnamed, variant}
+use Rattle.item_core.specs.Fields.{fields_named, fields_unnamed, variants}
 use Rattle.item_core.specs.Generics.{maybe_where, params}
+use Rattle.item_core.specs.Lists.{each_while, goes_on}
 use Rattle.item_core.specs.Visibility.{visibility}
 
 -- ---- which item it is
@@ -60,35 +61,37 @@ other_struct = do
       else expect 1 is_semicolon >> pure (body.Struct (record { fields = made.Unit; span = span }))
 
 -- `{ A, B(T) }`
-unfoldable pub variants : Parser «Data»
-variants = do
+unfoldable pub enum_body : Parser «Data»
+enum_body = do
   span ← here
-  found ← inside delimiter.Brace (list variant)
+  found ← inside delimiter.Brace variants
   pure (body.Enum (record { variants = found; span = span }))
 
-unfoldable pub union_fields : Parser «Data»
-union_fields = do
+unfoldable pub union_body : Parser «Data»
+union_body = do
   span ← here
   named ← fields_named
   pure (body.Union (record { fields = named; span = span }))
 
--- a body behind its clause
-abbrev pub behind_where : Parser «Data» → Parser (Option WhereClause × «Data»)
-behind_where parser = do
-  clause ← maybe_where
-  found ← parser
-  pure (clause, found)
+-- a body that stands behind its clause
+abbrev pub data_by : ItemStart → Parser «Data»
+data_by begin.Struct = other_struct
+data_by begin.Enum = enum_body
+data_by begin.Union = union_body
+data_by begin.Nothing = refuse
 
-unfoldable pub struct_body : Parser (Option WhereClause × «Data»)
-struct_body = do
-  unnamed ← test (is_group delimiter.Parenthesis)
-  if unnamed then tuple_struct else behind_where other_struct
+-- whether the body of a struct with fields in parentheses comes next
+abbrev pub is_tuple_struct : ItemStart → List TokenTree → Bool
+is_tuple_struct begin.Struct = is_group delimiter.Parenthesis
+is_tuple_struct _ = λ trees. false
 
-abbrev pub body_by : ItemStart → Parser (Option WhereClause × «Data»)
-body_by begin.Struct = struct_body
-body_by begin.Enum = behind_where variants
-body_by begin.Union = behind_where union_fields
-body_by begin.Nothing = refuse
+unfoldable pub body_of : ItemStart → Parser (Option WhereClause × «Data»)
+body_of begins = do
+  unnamed ← test (is_tuple_struct begins)
+  if unnamed then tuple_struct else (do
+    clause ← maybe_where
+    found ← data_by begins
+    pure (clause, found))
 
 -- ---- a whole item
 
@@ -102,7 +105,7 @@ item = do
   keyword ← skip
   ident ← take_as name_of
   generics ← params
-  found ← body_by begins
+  found ← body_of begins
   span ← upto start
   pure (record {
     attrs = attrs;
@@ -112,3 +115,7 @@ item = do
     body = found.1;
     span = span;
   })
+
+-- items without marks between them, to the end
+abbrev pub items : Parser (List DeriveInput)
+items = each_while (goes_on while.Token) item

@@ -10,29 +10,23 @@ use Rattle.expr_core.specs.declared.path.Path.{Path}
 use Rattle.expr_core.specs.declared.path.PathArguments.TheVariants as arguments
 use Rattle.node_core.specs.declared.data.Visibility.{Visibility}
 use Rattle.node_core.specs.declared.data.Visibility.TheVariants as made
-use Rattle.grammar_core.specs.declared.word.Word.{Word}
 use Rattle.grammar_core.specs.declared.word.Word.TheVariants as word
 use Rattle.grammar_core.specs.Token.{contents_of, ident_of, is_group}
-use Rattle.grammar_core.specs.Words.{next_word, same_text}
+use Rattle.grammar_core.specs.Words.{same_text, sees}
 use Rattle.grammar_core.specs.Input.{Parser, ◌>>=◌, ◌>>◌, ◌<$>◌, pure, test, start_of, here, upto, skip, eat, take_as}
 use Rattle.grammar_core.specs.Grammar.{within, max_depth}
 use Rattle.grammar_core.specs.Paths.{path}
 use Rattle.grammar_core.specs.Trees.{all}
 
-abbrev pub is_pub : Word → Bool
-is_pub word.Pub = true
-is_pub _ = false
-
-abbrev pub is_in : Word → Bool
-is_in word.In = true
-is_in _ = false
-
 -- the words that stand alone in the parentheses
 abbrev pub scopes : List (List ℕ)
 scopes = codes "crate" ∷ codes "self" ∷ codes "super" ∷ []
 
+abbrev pub is_scope : List ℕ → Bool
+is_scope name = list_any (same_text name) scopes
+
 abbrev pub scope_in : Option Ident → Option Ident
-scope_in (Some ident) = if ident.raw then None else (if list_any (same_text ident.text) scopes then Some ident else None)
+scope_in (Some ident) = if ident.raw then None else (if is_scope ident.text then Some ident else None)
 scope_in None = None
 
 -- the word `crate`, `self` or `super` that comes next
@@ -43,12 +37,16 @@ scope_word trees = scope_in (ident_of trees)
 abbrev pub path_of_word : Ident → Path
 path_of_word ident = make_path false (make_segment ident arguments.None ident.span ∷ []) ident.span
 
+-- `crate`, `self` or `super` as a path
+abbrev pub scope : Parser Path
+scope = path_of_word <$> take_as scope_word
+
 -- what stands in the parentheses: `crate`, `self`, `super`, or `in` and a path
 unfoldable pub restriction : Parser (Bool × Path)
 restriction = do
-  in_token ← eat 1 (λ trees. is_in (next_word trees))
+  in_token ← eat 1 (sees word.In)
   if in_token then (λ found. (true, found)) <$> path (within max_depth) true
-      else (λ ident. (false, path_of_word ident)) <$> take_as scope_word
+      else (λ found. (false, found)) <$> scope
 
 -- the restriction in the parentheses that come next, if all in them is one
 unfoldable pub restriction_in : List TokenTree → Option (Bool × Path)
@@ -63,5 +61,5 @@ public_by start None = pure (made.Public start)
 unfoldable pub visibility : Parser Visibility
 visibility = do
   start ← here
-  public ← eat 1 (λ trees. is_pub (next_word trees))
+  public ← eat 1 (sees word.Pub)
   if public then test restriction_in >>= public_by start else pure made.Inherited

@@ -1,7 +1,20 @@
-//! The grammar of attributes, generics and items as definitions: which tokens are an item, and with
-//! which tree.
+//! The grammar of attributes, generics and items: its definitions, and the functions that read
+//! exactly what these read.
 #![tactic(auto)]
 
+mod attr;
+mod clause;
+mod data;
+mod derive;
+mod generics;
+mod lists;
 mod look;
+mod restriction;
 
+pub use attr::{attributes, value_of};
+pub use clause::where_clause;
+pub use derive::{item, item_front, items};
+pub use generics::one_type_param;
+pub use lists::While;
 pub use look::ItemStart;
+pub use restriction::visibility;

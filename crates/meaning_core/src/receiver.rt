@@ -1,6 +1,9 @@
 ghost use Rattle.std.specs.Prelude.{◌≡◌, ◌++◌, IfOk, OnOk};
+ghost use Rattle.meaning_core.specs.Entries.{has_name};
+ghost use Rattle.meaning_core.specs.Node.{meta_name};
 ghost use Rattle.meaning_core.specs.Receiver.{receiver_of, receiver_decl, subject_meaning, option_names, meta_names, words_of, field_names, attribute_names};
 
+use crate::node::meta_path;
 use crate::outcome::Outcome;
 use crate::walk::Walk;
 use names_core::Names;
@@ -31,6 +34,14 @@ impl Receiver {
             attributes: Names::from_items(alloc, attributes)?,
             fields: Names::from_items(alloc, fields)?,
         })
+    }
+
+    /// Whether an attribute of this meta is one that the declaration reads.
+    pub fn reads(&self, alloc: Global, meta: &Meta) -> Mem<bool>
+        ensures { IfOk result (λ reads. reads ≡ has_name self.now.attributes (meta_name meta.now)) }
+    {
+        let name = path_to_string(alloc, meta_path(meta))?;
+        Ok(self.attributes.contains(name.as_str()))
     }
 
     /// What a subject means: the struct of the texts that its attributes give, or all that is wrong

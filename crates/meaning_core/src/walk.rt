@@ -63,8 +63,7 @@ impl Walk {
         ensures told { OnOk result (IsTold self.old.slots self.old.faults → IsTold self.new.slots self.new.faults) }
     {
         for attribute in attributes {
-            let name = path_to_string(alloc, meta_path(&attribute.meta))?;
-            if receiver.attributes.contains(name.as_str()) {
+            if receiver.reads(alloc, &attribute.meta)? {
                 self.take_attribute(alloc, receiver, &attribute.meta)?;
             }
         }

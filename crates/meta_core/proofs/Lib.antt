@@ -1,2 +1,1 @@
-pub mod Quotes
 pub mod Lists

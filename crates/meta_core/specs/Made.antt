@@ -1,9 +1,8 @@
 -- Nodes made of a few tokens.
-use Rattle.std.specs.Prelude.{ℕ, false, List, [], ◌∷◌}
+use Rattle.std.specs.Prelude.{false, List, [], ◌∷◌}
 use Rattle.token_core.specs.Span.{joined}
 use Rattle.token_core.specs.declared.ident.Ident.{Ident}
 use Rattle.token_core.specs.declared.span.Span.{Span}
-use Rattle.token_core.specs.declared.tree.Literal.{Literal}
 use Rattle.expr_core.specs.declared.path.Path.{Path, roll-Path}
 use Rattle.expr_core.specs.declared.path.PathSegment.{PathSegment, roll-PathSegment}
 use Rattle.expr_core.specs.declared.path.PathArguments.TheVariants as arguments
@@ -19,10 +18,6 @@ segment_of ident = roll-PathSegment (record { ident = ident; arguments = argumen
 -- the path that is one identifier
 abbrev pub path_of : Ident → Path
 path_of ident = roll-Path (record { leading_colon = false; segments = segment_of ident ∷ []; span = ident.span })
-
--- the string with this value
-abbrev pub string_of : List ℕ → Literal → LitStr
-string_of value token = record { value = value; token = token; span = token.span }
 
 -- `name = "text"`
 abbrev pub name_value_of : Ident → Span → LitStr → MetaNameValue

@@ -1,35 +1,29 @@
 -- Nested items: what stands between the parentheses of an attribute.
 --
--- So far an item is `word = "text"`, and a text has no escapes.
-use Rattle.std.specs.Prelude.{ℕ, ◌-◌, ◌==◌, if◌then◌else◌, List, [], ◌∷◌, length, take, slice_index, Option, Some, None}
+-- So far an item is `word = "text"`.
+use Rattle.std.specs.Prelude.{List, [], ◌∷◌, Option, Some, None}
 use Rattle.token_core.specs.declared.tree.TokenStream.{TokenStream}
 use Rattle.token_core.specs.declared.tree.TokenTree.{TokenTree}
 use Rattle.node_core.specs.declared.attr.Meta.TheVariants as meta
+use Rattle.expr_core.specs.declared.lit.Lit.{Lit}
+use Rattle.expr_core.specs.declared.lit.Lit.TheVariants as lit
 use Rattle.expr_core.specs.declared.lit.LitStr.{LitStr}
+use Rattle.grammar_core.specs.Literals.{lit_of}
 use Rattle.meta_core.specs.declared.nested.NestedMeta.{NestedMeta}
 use Rattle.meta_core.specs.declared.nested.NestedMeta.TheVariants as nested
 use Rattle.meta_core.specs.Tree.{◌>>=◌, word, mark, literal, trees_of}
-use Rattle.meta_core.specs.Made.{string_of, name_value_of}
+use Rattle.meta_core.specs.Made.{name_value_of}
 
--- what follows the mark `"` (34) at the front
-unfoldable pub after_quote : List ℕ → Option (List ℕ)
-after_quote [] = None
-after_quote (ch ∷ text) = if ch == 34 then Some text else None
+-- the string that a literal is
+abbrev pub string_in : Lit → Option LitStr
+string_in (lit.Str text) = Some text
+string_in _ = None
 
--- what stands before the mark `"` at the end
-unfoldable pub before_quote : List ℕ → Option (List ℕ)
-before_quote text = if slice_index text (length text - 1) == 34 then Some (take (length text - 1) text) else None
-
--- what stands between the two marks `"` that the text begins and ends with
-abbrev pub unquoted : List ℕ → Option (List ℕ)
-unquoted text = after_quote text >>= before_quote
-
--- a string
+-- a string, a raw one too
 unfoldable pub string : TokenTree → Option LitStr
 string tree = do
   token ← literal tree
-  value ← unquoted token.text
-  Some (string_of value token)
+  string_in (lit_of token)
 
 -- one item: a word, `=` (61) and a string
 unfoldable pub nested_item : TokenTree → TokenTree → TokenTree → Option NestedMeta

@@ -1,10 +1,11 @@
 ghost use Rattle.std.specs.Prelude.{◌≡◌, IfOk};
 ghost use Rattle.std.specs.Option.{option_copied};
 ghost use Rattle.meta_core.specs.Tree.{word, word_named, mark, literal, group};
-ghost use Rattle.meta_core.specs.Nested.{string, unquoted, after_quote, before_quote};
+ghost use Rattle.meta_core.specs.Nested.{string, string_in};
 
-use base_core::{Mem, Text, TryClone};
-use node_core::LitStr;
+use base_core::{Mem, TryClone};
+use grammar_core::lit_of;
+use node_core::{Lit, LitStr};
 use std::alloc::Global;
 use token_core::{Delimiter, Group, Ident, Literal, Span, TokenTree};
 
@@ -82,7 +83,7 @@ fn literal(tree: &TokenTree) -> Option<&Literal>
     }
 }
 
-/// The string literal that the tree is.
+/// The string literal that the tree is, a raw one too.
 #[tactic(auto, unfolding(crate::specs::Nested::string))]
 pub fn string(alloc: Global, tree: &TokenTree) -> Mem<Option<LitStr>>
     ensures { IfOk result (λ text. text ≡ string tree.now) }
@@ -90,30 +91,15 @@ pub fn string(alloc: Global, tree: &TokenTree) -> Mem<Option<LitStr>>
     let Some(token) = literal(tree) else {
         return Ok(None);
     };
-    let Some(value) = unquoted(token.text.as_str()) else {
-        return Ok(None);
-    };
-    Ok(Some(LitStr {
-        value: Text::from_str(alloc, value)?,
-        token: token.try_clone(alloc)?,
-        span: token.span,
-    }))
+    let token = token.try_clone(alloc)?;
+    Ok(string_in(lit_of(alloc, token)?))
 }
 
-fn unquoted(text: &str) -> Option<&str>
-    ensures { option_copied result ≡ unquoted text.now }
+fn string_in(lit: Lit) -> Option<LitStr>
+    ensures { result ≡ string_in lit }
 {
-    before_quote(after_quote(text)?)
-}
-
-fn after_quote(text: &str) -> Option<&str>
-    ensures { option_copied result ≡ after_quote text.now }
-{
-    text.strip_prefix('"')
-}
-
-fn before_quote(text: &str) -> Option<&str>
-    ensures { option_copied result ≡ before_quote text.now }
-{
-    text.strip_suffix('"')
+    match lit {
+        Lit::Str(text) => Some(text),
+        _ => None,
+    }
 }

@@ -18,5 +18,6 @@ pub use knot::{
     expr as read_expr, joined_bounds as read_bounds, path as read_path, ty as read_type,
 };
 pub use list::{Front, Joint, items_after, joined_by, until};
+pub use paths::binder;
 pub use patterns::{MAX_PATTERN, pattern};
-pub use rules::{ANY_LEVEL, CONSTANT_LEVEL};
+pub use rules::{ANY_LEVEL, CONSTANT_LEVEL, MAX_DEPTH, all_of, inside};

@@ -33,7 +33,7 @@ fn lifetime(alloc: Global, tokens: &mut Cursor<'_>) -> Front<Lifetime>
 
 /// `for<'a, 'b>`, or nothing
 #[tactic(auto, unfolding(grammar_core::specs::Paths::binder))]
-pub(crate) fn binder(alloc: Global, tokens: &mut Cursor<'_>) -> Result<Items<Lifetime>, ReadFail>
+pub fn binder(alloc: Global, tokens: &mut Cursor<'_>) -> Result<Items<Lifetime>, ReadFail>
     ensures { Gives (paths.binder tokens.old) result tokens.new }
 {
     if !tokens.eat_word(Word::For) {

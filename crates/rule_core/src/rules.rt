@@ -1,20 +1,24 @@
 //! The rules of the grammar. They take the readers of their parts as values, so that each rule is
 //! proved by itself.
 
-ghost use Rattle.std.specs.Prelude.{◌≡◌, ℕ};
+ghost use Rattle.std.specs.Prelude.{◌≡◌, ℕ, IfOk};
 ghost use Rattle.depth_core.specs.Depth.{expr_depth, type_depth};
 ghost use Rattle.grammar_core.specs.Grammar.{within, bounds_depth};
 ghost use Rattle.grammar_core.specs.Input as input;
 ghost use Rattle.grammar_core.specs.Input.{Parser};
 ghost use Rattle.grammar_core.specs.Reads.{Reads};
+ghost use Rattle.grammar_core.specs.Trees.{all};
 ghost use Rattle.rule_core.specs.Lists.{ReadsItems};
 ghost use Rattle.rule_core.specs.Nests.{Nests};
 
 use crate::list::Front;
-use base_core::Items;
-use expr_core::{Delimiter, Expr, Type, TypeParamBound};
+use base_core::{Items, Mem};
+use expr_core::{Delimiter, Expr, TokenTree, Type, TypeParamBound};
 use grammar_core::{Cursor, ReadFail, is_group};
-use std::alloc::Global;
+use std::alloc::{AllocError, Global};
+
+/// How deep a type or an expression of a parser may be.
+pub const MAX_DEPTH: usize = 256;
 
 /// The level of any expression.
 pub const ANY_LEVEL: u8 = 11;
@@ -63,7 +67,7 @@ impl<
 }
 
 /// What the group that comes next holds, all of whose tokens `contents` reads.
-pub(crate) fn inside<A: Drop, P: Fn(&mut Cursor<'_>) -> Front<A>>(
+pub fn inside<A: Drop, P: Fn(&mut Cursor<'_>) -> Front<A>>(
     tokens: &mut Cursor<'_>,
     delimiter: Delimiter,
     contents: P,
@@ -82,4 +86,30 @@ where
     inner.finish()?;
     tokens.skip();
     Ok(found)
+}
+
+/// What `reader` makes of all of the tokens, if it reads them.
+pub fn all_of<A: Drop, P: Fn(Global, &mut Cursor<'_>) -> Front<A>>(
+    alloc: Global,
+    trees: &[TokenTree],
+    reader: P,
+) -> Mem<Option<A>>
+where
+    P: Drop,
+    requires { P.IsAlwaysCallable reader }
+    ensures { (size : A → ℕ) (limit : ℕ) (parser : Parser A) → ReadsItems size limit parser (P.post reader alloc)
+        → IfOk result (λ found. found ≡ all (parser (input.start_of trees.now))) }
+{
+    let mut tokens = Cursor::new(trees);
+    match reader(alloc, &mut tokens) {
+        Ok((found, _)) => {
+            if tokens.at_end() {
+                Ok(Some(found))
+            } else {
+                Ok(None)
+            }
+        }
+        Err(ReadFail::Syntax) => Ok(None),
+        Err(ReadFail::NoMemory) => Err(AllocError),
+    }
 }

@@ -1,6 +1,7 @@
 //! What every grammar promises. This function does nothing: its clauses are the law.
 
 ghost use Rattle.grammar_core.specs.Trees as trees;
+ghost use Rattle.item_core.specs.Trees as item_trees;
 ghost use Rattle.syn_core.specs.OneTree.{HaveOneTree};
 
 /// A list of tokens has at most one tree in each grammar.
@@ -16,4 +17,9 @@ pub fn tokens_have_one_tree()
     ensures exprs { HaveOneTree trees.exprs_of }
     ensures idents { HaveOneTree trees.idents_of }
     ensures paths { HaveOneTree trees.paths_of }
+    ensures items { HaveOneTree item_trees.items_of }
+    ensures derive_input { HaveOneTree item_trees.derive_input_of }
+    ensures where_clause { HaveOneTree item_trees.where_of }
+    ensures visibility { HaveOneTree item_trees.visibility_of }
+    ensures type_param { HaveOneTree item_trees.type_param_of }
 {}

@@ -4,6 +4,7 @@ ghost use Rattle.std.specs.Prelude.{◌≡◌, ℕ, codes};
 ghost use Rattle.expr_core.specs.declared.expr.Expr.{out-Expr};
 ghost use Rattle.grammar_core.specs.Input.{Parser};
 ghost use Rattle.grammar_core.specs.Trees as trees;
+ghost use Rattle.item_core.specs.Trees as item_trees;
 ghost use Rattle.rule_core.specs.Lists.{ReadsItems};
 ghost use Rattle.syn_core.specs.Parses.{Parses, Refuses};
 
@@ -11,9 +12,9 @@ use crate::fail::{Parse, ParseFail};
 use crate::front;
 use base_core::Items;
 use expr_core::{Expr, ExprArray, ExprPath, ExprRange, FnArg, Ident, Path, TokenStream, Type};
-use grammar_core::{Cursor, ReadFail};
-use node_core::SynError;
-use rule_core::Front;
+use grammar_core::Cursor;
+use node_core::{DeriveInput, SynError, TypeParam, Visibility, WhereClause};
+use rule_core::{Front, all_of};
 use span_core::Spanned;
 use std::alloc::Global;
 
@@ -40,17 +41,9 @@ where
     ensures { (size : A → ℕ) (limit : ℕ) (parser : Parser A) → ReadsItems size limit parser (P.post reader alloc)
         → Parses text.now tokens.now (trees.whole parser tokens.now) result }
 {
-    let mut cursor = Cursor::new(tokens.trees.as_slice());
-    match reader(alloc, &mut cursor) {
-        Ok((tree, _)) => {
-            if cursor.at_end() {
-                Ok(tree)
-            } else {
-                Err(refusal(alloc, tokens, text))
-            }
-        }
-        Err(ReadFail::Syntax) => Err(refusal(alloc, tokens, text)),
-        Err(ReadFail::NoMemory) => Err(ParseFail::NoMemory),
+    match all_of(alloc, tokens.trees.as_slice(), reader)? {
+        Some(tree) => Ok(tree),
+        None => Err(refusal(alloc, tokens, text)),
     }
 }
 
@@ -144,6 +137,51 @@ pub fn parse_paths(alloc: Global, tokens: &TokenStream) -> Parse<Items<Path>>
     ensures { Parses (codes "expected a list") tokens.now (trees.paths_of tokens.now) result }
 {
     whole(alloc, tokens, "expected a list", front::path_list)
+}
+
+/// Items: structs, enums and unions.
+pub fn parse_items(alloc: Global, tokens: &TokenStream) -> Parse<Items<DeriveInput>>
+    ensures { Parses (codes "expected an item") tokens.now (item_trees.items_of tokens.now) result }
+{
+    whole(alloc, tokens, "expected an item", front::items)
+}
+
+/// One item: a struct, an enum or a union.
+pub fn parse_derive_input(alloc: Global, tokens: &TokenStream) -> Parse<DeriveInput>
+    ensures { Parses (codes "expected an item") tokens.now (item_trees.derive_input_of tokens.now) result }
+{
+    whole(alloc, tokens, "expected an item", front::item)
+}
+
+/// A `where` clause: `where 'a: 'b, T: A + B`
+pub fn parse_where(alloc: Global, tokens: &TokenStream) -> Parse<WhereClause>
+    ensures { Parses (codes "expected a where clause") tokens.now (item_trees.where_of tokens.now) result }
+{
+    whole(
+        alloc,
+        tokens,
+        "expected a where clause",
+        front::where_clause,
+    )
+}
+
+/// A visibility: `pub`, `pub(crate)`, `pub(in a::b)`, or nothing.
+pub fn parse_visibility(alloc: Global, tokens: &TokenStream) -> Parse<Visibility>
+    ensures { Parses (codes "expected a visibility") tokens.now (item_trees.visibility_of tokens.now) result }
+{
+    whole(alloc, tokens, "expected a visibility", front::visibility)
+}
+
+/// A type parameter: `#[attr] T: A + B = u8`
+pub fn parse_type_param(alloc: Global, tokens: &TokenStream) -> Parse<TypeParam>
+    ensures { Parses (codes "expected a type parameter") tokens.now (item_trees.type_param_of tokens.now) result }
+{
+    whole(
+        alloc,
+        tokens,
+        "expected a type parameter",
+        front::type_param,
+    )
 }
 
 /// An expression of all of the tokens, or the one fault `text`.

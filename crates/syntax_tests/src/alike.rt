@@ -31,7 +31,7 @@ pub fn read<T: Drop>(parsed: Parse<T>) -> Tested<Option<T>> {
 }
 
 /// The tree that a parser has to give for the text.
-fn given<T: Drop>(parsed: Parse<T>, text: &str) -> Tested<T> {
+pub fn given<T: Drop>(parsed: Parse<T>, text: &str) -> Tested<T> {
     match read(parsed)? {
         Some(tree) => Ok(tree),
         None => Err(Fail::new(format_args!("{text} is refused"))),

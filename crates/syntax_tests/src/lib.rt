@@ -9,6 +9,10 @@ mod deep;
 #[cfg(test)]
 mod exprs;
 #[cfg(test)]
+mod items;
+#[cfg(test)]
 mod lists;
+#[cfg(test)]
+mod precedence;
 #[cfg(test)]
 mod types;

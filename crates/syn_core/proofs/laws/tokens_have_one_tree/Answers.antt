@@ -1,4 +1,5 @@
 use Rattle.grammar_core.specs.Trees.{type_of, path_of, expr_of, ident_of, expr_array_of, expr_path_of, expr_range_of, fn_args_of, exprs_of, idents_of, paths_of}
+use Rattle.item_core.specs.Trees.{derive_input_of, items_of, type_param_of, visibility_of, where_of}
 use Rattle.syn_core.proofs.OneTree.{one_tree}
 use Rattle.syn_core.proofs.laws.tokens_have_one_tree.Goals as goal
 
@@ -34,3 +35,18 @@ returns-clause-idents c = one_tree idents_of
 
 pub returns-clause-paths : goal.returns-clause-paths
 returns-clause-paths c = one_tree paths_of
+
+pub returns-clause-items : goal.returns-clause-items
+returns-clause-items c = one_tree items_of
+
+pub returns-clause-derive_input : goal.returns-clause-derive_input
+returns-clause-derive_input c = one_tree derive_input_of
+
+pub returns-clause-where_clause : goal.returns-clause-where_clause
+returns-clause-where_clause c = one_tree where_of
+
+pub returns-clause-visibility : goal.returns-clause-visibility
+returns-clause-visibility c = one_tree visibility_of
+
+pub returns-clause-type_param : goal.returns-clause-type_param
+returns-clause-type_param c = one_tree type_param_of

@@ -1,0 +1,15 @@
+pub mod Looks
+pub mod Begins
+pub mod Steps
+pub mod Takes
+pub mod Loops
+pub mod Words
+pub mod Paths
+pub mod Types
+pub mod Patterns
+pub mod Closures
+pub mod Atoms
+pub mod Postfixes
+pub mod Operators
+pub mod Within
+pub mod Kept

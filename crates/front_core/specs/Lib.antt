@@ -1,0 +1,3 @@
+pub mod Alike
+pub mod Front
+pub mod Closures

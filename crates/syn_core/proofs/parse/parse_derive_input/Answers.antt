@@ -1,0 +1,8 @@
+use Rattle.std.proofs.Common.{rules, true}
+use Rattle.item_core.specs.Items.{item}
+use Rattle.item_core.specs.Trees.{derive_input_of}
+use Rattle.syn_core.proofs.parse.parse_derive_input.Goals as goal
+
+pub returns : goal.returns
+unfolding derive_input_of
+returns c = c.whole.ensures (λ it. 0) 0 item (record { reads = λ old new r p. search rules })

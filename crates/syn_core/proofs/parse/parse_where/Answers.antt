@@ -1,0 +1,8 @@
+use Rattle.std.proofs.Common.{rules, true}
+use Rattle.item_core.specs.Generics.{where_clause}
+use Rattle.item_core.specs.Trees.{where_of}
+use Rattle.syn_core.proofs.parse.parse_where.Goals as goal
+
+pub returns : goal.returns
+unfolding where_of
+returns c = c.whole.ensures (λ it. 0) 0 where_clause (record { reads = λ old new r p. search rules })
