@@ -13,12 +13,40 @@ pub(crate) enum List {
 
 /// A text of the workload, of about so many bytes; an empty one where there is no such workload.
 pub(crate) fn text_of(alloc: Global, workload: &str, size: usize) -> Mem<(List, String)> {
-    let text = paths(alloc, workload, size)?;
-    if text.is_empty() {
-        let text = exprs(alloc, workload, size)?;
-        return Ok((List::Exprs, text));
+    let text = items(alloc, workload, size)?;
+    if !text.is_empty() {
+        return Ok((List::Items, text));
     }
-    Ok((List::Paths, text))
+    let text = paths(alloc, workload, size)?;
+    if !text.is_empty() {
+        return Ok((List::Paths, text));
+    }
+    let text = exprs(alloc, workload, size)?;
+    Ok((List::Exprs, text))
+}
+
+/// Lists of items.
+fn items(alloc: Global, workload: &str, size: usize) -> Mem<String> {
+    match workload {
+        "structs" => filled(
+            alloc,
+            "",
+            "struct S<T: A> where T: B { a: T, b: u8 } ",
+            "",
+            size,
+        ),
+        "enums" => filled(
+            alloc,
+            "",
+            "pub enum E { A, B(C) = 1, D { e: F } } ",
+            "",
+            size,
+        ),
+        "attributes" => filled(alloc, "", "#[a(b = 1)] ", "struct S;", size),
+        "fields" => filled(alloc, "struct S {", "a: A, ", "}", size),
+        "late_item" => filled(alloc, "", "struct S; ", "struct", size),
+        _ => Ok(String::new(alloc)),
+    }
 }
 
 /// Lists of paths.
