@@ -1,6 +1,6 @@
 //! Attributes that are not in a form that is read so far.
 
-ghost use Rattle.std.specs.Prelude.{◌≡◌, IfOk, is_some};
+ghost use Rattle.std.specs.Prelude.{◌≡◌, IfOk, filter, is_some};
 ghost use Rattle.meta_core.specs.Nested.{nested_of};
 ghost use Rattle.darling_run.specs.Unread as spec;
 
@@ -29,21 +29,21 @@ pub(crate) fn first_unread(
 }
 
 fn unread_among(alloc: Global, receiver: &Receiver, attributes: &[Attribute]) -> Mem<Option<Span>>
-    ensures { IfOk result (λ span. span ≡ spec.unread_among receiver.now.attributes attributes.now) }
+    ensures { IfOk result (λ span. span ≡ spec.first_place (filter (spec.is_unread receiver.now.attributes) attributes.now)) }
 {
     for attribute in attributes {
-        if is_unread(alloc, receiver, &attribute.meta)? {
+        if is_unread(alloc, receiver, attribute)? {
             return Ok(Some(attribute.span));
         }
     }
     Ok(None)
 }
 
-fn is_unread(alloc: Global, receiver: &Receiver, meta: &Meta) -> Mem<bool>
-    ensures { IfOk result (λ is. is ≡ spec.is_unread receiver.now.attributes meta.now) }
+fn is_unread(alloc: Global, receiver: &Receiver, attribute: &Attribute) -> Mem<bool>
+    ensures { IfOk result (λ is. is ≡ spec.is_unread receiver.now.attributes attribute.now) }
 {
-    if receiver.reads(alloc, meta)? {
-        Ok(!has_read_form(alloc, meta)?)
+    if receiver.reads(alloc, &attribute.meta)? {
+        Ok(!has_read_form(alloc, &attribute.meta)?)
     } else {
         Ok(false)
     }
@@ -55,7 +55,7 @@ fn has_read_form(alloc: Global, meta: &Meta) -> Mem<bool>
     match meta {
         Meta::Path(_) => Ok(true),
         Meta::List(list) => {
-            if is_parenthesis(list.delimiter) {
+            if list.delimiter == Delimiter::Parenthesis {
                 are_nested(alloc, &list.tokens)
             } else {
                 Ok(false)
@@ -63,12 +63,6 @@ fn has_read_form(alloc: Global, meta: &Meta) -> Mem<bool>
         }
         Meta::NameValue(_) => Ok(false),
     }
-}
-
-fn is_parenthesis(delimiter: Delimiter) -> bool
-    ensures { result ≡ spec.is_parenthesis delimiter }
-{
-    matches!(delimiter, Delimiter::Parenthesis)
 }
 
 /// Whether the tokens are a list of `item = "text"`.

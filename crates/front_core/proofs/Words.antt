@@ -18,10 +18,6 @@ pub literal-front : Rule true (take_as literal_of)
 unfolding literal_of
 literal-front limit = take_as-front literal_of refl (λ tree rest tail. refl)
 
-pub ident-front : Rule true (take_as ident_of)
-unfolding ident_of
-ident-front limit = take_as-front ident_of refl (λ tree rest tail. refl)
-
 pub name-front : Rule true (take_as name_of)
 unfolding name_of next_word ident_of
 name-front limit = take_as-front name_of refl (λ tree rest tail. refl)

@@ -1,11 +1,8 @@
 //! Attributes, and the meta items in them.
 
-ghost use Rattle.std.specs.Prelude.{◌≡◌, IfOk, take};
-ghost use Rattle.grammar_core.specs.Grammar.{max_depth, within};
-ghost use Rattle.grammar_core.specs.Reads.{Reads};
+ghost use Rattle.std.specs.Prelude.{◌≡◌, IfOk};
 ghost use Rattle.item_core.specs.Attributes as spec;
 ghost use Rattle.item_core.specs.Lists.{Flat};
-ghost use Rattle.rule_core.specs.Lists.{all_depth};
 
 use crate::lists::{While, each_while};
 use crate::look::delimiter_of;
@@ -112,7 +109,7 @@ fn number_of(alloc: Global, trees: &[TokenTree]) -> Mem<Option<Lit>>
     all_of(alloc, trees, signed)
 }
 
-/// These tokens.
+/// The tokens as a stream of their own.
 fn kept(alloc: Global, trees: &[TokenTree]) -> Mem<TokenStream>
     ensures { IfOk result (λ kept. kept ≡ spec.stream trees.now) }
 {

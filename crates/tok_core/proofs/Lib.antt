@@ -7,7 +7,6 @@ pub mod Outcomes
 pub mod Lists
 pub mod AtBytes
 pub mod Respanned
-pub mod SmallTexts
 pub mod Escapes
 pub mod FlatTexts
 pub mod Spelled

@@ -5,5 +5,4 @@ pub mod Nests
 pub mod Printing
 pub mod Quoted
 pub mod Readable
-pub mod Small
 pub mod Spells

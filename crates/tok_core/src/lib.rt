@@ -11,7 +11,6 @@ mod nest;
 mod printing;
 mod quoting;
 mod reading;
-mod small;
 mod spans;
 #[cfg(test)]
 mod tests;
@@ -25,7 +24,6 @@ pub use laws::{
 pub use printing::{read_again, to_text};
 pub use quoting::quoted;
 pub use reading::lex;
-pub use small::is_small;
 pub use spans::respan;
 pub use token_core::{
     Boxed, Delimiter, Group, Ident, Items, Lifetime, Literal, Mem, Punct, Span, Text, TokenStream,

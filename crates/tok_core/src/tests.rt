@@ -272,30 +272,6 @@ fn a_comment_has_one_span(rt: HostRuntime) -> Result<(), Fail> {
     Ok(())
 }
 
-// Texts, and whether they are small.
-const SMALL: [(&str, bool); 12] = [
-    ("", true),
-    ("#[a_1 = \"b c\"],::x\r\n\t{}", true),
-    (")", true),
-    ("a b\"", false),
-    ("\"\\n\"", false),
-    ("\"é\"", false),
-    ("é", false),
-    ("+", false),
-    ("1", false),
-    ("'a", false),
-    ("r#a", false),
-    ("//", false),
-];
-
-#[test]
-fn tells_the_small_text(rt: HostRuntime) -> Result<(), Fail> {
-    for (text, small) in SMALL {
-        assert!(rt; is_small(rt.alloc(), text)? == small, "{text}");
-    }
-    Ok(())
-}
-
 #[test]
 fn errors_have_their_names(rt: HostRuntime) -> Result<(), Fail> {
     let alloc = rt.alloc();

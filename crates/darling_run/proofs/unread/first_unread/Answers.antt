@@ -1,8 +1,8 @@
-use Rattle.std.proofs.Common.{◌≡◌, ◌<◌, ◌∷◌, ◌+◌, suc, List, drop, length, flat_map, ap, sym, ◌∙◌, add-one, arith}
+use Rattle.std.proofs.Common.{◌≡◌, ◌<◌, ◌∷◌, ◌+◌, suc, List, drop, filter, length, flat_map, ap, sym, ◌∙◌, add-one, arith}
 use Rattle.std.proofs.Math.Seq.{drop-cons}
 use Rattle.node_core.specs.declared.derive.DeriveInput.{DeriveInput}
-use Rattle.darling_run.specs.Unread.{first_unread, unread_among}
-use Rattle.darling_run.proofs.UnreadLemmas.{or_else, or_else-None, or_else-Some, unread_among-append}
+use Rattle.darling_run.specs.Unread.{first_unread, first_place, is_unread}
+use Rattle.darling_run.proofs.UnreadLemmas.{or_else, or_else-None, or_else-Some, first_place-append}
 use Rattle.darling_run.proofs.unread.first_unread.Goals as goal
 
 pub returns-then-is_some : goal.returns-then-is_some
@@ -14,10 +14,10 @@ returns-then-is_some c =
     let later = flat_map (λ (subject : DeriveInput). subject.attrs) (drop (at + 1) all) in
     let within : at < length all = omega arith in
     let split : drop at all ≡ subject ∷ drop (at + 1) all = rw (add-one, drop-cons all at subject within) (ap (λ first. first ∷ drop (suc at) all) (sym c.subject-item.is)) in
-    let unread : c.in_ok-unread.unread ≡ unread_among names subject.attrs = rw c.as_slice.ensures at c.in_ok-unread.ensures in
-    sym (or_else-Some c.in_ok-unread.unread (unread_among names later) (sym c.is_some.ensures ∙ c.if-is_some.true))
-    ∙ ap (λ one. or_else one (unread_among names later)) unread
-    ∙ sym (unread_among-append names subject.attrs later)
+    let unread : c.in_ok-unread.unread ≡ first_place (filter (is_unread names) subject.attrs) = rw c.as_slice.ensures at c.in_ok-unread.ensures in
+    sym (or_else-Some c.in_ok-unread.unread (first_place (filter (is_unread names) later)) (sym c.is_some.ensures ∙ c.if-is_some.true))
+    ∙ ap (λ one. or_else one (first_place (filter (is_unread names) later))) unread
+    ∙ sym (first_place-append (is_unread names) subject.attrs later)
     ∙ ap (first_unread names) (sym split)
     ∙ c.loop-subject.invariant
 
@@ -30,9 +30,9 @@ loop-subject-preserved c =
     let later = flat_map (λ (subject : DeriveInput). subject.attrs) (drop (at + 1) all) in
     let within : at < length all = omega arith in
     let split : drop at all ≡ subject ∷ drop (at + 1) all = rw (add-one, drop-cons all at subject within) (ap (λ first. first ∷ drop (suc at) all) (sym c.subject-item.is)) in
-    let unread : c.in_ok-unread.unread ≡ unread_among names subject.attrs = rw c.as_slice.ensures at c.in_ok-unread.ensures in
-    sym (or_else-None c.in_ok-unread.unread (unread_among names later) (sym c.is_some.ensures ∙ c.if-is_some.false))
-    ∙ ap (λ one. or_else one (unread_among names later)) unread
-    ∙ sym (unread_among-append names subject.attrs later)
+    let unread : c.in_ok-unread.unread ≡ first_place (filter (is_unread names) subject.attrs) = rw c.as_slice.ensures at c.in_ok-unread.ensures in
+    sym (or_else-None c.in_ok-unread.unread (first_place (filter (is_unread names) later)) (sym c.is_some.ensures ∙ c.if-is_some.false))
+    ∙ ap (λ one. or_else one (first_place (filter (is_unread names) later))) unread
+    ∙ sym (first_place-append (is_unread names) subject.attrs later)
     ∙ ap (first_unread names) (sym split)
     ∙ c.loop-subject.invariant
