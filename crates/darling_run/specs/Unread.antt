@@ -8,8 +8,8 @@ use Rattle.node_core.specs.declared.attr.Attribute.{Attribute}
 use Rattle.node_core.specs.declared.attr.Meta.{Meta}
 use Rattle.node_core.specs.declared.attr.Meta.TheVariants as meta
 use Rattle.node_core.specs.declared.derive.DeriveInput.{DeriveInput}
-use Rattle.meta_core.specs.Nested.{nested_of}
-use Rattle.meta_core.specs.Tree.{same_delimiter}
+use Rattle.first_core.specs.Nested.{nested_of}
+use Rattle.first_core.specs.Tree.{same_delimiter}
 use Rattle.meaning_core.specs.Node.{meta_name}
 use Rattle.meaning_core.specs.Entries.{has_name}
 

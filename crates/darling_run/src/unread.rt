@@ -1,11 +1,11 @@
 //! Attributes that are not in a form that is read so far.
 
 ghost use Rattle.std.specs.Prelude.{◌≡◌, IfOk, filter, is_some};
-ghost use Rattle.meta_core.specs.Nested.{nested_of};
+ghost use Rattle.first_core.specs.Nested.{nested_of};
 ghost use Rattle.darling_run.specs.Unread as spec;
 
+use first_core::parse_meta_list;
 use meaning_core::Receiver;
-use meta_core::parse_meta_list;
 use node_core::{Attribute, DeriveInput, Meta};
 use std::alloc::Global;
 use token_core::{Delimiter, Mem, Span, TokenStream};

@@ -8,7 +8,7 @@ use Rattle.std.specs.Ordering.{is_eq, nat_cmp}
 use Rattle.std.proofs.lemmas.Bool.Decides.{same_from_decides, Decides-like}
 use Rattle.std.proofs.lemmas.Map.Text.{is_eq-slice_cmp}
 use Rattle.std.proofs.lemmas.Slice.Eq.{bytes_eq-Decides}
-use Rattle.meta_core.specs.Tree.{same_text}
+use Rattle.first_core.specs.Tree.{same_text}
 use Rattle.form_core.specs.Field.{are_distinct}
 use Rattle.form_core.specs.Name.{is_among}
 

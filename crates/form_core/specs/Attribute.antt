@@ -4,7 +4,7 @@ use Rattle.token_core.specs.declared.tree.Delimiter.{Delimiter}
 use Rattle.token_core.specs.declared.tree.Delimiter.TheVariants.{Parenthesis, Bracket}
 use Rattle.token_core.specs.declared.tree.Group.{Group, out-Group}
 use Rattle.token_core.specs.declared.tree.TokenTree.{TokenTree}
-use Rattle.meta_core.specs.Tree.{word_named, mark, group, trees_of}
+use Rattle.first_core.specs.Tree.{word_named, mark, group, trees_of}
 use Rattle.form_core.specs.Name.{identifier}
 
 abbrev pub trees_in : Option Group → List TokenTree

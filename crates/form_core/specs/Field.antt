@@ -2,8 +2,8 @@
 use Rattle.std.specs.Prelude.{ℕ, Bool, true, false, ◌&&◌, not, List, [], ◌∷◌, map, codes, Option, Some, None}
 use Rattle.token_core.specs.declared.ident.Ident.{Ident}
 use Rattle.token_core.specs.declared.tree.TokenTree.{TokenTree}
-use Rattle.meta_core.specs.Tree.{◌>>=◌, mark, word_named}
-use Rattle.meta_core.specs.Nested.{listed}
+use Rattle.first_core.specs.Tree.{◌>>=◌, mark, word_named}
+use Rattle.first_core.specs.Nested.{listed}
 use Rattle.form_core.specs.Name.{field_name, is_among}
 
 -- the name of one field: a name, `:` (58) and the type `String`

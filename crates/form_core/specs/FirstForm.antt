@@ -4,7 +4,7 @@ use Rattle.token_core.specs.declared.tree.Delimiter.TheVariants.{Brace}
 use Rattle.token_core.specs.declared.tree.Group.{Group, out-Group}
 use Rattle.token_core.specs.declared.tree.TokenStream.{TokenStream}
 use Rattle.token_core.specs.declared.tree.TokenTree.{TokenTree}
-use Rattle.meta_core.specs.Tree.{word_named, group, trees_of}
+use Rattle.first_core.specs.Tree.{word_named, group, trees_of}
 use Rattle.form_core.specs.Attribute.{derives, reads_attribute}
 use Rattle.form_core.specs.Field.{are_fields}
 use Rattle.form_core.specs.Name.{declared_name}

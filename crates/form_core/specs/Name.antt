@@ -3,7 +3,7 @@ use Rattle.std.specs.Prelude.{ℕ, Bool, ◌||◌, if◌then◌else◌, List, []
 use Rattle.std.specs.List.{list_any}
 use Rattle.token_core.specs.declared.ident.Ident.{Ident}
 use Rattle.token_core.specs.declared.tree.TokenTree.{TokenTree}
-use Rattle.meta_core.specs.Tree.{◌>>=◌, same_text, word}
+use Rattle.first_core.specs.Tree.{◌>>=◌, same_text, word}
 
 unfoldable pub keywords : List (List ℕ)
 keywords =

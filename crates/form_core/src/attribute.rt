@@ -2,7 +2,7 @@ ghost use Rattle.std.specs.Prelude.{◌≡◌};
 ghost use Rattle.form_core.specs.Attribute.{contents, derives, reads_attribute, is_attributes, is_darling, is_derive, is_identifier, is_word};
 
 use crate::name::identifier;
-use meta_core::{group, mark, word_named};
+use first_core::{group, mark, word_named};
 use token_core::{Delimiter, TokenTree};
 
 /// `#[derive(FromDeriveInput)]`

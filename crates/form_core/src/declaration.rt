@@ -6,7 +6,7 @@ use crate::attribute::{derives, reads_attribute};
 use crate::field::are_fields;
 use crate::name::declared_name;
 use base_core::Mem;
-use meta_core::{group, word_named};
+use first_core::{group, word_named};
 use std::alloc::Global;
 use token_core::{Delimiter, Group, TokenStream, TokenTree};
 

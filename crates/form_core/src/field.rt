@@ -1,10 +1,10 @@
 ghost use Rattle.std.specs.Prelude.{◌≡◌, IfOk, map};
 ghost use Rattle.form_core.specs.Field.{are_distinct, are_fields, field};
-ghost use Rattle.meta_core.specs.Nested.{listed};
+ghost use Rattle.first_core.specs.Nested.{listed};
 
 use crate::name::field_name;
 use base_core::{Items, Mem, TryClone};
-use meta_core::{after_comma, mark, word_named};
+use first_core::{after_comma, mark, word_named};
 use std::alloc::Global;
 use std::collections::BTreeSet;
 use token_core::{Ident, TokenTree};

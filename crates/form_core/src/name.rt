@@ -2,7 +2,7 @@ ghost use Rattle.std.specs.Prelude.{◌≡◌, map};
 ghost use Rattle.std.specs.Option.{option_copied};
 ghost use Rattle.form_core.specs.Name.{keywords, magic_names, generated_names, is_among, identifier, declared_name, field_name};
 
-use meta_core::word;
+use first_core::word;
 use token_core::{Ident, TokenTree};
 
 const KEYWORDS: [&str; 51] = [

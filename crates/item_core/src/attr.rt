@@ -36,7 +36,7 @@ fn meta_segment(alloc: Global, tokens: &mut Cursor<'_>) -> Front<PathSegment>
 
 /// `a::b`, of any words
 #[tactic(auto, unfolding(crate::specs::Attributes::meta_path))]
-fn meta_path(alloc: Global, tokens: &mut Cursor<'_>) -> Front<Path>
+pub fn meta_path(alloc: Global, tokens: &mut Cursor<'_>) -> Front<Path>
     ensures { Flat (spec.meta_path tokens.old) result tokens.new }
 {
     let start = tokens.here();
@@ -79,7 +79,7 @@ fn negative(span: Span, lit: Lit) -> Option<Lit>
 
 /// `-1`, `-1.5`
 #[tactic(auto, unfolding(crate::specs::Attributes::signed))]
-fn signed(alloc: Global, tokens: &mut Cursor<'_>) -> Front<Lit>
+pub fn signed(alloc: Global, tokens: &mut Cursor<'_>) -> Front<Lit>
     ensures { Flat (spec.signed tokens.old) result tokens.new }
 {
     let start = tokens.here();
@@ -103,14 +103,14 @@ fn expr_of(alloc: Global, trees: &[TokenTree]) -> Mem<Option<Expr>>
 }
 
 /// A number with its sign of all of the tokens, if they are one.
-fn number_of(alloc: Global, trees: &[TokenTree]) -> Mem<Option<Lit>>
+pub fn number_of(alloc: Global, trees: &[TokenTree]) -> Mem<Option<Lit>>
     ensures { IfOk result (λ found. found ≡ spec.number_in trees.now) }
 {
     all_of(alloc, trees, signed)
 }
 
 /// The tokens as a stream of their own.
-fn kept(alloc: Global, trees: &[TokenTree]) -> Mem<TokenStream>
+pub fn stream_of(alloc: Global, trees: &[TokenTree]) -> Mem<TokenStream>
     ensures { IfOk result (λ kept. kept ≡ spec.stream trees.now) }
 {
     let mut kept = Items::new(alloc);
@@ -130,12 +130,12 @@ pub fn value_of(alloc: Global, trees: &[TokenTree]) -> Mem<Expr>
     if let Some(found) = expr_of(alloc, trees)? {
         return Ok(found);
     }
-    Ok(Expr::Verbatim(kept(alloc, trees)?))
+    Ok(Expr::Verbatim(stream_of(alloc, trees)?))
 }
 
 /// The group behind the path.
 #[tactic(auto, unfolding(crate::specs::Attributes::meta_list))]
-fn meta_list(
+pub fn meta_list(
     alloc: Global,
     tokens: &mut Cursor<'_>,
     start: Span,
@@ -144,7 +144,7 @@ fn meta_list(
 ) -> Front<Meta>
     ensures { Flat (spec.meta_list start path delimiter tokens.old) result tokens.new }
 {
-    let stream = kept(alloc, contents_of(tokens.rest()))?;
+    let stream = stream_of(alloc, contents_of(tokens.rest()))?;
     tokens.skip();
     let span = tokens.upto(start);
     let list = MetaList {

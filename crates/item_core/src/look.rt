@@ -57,7 +57,7 @@ fn start_by(word: Word, union: bool) -> ItemStart
 
 /// Between which delimiters the group stands that comes next.
 #[tactic(auto, unfolding(crate::specs::Attributes::delimiter_of))]
-pub(crate) fn delimiter_of(trees: &[TokenTree]) -> Option<Delimiter>
+pub fn delimiter_of(trees: &[TokenTree]) -> Option<Delimiter>
     ensures { result ≡ attributes.delimiter_of trees.now }
 {
     match trees.first() {

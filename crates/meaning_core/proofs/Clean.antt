@@ -2,8 +2,8 @@
 use Rattle.std.proofs.Common.{◌≡◌, ℕ, ◌==◌, zero, suc, Bool, true, false, List, [], ◌∷◌, ◌++◌, Option, Some, None, refl, ap, ◌∙◌, sym, append_assoc, append-nil, ⊎_elim, subst, true≢false}
 use Rattle.std.proofs.lemmas.Bool.Decides.{eqb_tells}
 use Rattle.base_core.specs.declared.text.Text.{Text}
-use Rattle.meta_core.specs.declared.nested.NestedMeta.{NestedMeta}
-use Rattle.meta_core.specs.declared.nested.NestedMeta.TheVariants as nested
+use Rattle.first_core.specs.declared.nested.NestedMeta.{NestedMeta}
+use Rattle.first_core.specs.declared.nested.NestedMeta.TheVariants as nested
 use Rattle.fault_core.specs.declared.fault.Fault.{Fault}
 use Rattle.fault_core.specs.Faults.{at}
 use Rattle.fault_core.specs.Outcome.{Outcome, Value, Faults, faults_of}

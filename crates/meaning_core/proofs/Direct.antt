@@ -1,7 +1,7 @@
 -- One walk and one look at each slot give what the entries mean.
 use Rattle.std.proofs.Common.{◌≡◌, ℕ, zero, suc, Bool, true, false, cond, List, [], ◌∷◌, ◌++◌, map, Option, Some, None, refl, ap, ap₂, ◌∙◌, sym, true≢false}
 use mathlib.Core.Path.{fun_ext}
-use Rattle.meta_core.specs.declared.nested.NestedMeta.{NestedMeta}
+use Rattle.first_core.specs.declared.nested.NestedMeta.{NestedMeta}
 use Rattle.fault_core.specs.declared.fault.Fault.{Fault}
 use Rattle.fault_core.specs.Outcome.{Outcome, Value, Faults, bind, on_value, settle, value_of}
 use Rattle.meaning_core.specs.declared.value.Value.{Value as Datum}

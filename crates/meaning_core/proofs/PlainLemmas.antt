@@ -4,8 +4,8 @@ use mathlib.Core.Path.{fun_ext}
 use Rattle.base_core.specs.declared.text.Text.{Text}
 use Rattle.node_core.specs.declared.attr.Meta.{Meta}
 use Rattle.node_core.specs.declared.derive.DeriveInput.{DeriveInput}
-use Rattle.meta_core.specs.declared.nested.NestedMeta.{NestedMeta}
-use Rattle.meta_core.specs.declared.nested.NestedMeta.TheVariants as nested
+use Rattle.first_core.specs.declared.nested.NestedMeta.{NestedMeta}
+use Rattle.first_core.specs.declared.nested.NestedMeta.TheVariants as nested
 use Rattle.fault_core.specs.declared.fault.Fault.{Fault}
 use Rattle.fault_core.specs.declared.kind.FaultKind.TheVariants.{UnknownField}
 use Rattle.fault_core.specs.Kind.{set_of}

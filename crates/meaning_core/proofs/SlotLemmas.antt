@@ -4,7 +4,7 @@ use Rattle.std.specs.List.{list_any}
 use Rattle.std.proofs.lemmas.List.{map-set, set-get_or}
 use Rattle.base_core.specs.declared.text.Text.{Text}
 use Rattle.node_core.specs.declared.attr.Meta.{Meta}
-use Rattle.meta_core.specs.declared.nested.NestedMeta.TheVariants as nested
+use Rattle.first_core.specs.declared.nested.NestedMeta.TheVariants as nested
 use Rattle.fault_core.specs.declared.fault.Fault.{Fault}
 use Rattle.fault_core.specs.declared.kind.FaultKind.TheVariants.{DuplicateField}
 use Rattle.fault_core.specs.Fault.{at_span, located}

@@ -8,9 +8,9 @@ use Rattle.node_core.specs.declared.attr.Meta.TheVariants as meta
 use Rattle.expr_core.specs.declared.expr.Expr.{Expr}
 use Rattle.expr_core.specs.declared.lit.Lit.{Lit}
 use Rattle.expr_core.specs.declared.lit.Lit.TheVariants as lit
-use Rattle.meta_core.specs.Nested.{nested_of}
-use Rattle.meta_core.specs.declared.nested.NestedMeta.{NestedMeta}
-use Rattle.meta_core.specs.declared.nested.NestedMeta.TheVariants as nested
+use Rattle.first_core.specs.Nested.{nested_of}
+use Rattle.first_core.specs.declared.nested.NestedMeta.{NestedMeta}
+use Rattle.first_core.specs.declared.nested.NestedMeta.TheVariants as nested
 use Rattle.fault_core.specs.declared.fault.Fault.{Fault}
 use Rattle.fault_core.specs.declared.kind.FaultKind.TheVariants.{Custom, UnexpectedFormat, UnexpectedType}
 use Rattle.fault_core.specs.Fault.{at_span}

@@ -6,8 +6,8 @@ use Rattle.base_core.specs.declared.text.Text.{Text}
 use Rattle.node_core.specs.declared.attr.Attribute.{Attribute}
 use Rattle.node_core.specs.declared.attr.Meta.{Meta}
 use Rattle.node_core.specs.declared.attr.Meta.TheVariants as meta
-use Rattle.meta_core.specs.Nested.{nested_of}
-use Rattle.meta_core.specs.declared.nested.NestedMeta.{NestedMeta}
+use Rattle.first_core.specs.Nested.{nested_of}
+use Rattle.first_core.specs.declared.nested.NestedMeta.{NestedMeta}
 use Rattle.fault_core.specs.declared.fault.Fault.{Fault}
 use Rattle.fault_core.specs.declared.kind.FaultKind.TheVariants.{Custom}
 use Rattle.fault_core.specs.Fault.{at_span}

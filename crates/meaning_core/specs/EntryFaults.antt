@@ -4,8 +4,8 @@ use Rattle.std.specs.Fmt.{decimal}
 use Rattle.base_core.specs.declared.text.Text.{Text}
 use Rattle.token_core.specs.declared.span.Span.{Span}
 use Rattle.node_core.specs.declared.attr.Meta.{Meta}
-use Rattle.meta_core.specs.declared.nested.NestedMeta.{NestedMeta}
-use Rattle.meta_core.specs.declared.nested.NestedMeta.TheVariants as nested
+use Rattle.first_core.specs.declared.nested.NestedMeta.{NestedMeta}
+use Rattle.first_core.specs.declared.nested.NestedMeta.TheVariants as nested
 use Rattle.fault_core.specs.declared.fault.Fault.{Fault}
 use Rattle.fault_core.specs.declared.kind.FaultKind.TheVariants.{DuplicateField, UnexpectedFormat, UnknownField}
 use Rattle.fault_core.specs.Kind.{set_of}

@@ -14,8 +14,8 @@ use Rattle.node_core.specs.declared.attr.Meta.TheVariants as meta
 use Rattle.expr_core.specs.declared.lit.Lit.{Lit}
 use Rattle.expr_core.specs.declared.lit.Lit.TheVariants as lit
 use Rattle.expr_core.specs.declared.path.Path.{Path, out-Path}
-use Rattle.meta_core.specs.declared.nested.NestedMeta.{NestedMeta}
-use Rattle.meta_core.specs.declared.nested.NestedMeta.TheVariants as nested
+use Rattle.first_core.specs.declared.nested.NestedMeta.{NestedMeta}
+use Rattle.first_core.specs.declared.nested.NestedMeta.TheVariants as nested
 
 -- the name of a literal's kind
 abbrev pub lit_kind : Lit → Text

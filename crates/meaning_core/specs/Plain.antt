@@ -1,7 +1,7 @@
 -- What a plain reading of a struct of texts asks of a field's items: the first alone.
 use Rattle.std.specs.Prelude.{List, [], ◌∷◌, Option, Some, None}
 use Rattle.base_core.specs.declared.text.Text.{Text}
-use Rattle.meta_core.specs.declared.nested.NestedMeta.{NestedMeta}
+use Rattle.first_core.specs.declared.nested.NestedMeta.{NestedMeta}
 use Rattle.fault_core.specs.declared.fault.Fault.{Fault}
 use Rattle.fault_core.specs.declared.kind.FaultKind.TheVariants.{MissingField}
 use Rattle.fault_core.specs.Fault.{plain}

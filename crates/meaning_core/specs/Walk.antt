@@ -1,7 +1,7 @@
 -- What is claimed of a walk: its state is the filters of the entries, and what it gives is their meaning.
 use Rattle.std.specs.Prelude.{◌≡◌, Bool, true, false, List, [], ◌∷◌, ◌++◌, map, fold, Option, Some, None}
 use Rattle.base_core.specs.declared.text.Text.{Text}
-use Rattle.meta_core.specs.declared.nested.NestedMeta.{NestedMeta}
+use Rattle.first_core.specs.declared.nested.NestedMeta.{NestedMeta}
 use Rattle.fault_core.specs.declared.fault.Fault.{Fault}
 use Rattle.fault_core.specs.declared.kind.FaultKind.TheVariants.{MissingField}
 use Rattle.fault_core.specs.Fault.{plain}

@@ -1,8 +1,8 @@
 ghost use Rattle.std.specs.Prelude.{◌≡◌, ◌++◌, ◌<◌, [], IfOk, OnOk, List, length, map, position};
 ghost use Rattle.std.specs.Option.{ForSome, option_copied};
 ghost use Rattle.std.specs.Str.{bytes_eq};
-ghost use Rattle.meta_core.specs.declared.nested.NestedMeta.{NestedMeta};
-ghost use Rattle.meta_core.specs.declared.nested.NestedMeta.TheVariants as nested;
+ghost use Rattle.first_core.specs.declared.nested.NestedMeta.{NestedMeta};
+ghost use Rattle.first_core.specs.declared.nested.NestedMeta.TheVariants as nested;
 ghost use Rattle.meaning_core.specs.Decl.{Single};
 ghost use Rattle.meaning_core.specs.Host.{no_host};
 ghost use Rattle.meaning_core.specs.Entries.{ItemEntry, entries_of, events, has_name, items};
@@ -21,7 +21,7 @@ use crate::text::{list_fault, read_item, read_text};
 use crate::value::{Style, Value};
 use crate::walk::name_value_fault;
 use fault_core::Fault;
-use meta_core::{NestedMeta, parse_meta_list};
+use first_core::{NestedMeta, parse_meta_list};
 use node_core::{Attribute, DeriveInput, Items, Mem, Meta, Text, TryClone, path_to_string};
 use std::alloc::Global;
 

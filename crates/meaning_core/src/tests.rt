@@ -1,6 +1,6 @@
 use crate::{Outcome, Receiver, Value, plain_item_meaning};
 use fault_core::fault_line;
-use meta_core::path_of;
+use first_core::path_of;
 use node_core::{
     Attribute, Data, DataStruct, Delimiter, DeriveInput, Field, Fields, FieldsNamed, Generics,
     Group, Ident, Items, Literal, Mem, Meta, MetaList, Punct, Span, Text, TokenStream, TokenTree,

@@ -8,11 +8,11 @@ ghost use Rattle.meaning_core.specs.Host.{no_host};
 ghost use Rattle.meaning_core.specs.EntryFaults.{read_at};
 ghost use Rattle.meaning_core.specs.Receiver.{no_earlier};
 ghost use Rattle.meaning_core.specs.Slots.{text_outcome};
-ghost use Rattle.meta_core.specs.declared.nested.NestedMeta.TheVariants as nested;
+ghost use Rattle.first_core.specs.declared.nested.NestedMeta.TheVariants as nested;
 
 use crate::node::{lit_kind, lit_span, meta_span, tokens_span};
 use fault_core::{Fault, FaultKind};
-use meta_core::{NestedMeta, parse_meta_list};
+use first_core::{NestedMeta, parse_meta_list};
 use node_core::{Expr, Lit, Mem, Meta, Span, Text, TokenStream, TryClone};
 use std::alloc::Global;
 

@@ -1,5 +1,5 @@
 ghost use Rattle.std.specs.Prelude.{◌≡◌, ◌++◌, ◌∷◌, [], ◌<◌, None, IfOk, OnOk, length, map, fold, replicate};
-ghost use Rattle.meta_core.specs.declared.nested.NestedMeta.TheVariants as nested;
+ghost use Rattle.first_core.specs.declared.nested.NestedMeta.TheVariants as nested;
 ghost use Rattle.meaning_core.specs.Decl.{TextType};
 ghost use Rattle.meaning_core.specs.Host.{no_host};
 ghost use Rattle.meaning_core.specs.EntryFaults.{read_at};
@@ -16,7 +16,7 @@ use crate::receiver::Receiver;
 use crate::text::{list_fault, read_text};
 use crate::value::{Style, Value};
 use fault_core::Fault;
-use meta_core::{NestedMeta, parse_meta_list};
+use first_core::{NestedMeta, parse_meta_list};
 use node_core::{Attribute, Items, Mem, Meta, Path, Text, TryClone, path_to_string};
 use std::alloc::Global;
 

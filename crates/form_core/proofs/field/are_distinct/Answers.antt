@@ -1,7 +1,7 @@
 use Rattle.std.proofs.Common.{◌≡◌, ◌<◌, ◌∷◌, ◌+◌, ◌&&◌, suc, cond, true, not, drop, map, length, ap, sym, ◌∙◌, add-one, arith}
 use Rattle.std.proofs.Math.Seq.{drop-cons}
 use Rattle.token_core.specs.declared.ident.Ident.{Ident}
-use Rattle.meta_core.specs.Tree.{same_text}
+use Rattle.first_core.specs.Tree.{same_text}
 use Rattle.form_core.proofs.Distinct.{are_new, is_held, are_new-start, held-none, held-more}
 use Rattle.form_core.proofs.field.are_distinct.Goals as goal
 

@@ -1,5 +1,5 @@
 use Rattle.std.proofs.Common.{sym, ◌∙◌}
-use Rattle.meta_core.proofs.Lists.{put_before-read}
+use Rattle.first_core.proofs.Lists.{put_before-read}
 use Rattle.form_core.specs.Field.{field}
 use Rattle.form_core.proofs.field.listed_fields.Goals as goal
 

@@ -1,6 +1,6 @@
 use Rattle.std.proofs.Common.{◌≡◌, length}
-use Rattle.meta_core.specs.Nested.{listed}
-use Rattle.meta_core.proofs.Lists.{put_before}
+use Rattle.first_core.specs.Nested.{listed}
+use Rattle.first_core.proofs.Lists.{put_before}
 use Rattle.form_core.specs.Field.{field}
 use Rattle.form_core.proofs.field.listed_fields.Given as goal
 

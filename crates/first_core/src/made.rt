@@ -1,5 +1,5 @@
 ghost use Rattle.std.specs.Prelude.{◌≡◌, IfOk};
-ghost use Rattle.meta_core.specs.Made.{path_of, name_value_of};
+ghost use Rattle.first_core.specs.Made.{path_of, name_value_of};
 
 use base_core::{Items, Mem, TryClone};
 use node_core::{Expr, Lit, LitStr, MetaNameValue, Path, PathArguments, PathSegment};

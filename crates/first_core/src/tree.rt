@@ -1,7 +1,7 @@
 ghost use Rattle.std.specs.Prelude.{◌≡◌, IfOk};
 ghost use Rattle.std.specs.Option.{option_copied};
-ghost use Rattle.meta_core.specs.Tree.{word, word_named, mark, literal, group};
-ghost use Rattle.meta_core.specs.Nested.{string, string_in};
+ghost use Rattle.first_core.specs.Tree.{word, word_named, mark, literal, group};
+ghost use Rattle.first_core.specs.Nested.{string, string_in};
 
 use base_core::{Mem, TryClone};
 use grammar_core::lit_of;

@@ -1,7 +1,7 @@
 use Rattle.std.proofs.Common.{sym, ◌∙◌}
-use Rattle.meta_core.specs.Nested.{nested_item}
-use Rattle.meta_core.proofs.Lists.{put_before-read}
-use Rattle.meta_core.proofs.nested.parse_meta_list.Goals as goal
+use Rattle.first_core.specs.Nested.{nested_item}
+use Rattle.first_core.proofs.Lists.{put_before-read}
+use Rattle.first_core.proofs.nested.parse_meta_list.Goals as goal
 
 pub loop-trees-preserved : goal.loop-trees-preserved
 loop-trees-preserved c =

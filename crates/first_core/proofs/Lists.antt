@@ -3,8 +3,8 @@ use Rattle.std.proofs.Common.{◌≡◌, ◌≤◌, ◌-◌, List, [], ◌∷◌
 use Rattle.std.proofs.Math.Seq.{take-length}
 use Rattle.token_core.specs.declared.span.Span.{Span}
 use Rattle.token_core.specs.declared.tree.TokenTree.{TokenTree}
-use Rattle.meta_core.specs.Tree.{◌>>=◌, mark}
-use Rattle.meta_core.specs.Nested.{listed, after_comma}
+use Rattle.first_core.specs.Tree.{◌>>=◌, mark}
+use Rattle.first_core.specs.Nested.{listed, after_comma}
 
 -- the items before those of the rest
 abbrev pub put_before : {A : Type 0} → List A → Option (List A) → Option (List A)

@@ -9,10 +9,10 @@ use Rattle.expr_core.specs.declared.lit.Lit.{Lit}
 use Rattle.expr_core.specs.declared.lit.Lit.TheVariants as lit
 use Rattle.expr_core.specs.declared.lit.LitStr.{LitStr}
 use Rattle.grammar_core.specs.Literals.{lit_of}
-use Rattle.meta_core.specs.declared.nested.NestedMeta.{NestedMeta}
-use Rattle.meta_core.specs.declared.nested.NestedMeta.TheVariants as nested
-use Rattle.meta_core.specs.Tree.{◌>>=◌, word, mark, literal, trees_of}
-use Rattle.meta_core.specs.Made.{name_value_of}
+use Rattle.first_core.specs.declared.nested.NestedMeta.{NestedMeta}
+use Rattle.first_core.specs.declared.nested.NestedMeta.TheVariants as nested
+use Rattle.first_core.specs.Tree.{◌>>=◌, word, mark, literal, trees_of}
+use Rattle.first_core.specs.Made.{name_value_of}
 
 -- the string that a literal is
 abbrev pub string_in : Lit → Option LitStr

@@ -1,6 +1,6 @@
 ghost use Rattle.std.specs.Prelude.{◌≡◌, IfOk};
 ghost use Rattle.std.specs.Option.{option_copied};
-ghost use Rattle.meta_core.specs.Nested.{nested_item, nested_of, after_comma};
+ghost use Rattle.first_core.specs.Nested.{nested_item, nested_of, after_comma};
 
 use crate::made::name_value;
 use crate::tree::{mark, string, word};
