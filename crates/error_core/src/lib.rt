@@ -6,6 +6,7 @@
 #![tactic(auto)]
 
 mod accumulator;
+mod clone;
 mod compile_errors;
 mod create;
 mod error;

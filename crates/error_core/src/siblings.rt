@@ -60,7 +60,7 @@ fn widened(alloc: Global, kind: FaultKind, alts: &[Text]) -> Mem<FaultKind>
 }
 
 #[inline(never)]
-fn push_child(children: &mut Vec<Error>, child: Error) -> Mem<()>
+pub(crate) fn push_child(children: &mut Vec<Error>, child: Error) -> Mem<()>
     ensures { OnOk result (children.new.items ≡ children.old.items ++ child ∷ []) }
 {
     children.push(child)?;

@@ -127,7 +127,7 @@ fn holds(fact: bool, text: &str, otherwise: &str) -> Tested<()> {
     Err(Fail::new(format_args!("{text}: {otherwise}")))
 }
 
-fn hash<N: Hash>(node: &N) -> u64 {
+pub fn hash<N: Hash>(node: &N) -> u64 {
     let mut state = DefaultHasher::new();
     node.hash(&mut state);
     state.finish()

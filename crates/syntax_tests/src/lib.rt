@@ -13,6 +13,8 @@ mod items;
 #[cfg(test)]
 mod lists;
 #[cfg(test)]
+mod nested;
+#[cfg(test)]
 mod precedence;
 #[cfg(test)]
 mod types;
