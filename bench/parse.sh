@@ -19,7 +19,7 @@ printf '| %-17s | %6s | %6s | %6s | %7s | %7s | %7s | %8s | %-14s |\n' \
     workload 'lex 1' 4 16 'parse 1' 4 16 memory answer
 printf '|---|---|---|---|---|---|---|---|---|\n'
 for workload in ${*:-names literals operators postfixes closures groups late_fault array block call parameters \
-    paths types segments arguments bounds structs enums attributes fields late_item deep_parentheses deep_minuses deep_closures deep_fields deep_calls \
+    paths types segments arguments bounds nested_items bad_values open_values late_attribute structs enums attributes fields late_item deep_parentheses deep_minuses deep_closures deep_fields deep_calls \
     deep_sums deep_types deep_angles chain_ampersands chain_minuses chain_nots chain_closures chain_fields \
     chain_questions chain_calls chain_indexes chain_sums chain_parentheses chain_angles}; do
     lexed=

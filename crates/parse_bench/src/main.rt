@@ -4,6 +4,7 @@
 
 mod text;
 
+use meta_core::NestedMeta;
 use std::alloc::Global;
 use std::env::Env;
 use std::process::ExitCode;
@@ -79,6 +80,7 @@ fn parsed(alloc: Global, list: List, tokens: &TokenStream) -> Outcome {
         List::Exprs => told(parse_exprs(alloc, tokens)),
         List::Paths => told(parse_paths(alloc, tokens)),
         List::Items => told(parse_items(alloc, tokens)),
+        List::Nested => told(NestedMeta::parse_meta_list(alloc, tokens)),
     }
 }
 

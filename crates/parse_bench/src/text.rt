@@ -9,6 +9,8 @@ pub(crate) enum List {
     Exprs,
     Paths,
     Items,
+    /// Nested items of an attribute.
+    Nested,
 }
 
 /// A text of the workload, of about so many bytes; an empty one where there is no such workload.
@@ -20,6 +22,10 @@ pub(crate) fn text_of(alloc: Global, workload: &str, size: usize) -> Mem<(List, 
     let text = paths(alloc, workload, size)?;
     if !text.is_empty() {
         return Ok((List::Paths, text));
+    }
+    let text = nested_items(alloc, workload, size)?;
+    if !text.is_empty() {
+        return Ok((List::Nested, text));
     }
     let text = exprs(alloc, workload, size)?;
     Ok((List::Exprs, text))
@@ -59,6 +65,17 @@ fn paths(alloc: Global, workload: &str, size: usize) -> Mem<String> {
         "bounds" => filled(alloc, "A<dyn B", " + C", ">", size),
         "chain_angles" => filled(alloc, "", "A<", "A", size),
         "deep_angles" => deep(alloc, 255, ("A<", "A", ">"), size),
+        _ => Ok(String::new(alloc)),
+    }
+}
+
+/// Lists of nested items.
+fn nested_items(alloc: Global, workload: &str, size: usize) -> Mem<String> {
+    match workload {
+        "nested_items" => filled(alloc, "", "a, b(c), d = -1, e = f + g, ", "", size),
+        "bad_values" => filled(alloc, "", "a = b c, ", "", size),
+        "open_values" => filled(alloc, "", "a = b::<c, ", "", size),
+        "late_attribute" => filled(alloc, "", "a = b, ", "c = #[d]", size),
         _ => Ok(String::new(alloc)),
     }
 }

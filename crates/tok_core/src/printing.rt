@@ -1,9 +1,10 @@
 //! The text of tokens.
-ghost use Rattle.std.specs.Prelude.{◌≡◌, ◌≤◌, ◌++◌, true, length, map, IfOk, OnOk, MatchResult};
+ghost use Rattle.std.specs.Prelude.{◌≡◌, ◌≤◌, ◌++◌, true, chars, length, map, IfOk, OnOk, MatchResult};
 ghost use Rattle.tok_core.specs.Bare.{SameButSpans};
 ghost use Rattle.tok_core.specs.Flat.{tree_view, trees_of};
 ghost use Rattle.tok_core.specs.Readable.{IsReadable};
 ghost use Rattle.tok_core.specs.Printing.{stream_text, text_of, texts_of, tree_joins};
+ghost use Rattle.tok_core.specs.Spells.{Spells};
 
 use crate::error::LexError;
 use crate::reading::lex;
@@ -31,8 +32,9 @@ pub fn to_text(alloc: Global, tokens: &TokenStream) -> Mem<Text>
 /// open at once. The text takes at most 16 MiB.
 pub fn read_again(alloc: Global, source: u32, tokens: &TokenStream) -> Result<TokenStream, LexError>
     requires { length (stream_text tokens.now) ≤ 16777216 }
-    ensures { IsReadable tokens.now
+    ensures same { IsReadable tokens.now
         → MatchResult result (λ read. SameButSpans read tokens.now) (λ e. e ≡ LexError.NoMemory) }
+    ensures spelled { IfOk result (Spells source (chars (stream_text tokens.now))) }
 {
     let text = to_text(alloc, tokens)?;
     lex(alloc, source, text.as_str())
