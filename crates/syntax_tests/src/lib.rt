@@ -15,6 +15,10 @@ mod lists;
 #[cfg(test)]
 mod nested;
 #[cfg(test)]
+mod nodes;
+#[cfg(test)]
+mod parts;
+#[cfg(test)]
 mod precedence;
 #[cfg(test)]
 mod types;
