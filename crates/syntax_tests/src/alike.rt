@@ -232,3 +232,19 @@ where
     let other = given(second, text)?;
     look(&one, &other)
 }
+
+/// The tree that a parser gives is read from its printing too.
+pub fn comes_back<N: PartialEq + ToTokens + Drop, P: Fn(&TokenStream) -> Parse<N>>(
+    alloc: Global,
+    text: &str,
+    parser: P,
+) -> Tested<()>
+where
+    P: Drop,
+    requires { P.IsAlwaysCallable parser }
+{
+    let tree = given(parser(&tokens(alloc, 0, text)?), text)?;
+    let printed = tree.to_token_stream(alloc)?;
+    let again = given(parser(&printed), text)?;
+    holds(again == tree, text, "its printing is another tree")
+}

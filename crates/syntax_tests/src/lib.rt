@@ -5,6 +5,8 @@
 #[cfg(test)]
 mod alike;
 #[cfg(test)]
+mod back;
+#[cfg(test)]
 mod deep;
 #[cfg(test)]
 mod exprs;

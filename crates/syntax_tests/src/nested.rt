@@ -11,7 +11,7 @@ use tok_core::{Items, Span, Text, TryClone, to_text};
 
 // Lists, and their items: each with its kind, its place and its text. The value of `value` is an
 // expression, that of `number` is one literal; a bad value has the place of its fault behind it.
-const READ: [(&str, &str); 50] = [
+pub const READ: [(&str, &str); 50] = [
     ("", ""),
     ("a", "path 0..1 a;"),
     ("a,", "path 0..1 a;"),
