@@ -1,4 +1,6 @@
-use crate::{Accumulator, Error, Fail, Items, Mem, Result, Span, Text, into_compile_error};
+use crate::{
+    Accumulator, Error, Fail, Items, Mem, Result, Span, Text, TryClone, into_compile_error,
+};
 use node_core::{
     Expr, Ident, Lit, LitBool, LitStr, Literal, Path, PathArguments, PathSegment, SynError,
     TokenStream,
@@ -336,6 +338,17 @@ fn flattening_keeps_the_faults_with_their_paths(rt: HostRuntime) -> Tested {
     Ok(())
 }
 
+#[test]
+fn a_clone_has_the_same_text_length_and_place(rt: HostRuntime) -> Tested {
+    let alloc = rt.alloc();
+    let several = both(alloc, Error::custom(alloc, "a"), Error::custom(alloc, "b"));
+    let several = several?.with_span_at(place(1, 2));
+    let copy = several.try_clone(alloc)?;
+    assert!(rt; copy.len() == 2);
+    assert!(rt; stands(alloc, Ok(copy), place(1, 2), "Multiple errors: (a, b)")?);
+    Ok(())
+}
+
 /// Collects `a`, `b` of an outcome, `c` and `d`. The values of the outcomes that have one.
 fn collect(errors: &mut Accumulator, alloc: Global) -> Mem<Option<u8>> {
     errors.push(alloc, Error::custom(alloc, "a")?)?;
@@ -470,6 +483,7 @@ fn trees_of_many_levels_keep_within_the_stack(rt: HostRuntime) -> Tested {
     assert!(rt; tree.len() == LEVELS + 1);
     // `Multiple errors: (`, `, ` and `)` in each level, and the text of each leaf
     assert!(rt; tree.to_text(alloc)?.len() == LEVELS * 21 + (LEVELS + 1) * 18);
+    assert!(rt; tree.try_clone(alloc)?.len() == LEVELS + 1);
     let mut children = tree.into_iter(alloc)?;
     assert!(rt; children.next().is_some());
     assert!(rt; deep(alloc, LEVELS)?.flatten(alloc)?.len() == LEVELS + 1);
