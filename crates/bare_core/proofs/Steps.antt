@@ -157,9 +157,9 @@ inside-blind {A} {B} {bare} {parser} {other} between h = record {
 pub state-blind : Blind bare_input state state
 state-blind = record { at = λ input. refl }
 
-pub read_since-blind : (before : List TokenTree) → Blind (map bare_tree) (read_since before) (read_since (map bare_tree before))
-read_since-blind before = record {
-  at = λ input. ap (λ trees. Some (trees, bare_input input)) (rw (length-map before bare_tree, length-map input.rest bare_tree) (take-map bare_tree (length before - length input.rest) before));
+pub read_since-blind : (before also : List TokenTree) → map bare_tree before ≡ also → Blind (map bare_tree) (read_since before) (read_since also)
+read_since-blind before also b = record {
+  at = λ input. rw (← b) (ap (λ trees. Some (trees, bare_input input)) (rw (length-map before bare_tree, length-map input.rest bare_tree) (take-map bare_tree (length before - length input.rest) before)));
 }
 
 -- ---- lists
