@@ -1,9 +1,8 @@
 -- The rules of closures and atoms do not see places.
-use Rattle.std.proofs.Common.{◌≡◌, ℕ, zero, suc, Bool, true, false, List, [], ◌∷◌, ◌++◌, map, Option, Some, None, option_map, refl, ap, ◌∙◌}
+use Rattle.std.proofs.Common.{◌≡◌, ℕ, zero, suc, Bool, true, false, List, [], ◌∷◌, ◌++◌, map, Some, None, refl, ap, ◌∙◌}
 use Rattle.token_core.specs.declared.span.Span.{Span}
 use Rattle.token_core.specs.declared.span.Span.TheVariants.{CallSite}
 use Rattle.token_core.specs.declared.tree.Delimiter.TheVariants as delimiter
-use Rattle.token_core.specs.declared.tree.TokenStream.{roll-TokenStream}
 use Rattle.expr_core.specs.declared.expr.Expr.{Expr}
 use Rattle.expr_core.specs.declared.expr.Expr.TheVariants as expr
 use Rattle.expr_core.specs.declared.lit.Lit.TheVariants as lit
@@ -11,8 +10,8 @@ use Rattle.grammar_core.specs.declared.look.AtomStart.{AtomStart}
 use Rattle.grammar_core.specs.declared.look.AtomStart.TheVariants as atom
 use Rattle.grammar_core.specs.declared.word.Word.{Word}
 use Rattle.grammar_core.specs.declared.word.Word.TheVariants as word
-use Rattle.grammar_core.specs.Expressions.{lit_bool, expr_bool, literal, pass_type, closure_param, closure_params, closure_body, closure, expr_group, expr_elements, expr_bracket, statements_from, statements, block, expr_in_parentheses, expr_in_brackets, expr_path, expr_qualified, invisible, atom_by, constant_by, constant}
-use Rattle.grammar_core.specs.Input.{Input, ◌>>=◌}
+use Rattle.grammar_core.specs.Expressions.{lit_bool, expr_bool, literal, pass_type, closure_param, closure_params, closure_body, closure, expr_group, expr_elements, expr_bracket, statements_from, block, expr_in_parentheses, expr_in_brackets, expr_path, expr_qualified, invisible, atom_by, constant_by, constant}
+use Rattle.grammar_core.specs.Input.{Input}
 use Rattle.grammar_core.specs.Literals.{lit_of}
 use Rattle.grammar_core.specs.Look.{atom_start}
 use Rattle.grammar_core.specs.Make as make
@@ -20,8 +19,8 @@ use Rattle.grammar_core.specs.Patterns.{max_pattern}
 use Rattle.grammar_core.specs.Readers.{Readers, any_level, constant_level}
 use Rattle.grammar_core.specs.Token.{literal_of}
 use Rattle.grammar_core.specs.Words.{next_word}
-use Rattle.bare_core.specs.Bare.{bare_tree, bare_lit, bare_expr, bare_qself}
-use Rattle.bare_core.specs.Blind.{bare_input, Blind}
+use Rattle.bare_core.specs.Bare.{bare_expr}
+use Rattle.bare_core.specs.Blind.{Blind}
 use Rattle.bare_core.proofs.Made.{bare_expr-Lit, bare_expr-Path, bare_expr-Array, bare_expr-Repeat, bare_expr-Tuple, bare_expr-Paren, bare_expr-Group, bare_expr-Closure, bare_expr-Block, bare_expr-Infer, bare_expr_path-make}
 use Rattle.bare_core.proofs.Paths.{AllBlind, path-blind, qualified-blind}
 use Rattle.bare_core.proofs.Patterns.{pattern-blind}

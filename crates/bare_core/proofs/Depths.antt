@@ -1,5 +1,5 @@
 -- A node without its places is as deep as it was.
-use Rattle.std.proofs.Common.{◌≡◌, ℕ, Bool, List, [], ◌∷◌, map, Option, Some, None, option_map, refl, ap, sym, ◌∙◌, subst}
+use Rattle.std.proofs.Common.{◌≡◌, ℕ, Bool, List, [], ◌∷◌, map, Option, Some, None, refl, sym, subst}
 use Rattle.token_core.specs.declared.ident.Lifetime.{Lifetime}
 use Rattle.token_core.specs.declared.span.Span.{Span}
 use Rattle.expr_core.specs.Layers.{ExprLayer, TypeParamBoundLayer, GenericArgumentLayer, PathArgumentsLayer, TypeLayer, ExprPathLayer, TraitBoundLayer, PathLayer, PathSegmentLayer, TypeArrayLayer, TypePathLayer}

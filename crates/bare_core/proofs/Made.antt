@@ -1,5 +1,5 @@
 -- A node without its places, by its parts without theirs.
-use Rattle.std.proofs.Common.{◌≡◌, ℕ, Bool, List, [], ◌∷◌, map, Option, Some, None, option_map, refl, ap, sym, ◌∙◌}
+use Rattle.std.proofs.Common.{◌≡◌, Bool, List, [], ◌∷◌, map, Option, Some, None, option_map, refl, ap, sym, ◌∙◌}
 use Rattle.token_core.specs.declared.ident.Ident.{Ident}
 use Rattle.token_core.specs.declared.ident.Lifetime.{Lifetime}
 use Rattle.token_core.specs.declared.span.Span.{Span}

@@ -1,5 +1,5 @@
 -- The rules of operators and ranges do not see places.
-use Rattle.std.proofs.Common.{◌≡◌, ℕ, zero, suc, Bool, true, false, ◌==◌, if◌then◌else◌, Option, Some, None, option_map, refl, ap}
+use Rattle.std.proofs.Common.{◌≡◌, ℕ, zero, suc, false, ◌==◌, if◌then◌else◌, Option, Some, None, option_map, refl, ap}
 use Rattle.token_core.specs.declared.span.Span.{Span}
 use Rattle.token_core.specs.declared.span.Span.TheVariants.{CallSite}
 use Rattle.expr_core.specs.declared.expr.Expr.{Expr}
@@ -10,8 +10,8 @@ use Rattle.grammar_core.specs.declared.look.Infix.{Infix}
 use Rattle.grammar_core.specs.declared.look.OperandStart.{OperandStart}
 use Rattle.grammar_core.specs.declared.look.OperandStart.TheVariants as begin
 use Rattle.grammar_core.specs.declared.word.Word.TheVariants as word
-use Rattle.grammar_core.specs.Expressions.{unary, reference, operand_by, operand, right_of, chain_by, chain_from, compared, chain_all, chain, binary_from, binary, dots, range_from, range, any, expr_step}
-use Rattle.grammar_core.specs.Input.{Parser, ◌>>=◌, pure}
+use Rattle.grammar_core.specs.Expressions.{unary, reference, operand_by, operand, right_of, chain_by, chain_from, compared, chain, binary_from, binary, dots, range_from, range, any, expr_step}
+use Rattle.grammar_core.specs.Input.{Parser, pure}
 use Rattle.grammar_core.specs.Look.{operand_start, operator_of, at_level, begins_operand, begins_closure}
 use Rattle.grammar_core.specs.Make as make
 use Rattle.grammar_core.specs.Readers.{Readers, operand_level, or_level, range_level, any_level, constant_level}
@@ -23,7 +23,7 @@ use Rattle.bare_core.proofs.Made.{bare_expr-Unary, bare_expr-Reference, bare_exp
 use Rattle.bare_core.proofs.Paths.{AllBlind}
 use Rattle.bare_core.proofs.Postfixes.{postfixed-blind}
 use Rattle.bare_core.proofs.Seen.{is_pair-bare, is_closed_dots-bare, sees-bare, operand_start-bare, operator_of-bare, begins_operand-bare, begins_closure-bare}
-use Rattle.bare_core.proofs.Steps.{same, pure-blind, refuse-blind, then-blind, so-blind, if-blind, test-blind, here-blind, upto-blind, close-blind, skip-blind, skip_by-blind, eat-blind, at_end-blind, by_turns-blind}
+use Rattle.bare_core.proofs.Steps.{same, pure-blind, refuse-blind, then-blind, so-blind, if-blind, test-blind, here-blind, close-blind, skip-blind, skip_by-blind, eat-blind, at_end-blind, by_turns-blind}
 
 module _ (readers : Readers) (parts : AllBlind readers) where
   unary-blind : (op : UnOp) → Blind bare_expr (unary readers op) (unary readers op)

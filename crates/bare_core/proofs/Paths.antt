@@ -16,18 +16,18 @@ use Rattle.grammar_core.specs.declared.look.ArgumentsStart.TheVariants as begin
 use Rattle.grammar_core.specs.declared.look.ArgumentStart.{ArgumentStart}
 use Rattle.grammar_core.specs.declared.look.ArgumentStart.TheVariants as argument
 use Rattle.grammar_core.specs.declared.word.Word.TheVariants as word
-use Rattle.grammar_core.specs.Input.{Parser, ◌>>=◌, take_as}
+use Rattle.grammar_core.specs.Input.{take_as}
 use Rattle.grammar_core.specs.Look.{arguments_start, argument_start, is_there}
 use Rattle.grammar_core.specs.Make as make
 use Rattle.grammar_core.specs.Paths.{binder, return_type, parenthesized, assoc_const, assoc_type, constraint, argument_by, generic_argument, arguments_by, arguments, segment, segments, path, after_as, without_as, qualified, trait_bound, one_bound, joined_bounds, bounds}
 use Rattle.grammar_core.specs.Readers.{Readers, constant_level}
 use Rattle.grammar_core.specs.Token.{lifetime_of}
-use Rattle.grammar_core.specs.Words.{name_of, segment_word, sees}
+use Rattle.grammar_core.specs.Words.{name_of, segment_word}
 use Rattle.bare_core.specs.Bare.{bare_ident, bare_lifetime, bare_expr, bare_type, bare_bound, bare_argument, bare_arguments, bare_segment, bare_path, bare_qself, bare_output}
 use Rattle.bare_core.specs.Blind.{Blind}
 use Rattle.bare_core.proofs.Made.{bare_argument-Lifetime, bare_argument-Ty, bare_argument-Const, bare_argument-AssocType, bare_argument-AssocConst, bare_argument-Constraint, bare_arguments-None, bare_arguments-AngleBracketed, bare_arguments-Parenthesized, bare_bound-Trait, bare_bound-Lifetime, bare_trait_bound-make, bare_path-make, bare_segment-make}
 use Rattle.bare_core.proofs.Seen.{is_mark-bare, is_pair-bare, sees-bare, name_of-bare, lifetime_of-bare, segment_word-bare, is_lifetime-bare, arguments_start-bare, argument_start-bare}
-use Rattle.bare_core.proofs.Steps.{same, pure-blind, then-blind, so-blind, map-blind, if-blind, test-blind, here-blind, upto-blind, close-blind, skip-blind, skip_by-blind, eat-blind, expect-blind, take_as-blind, inside-blind, items_after-blind, until-blind, joined_by-blind}
+use Rattle.bare_core.proofs.Steps.{pure-blind, then-blind, so-blind, map-blind, if-blind, test-blind, here-blind, upto-blind, close-blind, skip-blind, skip_by-blind, eat-blind, expect-blind, take_as-blind, inside-blind, items_after-blind, until-blind, joined_by-blind}
 
 -- the readers of the parts do not see places
 pub record AllBlind (readers : Readers) : Type 0 where

@@ -1,8 +1,8 @@
 -- The rules of patterns do not see places.
-use Rattle.std.proofs.Common.{◌≡◌, ℕ, zero, suc, [], refl, ap}
+use Rattle.std.proofs.Common.{ℕ, zero, suc, [], refl, ap}
 use Rattle.token_core.specs.declared.tree.Delimiter.TheVariants as delimiter
 use Rattle.grammar_core.specs.declared.word.Word.TheVariants as word
-use Rattle.grammar_core.specs.Patterns.{ands_from, skip_ands, is_underscore, pattern_word, patterns_by, pattern}
+use Rattle.grammar_core.specs.Patterns.{ands_from, skip_ands, is_underscore, pattern_word, pattern}
 use Rattle.grammar_core.specs.Token.{is_group}
 use Rattle.grammar_core.specs.Words.{next_word}
 use Rattle.bare_core.specs.Blind.{Blind}

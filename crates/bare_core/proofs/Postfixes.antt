@@ -1,5 +1,5 @@
 -- The rules of what stands behind an operand do not see places.
-use Rattle.std.proofs.Common.{◌≡◌, ℕ, zero, suc, Bool, true, false, List, [], map, refl}
+use Rattle.std.proofs.Common.{◌≡◌, ℕ, zero, suc, Bool, true, false, [], map, refl}
 use Rattle.token_core.specs.declared.ident.Ident.{Ident}
 use Rattle.token_core.specs.declared.span.Span.{Span}
 use Rattle.token_core.specs.declared.span.Span.TheVariants.{CallSite}
@@ -11,8 +11,8 @@ use Rattle.expr_core.specs.declared.expr.Member.TheVariants as made
 use Rattle.grammar_core.specs.declared.look.AtomStart.{AtomStart}
 use Rattle.grammar_core.specs.declared.look.PostfixStart.{PostfixStart}
 use Rattle.grammar_core.specs.declared.look.PostfixStart.TheVariants as postfix
-use Rattle.grammar_core.specs.Expressions.{args, turbofish_call, method_call, field, named_member, member_by, member, call, index, question, postfix_by, postfixes_by, postfixes_from, postfixes, postfixed}
-use Rattle.grammar_core.specs.Input.{Parser, ◌>>=◌}
+use Rattle.grammar_core.specs.Expressions.{args, turbofish_call, method_call, field, named_member, member_by, member, call, index, question, postfix_by, postfixes_by, postfixes_from, postfixed}
+use Rattle.grammar_core.specs.Input.{Parser}
 use Rattle.grammar_core.specs.Literals.{index_of}
 use Rattle.grammar_core.specs.Look.{is_there, postfix_start}
 use Rattle.grammar_core.specs.Readers.{Readers, any_level}

@@ -1,5 +1,5 @@
 -- What a rule sees of the tokens that come next is the same without their places.
-use Rattle.std.proofs.Common.{◌≡◌, ℕ, Bool, true, false, if◌then◌else◌, List, [], ◌∷◌, map, Option, Some, None, option_map, refl, ap, sym, subst, ◌∙◌}
+use Rattle.std.proofs.Common.{◌≡◌, ℕ, Bool, true, false, if◌then◌else◌, List, [], ◌∷◌, map, Option, Some, None, option_map, refl, ap, sym, ◌∙◌}
 use Rattle.token_core.specs.declared.ident.Ident.{Ident}
 use Rattle.token_core.specs.declared.span.Span.TheVariants.{CallSite}
 use Rattle.token_core.specs.declared.tree.Delimiter.{Delimiter}
@@ -11,18 +11,14 @@ use Rattle.token_core.specs.declared.tree.TokenTree.TheOpen.{TokenTree-F}
 use Rattle.token_core.specs.declared.tree.TokenTree.TheFolds.{fold-roll-TokenTree}
 use Rattle.token_core.specs.declared.tree.TokenTree.TheVariants as tree
 use Rattle.token_core.specs.Respan.{group_at, tree_respanned, group_respanned, stream_respanned}
-use Rattle.expr_core.specs.declared.lit.LitInt.{LitInt}
 use Rattle.lit_core.specs.declared.value.Value.{Value}
 use Rattle.lit_core.specs.declared.value.Value.TheVariants as value
-use Rattle.grammar_core.specs.declared.look.TypeStart.{TypeStart}
-use Rattle.grammar_core.specs.declared.look.ArgumentStart.{ArgumentStart}
-use Rattle.grammar_core.specs.declared.look.ArgumentsStart.{ArgumentsStart}
 use Rattle.grammar_core.specs.declared.word.Word.{Word}
 use Rattle.grammar_core.specs.declared.word.Word.TheVariants as word
 use Rattle.grammar_core.specs.Input.{first_span, is_end}
-use Rattle.grammar_core.specs.Literals.{lit_by, lit_of, index_by, index_in, index_of, is_plain}
+use Rattle.grammar_core.specs.Literals.{lit_by, lit_of, index_by, index_in, index_of}
 use Rattle.grammar_core.specs.Look.{is_there, type_start, arguments_start, begins_constant, argument_name, argument_word, argument_start, atom_start, operand_start, begins_operand, begins_closure, postfix_start, operator_of}
-use Rattle.grammar_core.specs.Token.{Layer, span_in, span_of, is_group_in, is_group, contents_in, contents_of, ident_in, ident_of, lifetime_in, lifetime_of, literal_in, literal_of, mark_in, mark_of, joint_in, is_joint, after_one, is_mark, is_pair, is_colons, is_colon, is_dots, is_closed_dots, is_turbofish}
+use Rattle.grammar_core.specs.Token.{Layer, span_in, span_of, is_group_in, is_group, contents_in, contents_of, ident_in, ident_of, lifetime_in, lifetime_of, literal_in, literal_of, mark_in, mark_of, joint_in, is_joint, after_one, is_mark, is_pair, is_colon, is_closed_dots, is_turbofish}
 use Rattle.grammar_core.specs.Types.{name_before_colon}
 use Rattle.grammar_core.specs.Words.{word_of, word_at, next_word, name_at, name_of, segment_at, segment_word, sees, is_word}
 use Rattle.bare_core.specs.Bare.{bare_tree, bare_stream, bare_ident, bare_lifetime, bare_literal, bare_int, bare_lit}
@@ -60,7 +56,7 @@ out-group_at-delimiter group = search the_lemmas
 out-group_at-stream : (group : Group) → (out-Group (group_at CallSite group)).stream ≡ bare_stream (out-Group group).stream
 out-group_at-stream group = search the_lemmas
 
-out-bare_stream : (stream : TokenStream) → (out-TokenStream (bare_stream stream)).trees ≡ map bare_tree (out-TokenStream stream).trees
+pub out-bare_stream : (stream : TokenStream) → (out-TokenStream (bare_stream stream)).trees ≡ map bare_tree (out-TokenStream stream).trees
 out-bare_stream stream = search the_lemmas
 
 out-group_at-trees : (group : Group) → (out-TokenStream (out-Group (group_at CallSite group)).stream).trees ≡ map bare_tree (out-TokenStream (out-Group group).stream).trees

@@ -1,13 +1,13 @@
 -- The steps that every rule is made of do not see places.
-use Rattle.std.proofs.Common.{◌≡◌, ℕ, zero, suc, ◌-◌, Bool, true, false, if◌then◌else◌, List, [], ◌∷◌, ◌++◌, length, map, take, Option, Some, None, option_map, refl, ap, sym, ◌∙◌}
+use Rattle.std.proofs.Common.{◌≡◌, ℕ, zero, suc, ◌-◌, Bool, true, false, if◌then◌else◌, List, [], ◌∷◌, ◌++◌, length, map, Option, Some, None, option_map, refl, ap, sym, ◌∙◌}
 use Rattle.std.proofs.lemmas.List.{map-append, length-map, take-map}
 use Rattle.token_core.specs.Span.{joined}
 use Rattle.token_core.specs.declared.span.Span.{Span}
 use Rattle.token_core.specs.declared.span.Span.TheVariants.{CallSite}
 use Rattle.token_core.specs.declared.tree.Delimiter.{Delimiter}
 use Rattle.token_core.specs.declared.tree.TokenTree.{TokenTree}
-use Rattle.grammar_core.specs.Input.{Input, Outcome, Parser, and_then, ◌>>=◌, ◌>>◌, ◌<$>◌, pure, refuse, test, first_span, here, upto, next, next_at, skip, skipped, skip_by, after_eat, eat, expect, taken, take_as, after_found, eat_as, is_end, at_end, start_of, finished, inside, read_since, state, items_from, until_from, joined_from, by_turns, items_after, until, joined_by}
-use Rattle.grammar_core.specs.Token.{is_group, contents_of, is_comma, is_mark}
+use Rattle.grammar_core.specs.Input.{Input, Outcome, Parser, and_then, ◌>>=◌, ◌<$>◌, pure, refuse, test, first_span, here, upto, next, next_at, skip, skipped, skip_by, after_eat, eat, expect, taken, take_as, after_found, eat_as, is_end, at_end, start_of, finished, inside, read_since, state, items_from, until_from, joined_from, by_turns, items_after, until, joined_by}
+use Rattle.grammar_core.specs.Token.{is_group, contents_of}
 use Rattle.bare_core.specs.Bare.{bare_tree}
 use Rattle.bare_core.specs.Blind.{bare_input, bare_outcome, Blind}
 use Rattle.bare_core.proofs.Seen.{span_of-bare, first_span-bare, is_end-bare, is_group-bare, contents_of-bare, is_mark-bare}

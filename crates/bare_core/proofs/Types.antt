@@ -1,5 +1,5 @@
 -- The rules of types do not see places.
-use Rattle.std.proofs.Common.{◌≡◌, Bool, true, false, [], ◌∷◌, map, Option, Some, None, option_map, refl, ap, ◌∙◌}
+use Rattle.std.proofs.Common.{◌≡◌, Bool, true, false, [], ◌∷◌, Option, Some, None, option_map, refl, ap, ◌∙◌}
 use Rattle.token_core.specs.declared.ident.Ident.{Ident}
 use Rattle.token_core.specs.declared.span.Span.{Span}
 use Rattle.token_core.specs.declared.span.Span.TheVariants.{CallSite}
@@ -8,17 +8,16 @@ use Rattle.expr_core.specs.declared.ty.«Type».TheVariants as ty
 use Rattle.grammar_core.specs.declared.look.TypeStart.{TypeStart}
 use Rattle.grammar_core.specs.declared.look.TypeStart.TheVariants as begin
 use Rattle.grammar_core.specs.declared.word.Word.TheVariants as word
-use Rattle.grammar_core.specs.Input.{◌>>=◌}
 use Rattle.grammar_core.specs.Look.{type_start}
 use Rattle.grammar_core.specs.Make as make
 use Rattle.grammar_core.specs.Readers.{Readers, any_level}
 use Rattle.grammar_core.specs.Token.{lifetime_of}
 use Rattle.grammar_core.specs.Types.{name_before_colon, arg_name_by, arg_name, type_group, type_bracket, type_reference, type_pointer, named_arg, type_fn_ptr, type_trait_object, type_impl_trait, type_qualified, type_path, type_in_parentheses, type_in_brackets, type_by, type_step}
-use Rattle.bare_core.specs.Bare.{bare_ident, bare_type, bare_named_arg, bare_qself}
+use Rattle.bare_core.specs.Bare.{bare_ident, bare_type, bare_named_arg}
 use Rattle.bare_core.specs.Blind.{Blind}
 use Rattle.bare_core.proofs.Made.{bare_type-Path, bare_type-Reference, bare_type-Ptr, bare_type-Slice, bare_type-Array, bare_type-Tuple, bare_type-Paren, bare_type-FnPtr, bare_type-TraitObject, bare_type-ImplTrait, bare_type-Never, bare_type-Infer, bare_type_path-make, bare_array-make}
 use Rattle.bare_core.proofs.Paths.{AllBlind, binder-blind, return_type-blind, path-blind, qualified-blind, bounds-blind}
-use Rattle.bare_core.proofs.Seen.{is_mark-bare, is_colon-bare, sees-bare, lifetime_of-bare, name_before_colon-bare, type_start-bare}
+use Rattle.bare_core.proofs.Seen.{is_mark-bare, sees-bare, lifetime_of-bare, name_before_colon-bare, type_start-bare}
 use Rattle.bare_core.proofs.Steps.{pure-blind, refuse-blind, then-blind, so-blind, map-blind, if-blind, test-blind, here-blind, close-blind, skip-blind, skip_by-blind, eat-blind, expect-blind, eat_as-blind, at_end-blind, inside-blind, items_after-blind}
 
 arg_name_by-blind : (name also : Option Ident) → option_map bare_ident name ≡ also → Blind (option_map bare_ident) (arg_name_by name) (arg_name_by also)

@@ -2,11 +2,9 @@
 use Rattle.std.proofs.Common.{◌≡◌, ℕ, zero, suc, nat_le, Bool, true, false, if◌then◌else◌, List, [], ◌∷◌, map, Some, None, refl, ap, ◌∙◌}
 use Rattle.expr_core.specs.declared.generics.TypeParamBound.{TypeParamBound}
 use Rattle.depth_core.specs.Depth.{deepest, bound_depth, expr_depth, type_depth}
-use Rattle.grammar_core.specs.Expressions.{expr_step}
 use Rattle.grammar_core.specs.Grammar.{kept, bounds_depth, within}
 use Rattle.grammar_core.specs.Input.{Outcome, Parser}
 use Rattle.grammar_core.specs.Paths.{bounds}
-use Rattle.grammar_core.specs.Types.{type_step}
 use Rattle.bare_core.specs.Bare.{bare_bound}
 use Rattle.bare_core.specs.Blind.{bare_input, bare_outcome, Blind}
 use Rattle.bare_core.proofs.Depths.{bound_depth-bare, expr_depth-bare, type_depth-bare}

@@ -1,5 +1,5 @@
 -- Nodes without their places: the same node, with every span at the call site.
-use Rattle.std.specs.Prelude.{List, map, Option, option_map}
+use Rattle.std.specs.Prelude.{map, option_map}
 use Rattle.token_core.specs.Respan.{stream_at, tree_at}
 use Rattle.token_core.specs.declared.ident.Ident.{Ident}
 use Rattle.token_core.specs.declared.ident.Lifetime.{Lifetime}

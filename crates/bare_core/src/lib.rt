@@ -3,4 +3,4 @@
 
 mod laws;
 
-pub use laws::{depth_sees_no_spans, reading_sees_no_spans};
+pub use laws::{depth_sees_no_spans, reading_sees_no_spans, trees_see_no_spans};
