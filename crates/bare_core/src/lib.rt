@@ -1,0 +1,2 @@
+//! Nodes without their places.
+#![tactic(auto)]
