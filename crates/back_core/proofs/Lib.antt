@@ -1,2 +1,4 @@
 pub mod Steps
 pub mod Takes
+pub mod Lists
+pub mod Marks

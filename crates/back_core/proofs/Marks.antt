@@ -1,0 +1,78 @@
+-- How the rules see the tokens that the printing makes.
+use Rattle.std.proofs.Common.{◌≡◌, ℕ, Bool, true, false, ◌&&◌, ◌||◌, not, ◌==◌, if◌then◌else◌, List, [], ◌∷◌, ◌++◌, length, Option, Some, None, refl, arith, ap, sym, ◌∙◌, codes}
+use Rattle.token_core.specs.declared.ident.Ident.{Ident}
+use Rattle.token_core.specs.declared.ident.Lifetime.{Lifetime}
+use Rattle.token_core.specs.declared.span.Span.{Span}
+use Rattle.token_core.specs.declared.tree.Delimiter.{Delimiter}
+use Rattle.token_core.specs.declared.tree.Group.{Group}
+use Rattle.token_core.specs.declared.tree.Literal.{Literal}
+use Rattle.token_core.specs.declared.tree.Punct.{Punct}
+use Rattle.token_core.specs.declared.tree.TokenTree.{TokenTree, out-TokenTree, the_lemmas}
+use Rattle.token_core.specs.declared.tree.TokenTree.TheOpen.{TokenTree-F}
+use Rattle.token_core.specs.declared.tree.TokenTree.TheVariants as tree
+use Rattle.grammar_core.specs.declared.word.Word.{Word}
+use Rattle.grammar_core.specs.declared.word.Word.TheVariants as word
+use Rattle.grammar_core.specs.Token.{mark_of, is_joint, is_group, is_pair, is_mark, is_colons, is_turbofish, is_arrow, is_comma, is_less, is_colon, after_one, ident_of, lifetime_of, literal_of}
+use Rattle.grammar_core.specs.Words.{next_word, word_of, word_at}
+use Rattle.print_core.specs.Marks.{Trees, mark, is_some, word as printed_word, comma, colons}
+
+pub out-Punct : (it : Punct) → out-TokenTree (tree.Punct it) ≡ TokenTree-F.Punct it
+out-Punct it = search the_lemmas
+
+pub out-Ident : (it : Ident) → out-TokenTree (tree.Ident it) ≡ TokenTree-F.Ident it
+out-Ident it = search the_lemmas
+
+pub out-Lifetime : (it : Lifetime) → out-TokenTree (tree.Lifetime it) ≡ TokenTree-F.Lifetime it
+out-Lifetime it = search the_lemmas
+
+pub out-Literal : (it : Literal) → out-TokenTree (tree.Literal it) ≡ TokenTree-F.Literal it
+out-Literal it = search the_lemmas
+
+pub out-Group : (it : Group) → out-TokenTree (tree.Group it) ≡ TokenTree-F.Group it
+out-Group it = search the_lemmas
+
+-- ---- marks
+
+module _ (ch : ℕ) (more : List ℕ) (span : Span) (tail : Trees) where
+  pub mark_of-mark : mark_of (mark (ch ∷ more) span ++ tail) ≡ ch
+  unfolding mark mark_of
+  mark_of-mark = rw (out-Punct (record { ch = ch; joint = is_some more; span = span })) refl
+
+  pub is_joint-mark : is_joint (mark (ch ∷ more) span ++ tail) ≡ is_some more
+  unfolding mark is_joint
+  is_joint-mark = rw (out-Punct (record { ch = ch; joint = is_some more; span = span })) refl
+
+  pub after_one-mark : after_one (mark (ch ∷ more) span ++ tail) ≡ mark more span ++ tail
+  unfolding mark
+  after_one-mark = refl
+
+  pub next_word-mark : next_word (mark (ch ∷ more) span ++ tail) ≡ word.None
+  unfolding mark next_word ident_of
+  next_word-mark = rw (out-Punct (record { ch = ch; joint = is_some more; span = span })) refl
+
+  pub is_group-mark : (between : Delimiter) → is_group between (mark (ch ∷ more) span ++ tail) ≡ false
+  unfolding mark is_group
+  is_group-mark between = rw (out-Punct (record { ch = ch; joint = is_some more; span = span })) refl
+
+  pub lifetime_of-mark : lifetime_of (mark (ch ∷ more) span ++ tail) ≡ None
+  unfolding mark lifetime_of
+  lifetime_of-mark = rw (out-Punct (record { ch = ch; joint = is_some more; span = span })) refl
+
+  pub literal_of-mark : literal_of (mark (ch ∷ more) span ++ tail) ≡ None
+  unfolding mark literal_of
+  literal_of-mark = rw (out-Punct (record { ch = ch; joint = is_some more; span = span })) refl
+
+pub is_comma-comma : (tail : Trees) (span : Span) → is_comma (comma span ++ tail) ≡ true
+is_comma-comma tail span = rw (mark_of-mark 44 [] span tail) refl
+
+pub is_colons-colons : (tail : Trees) (span : Span) → is_colons (colons span ++ tail) ≡ true
+unfolding is_pair
+is_colons-colons tail span = rw (is_joint-mark 58 (58 ∷ []) span tail, mark_of-mark 58 (58 ∷ []) span tail, after_one-mark 58 (58 ∷ []) span tail, mark_of-mark 58 [] span tail) refl
+
+pub next_word-Ident : (it : Ident) (tail : Trees) → next_word (tree.Ident it ∷ tail) ≡ word_of it
+unfolding next_word ident_of
+next_word-Ident it tail = rw (out-Ident it) refl
+
+pub sees-mut : (span : Span) (tail : Trees) → next_word (printed_word (codes "mut") span ++ tail) ≡ word.Mut
+unfolding printed_word next_word ident_of word_of Rattle.grammar_core.specs.Words.named_words Rattle.grammar_core.specs.Words.other_keywords
+sees-mut span tail = rw (out-Ident (record { text = codes "mut"; raw = false; span = span })) refl
