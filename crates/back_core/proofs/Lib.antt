@@ -1,4 +1,5 @@
 pub mod Steps
 pub mod Takes
-pub mod Lists
 pub mod Marks
+pub mod Lists
+pub mod Joints
