@@ -3,3 +3,5 @@ pub mod Takes
 pub mod Marks
 pub mod Lists
 pub mod Joints
+pub mod Follows
+pub mod Prints
