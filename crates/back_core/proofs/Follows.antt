@@ -13,11 +13,12 @@ use Rattle.grammar_core.specs.declared.look.TypeStart.TheVariants as ty
 use Rattle.grammar_core.specs.declared.word.Word.{Word}
 use Rattle.grammar_core.specs.declared.word.Word.TheVariants as word
 use Rattle.grammar_core.specs.Input.{is_end}
-use Rattle.grammar_core.specs.Look.{begins_constant, is_there, is_bool, type_start, type_word}
+use Rattle.grammar_core.specs.Look.{atom_start, at_level, begins_operand, operand_start, operator_of, postfix_start, begins_constant, is_there, is_bool, type_start, type_word}
 use Rattle.grammar_core.specs.Token.{Layer, same_delimiter, mark_of, mark_in, is_joint, joint_in, is_group, is_group_in, is_pair, is_mark, is_colons, is_turbofish, is_arrow, is_colon, is_equals, is_less, is_plus, after_one, ident_of, ident_in, lifetime_of, lifetime_in, literal_of, literal_in}
 use Rattle.grammar_core.specs.Words.{next_word, word_at, word_of, sees, is_word}
 use Rattle.print_core.specs.Marks.{Trees, mark, is_some, word as printed_word}
-use Rattle.back_core.specs.Follow.{Keep, Quiet, AfterPath, AfterSegment, AfterType, Plus, is_type, BeginsType}
+use Rattle.front_core.specs.Alike.{Relation}
+use Rattle.back_core.specs.Follow.{Keep, Looser, Named, names, Quiet, AfterPath, AfterSegment, AfterType, Plus, is_type, BeginsType}
 use Rattle.back_core.proofs.Marks.{mark_of-mark, is_joint-mark, is_group-mark, out-Ident}
 
 pub keep-false : (test : Trees → Bool) (rest tail : Trees) → test rest ≡ false → Keep test rest tail → test tail ≡ false
@@ -139,3 +140,32 @@ type-seen (tree ∷ trees) h = by (out-TokenTree tree) refl
     by (TokenTree-F.Literal literal) is = let none = rw is at h in absurd cc
     by (TokenTree-F.Group group) is = record { some = refl; greater = rw is refl; lifetime = rw is refl; constant = rw is (group-seen (out-Group group).delimiter (rw is at h)); mutable = rw is refl }
     by (TokenTree-F.Punct punct) is = record { some = refl; greater = rw is (no-greater punct.ch punct.joint (mark_of trees == 58) (rw is at h)); lifetime = rw is refl; constant = rw is refl; mutable = rw is refl }
+
+-- ---- the end of the tokens, and what begins no name
+
+pub looser-end : (level : ℕ) (rest : Trees) → Looser level rest []
+unfolding postfix_start operator_of begins_operand operand_start atom_start mark_of is_group is_pair is_joint next_word ident_of literal_of
+looser-end level rest = record {
+  colons = λ h. absurd cc;
+  turbofish = λ h. absurd cc;
+  called = λ h. absurd cc;
+  postfix = λ h. absurd cc;
+  operator = λ tighter within h. absurd cc;
+  dots = λ h. absurd cc;
+  operand = λ h. absurd cc;
+}
+
+pub no-semicolon : is_mark 59 [] ≡ false
+unfolding mark_of
+no-semicolon = refl
+
+-- a type with one bound asks less of what follows
+pub one_bound : (many : Bool) (rest tail : Trees) → AfterType many rest tail → AfterType false rest tail
+one_bound many rest tail f = (f.0, tt)
+
+-- no lifetime comes
+abbrev pub Unliving : Relation
+Unliving rest tail = lifetime_of tail ≡ None
+
+pub unnamed : (rest tail : Trees) → next_word tail ≡ word.None → Named true rest tail
+unnamed rest tail none = (never (names is_equals) rest tail (rw none refl), never (names is_colon) rest tail (rw none refl))

@@ -5,3 +5,5 @@ pub mod Lists
 pub mod Joints
 pub mod Follows
 pub mod Prints
+pub mod Parts
+pub mod Types

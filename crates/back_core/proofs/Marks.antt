@@ -1,5 +1,5 @@
 -- How the rules see the tokens that the printing makes.
-use Rattle.std.proofs.Common.{◌≡◌, ℕ, Bool, true, false, ◌&&◌, ◌||◌, not, ◌==◌, if◌then◌else◌, List, [], ◌∷◌, ◌++◌, length, Option, Some, None, refl, arith, ap, sym, ◌∙◌, codes}
+use Rattle.std.proofs.Common.{◌≡◌, ℕ, suc, Bool, true, false, ◌&&◌, ◌||◌, not, ◌==◌, if◌then◌else◌, List, [], ◌∷◌, ◌++◌, length, Option, Some, None, refl, arith, rules, ap, sym, ◌∙◌, codes}
 use Rattle.token_core.specs.declared.ident.Ident.{Ident}
 use Rattle.token_core.specs.declared.ident.Lifetime.{Lifetime}
 use Rattle.token_core.specs.declared.span.Span.{Span}
@@ -12,9 +12,9 @@ use Rattle.token_core.specs.declared.tree.TokenTree.TheOpen.{TokenTree-F}
 use Rattle.token_core.specs.declared.tree.TokenTree.TheVariants as tree
 use Rattle.grammar_core.specs.declared.word.Word.{Word}
 use Rattle.grammar_core.specs.declared.word.Word.TheVariants as word
-use Rattle.grammar_core.specs.Token.{mark_of, is_joint, is_group, is_pair, is_mark, is_colons, is_turbofish, is_arrow, is_comma, is_less, is_colon, after_one, ident_of, lifetime_of, literal_of}
+use Rattle.grammar_core.specs.Token.{same_delimiter, mark_of, is_joint, is_group, is_pair, is_mark, is_colons, is_turbofish, is_arrow, is_comma, is_less, is_colon, after_one, ident_of, lifetime_of, literal_of}
 use Rattle.grammar_core.specs.Words.{next_word, word_of, word_at}
-use Rattle.print_core.specs.Marks.{Trees, mark, is_some, word as printed_word, comma, colons}
+use Rattle.print_core.specs.Marks.{Trees, group, mark, is_some, word as printed_word, comma, colons}
 
 pub out-Punct : (it : Punct) → out-TokenTree (tree.Punct it) ≡ TokenTree-F.Punct it
 out-Punct it = search the_lemmas
@@ -76,3 +76,28 @@ next_word-Ident it tail = rw (out-Ident it) refl
 pub sees-mut : (span : Span) (tail : Trees) → next_word (printed_word (codes "mut") span ++ tail) ≡ word.Mut
 unfolding printed_word next_word ident_of word_of Rattle.grammar_core.specs.Words.named_words Rattle.grammar_core.specs.Words.other_keywords
 sees-mut span tail = rw (out-Ident (record { text = codes "mut"; raw = false; span = span })) refl
+
+pub mark-length : (text : List ℕ) (span : Span) → length (mark text span) ≡ length text
+unfolding mark
+mark-length [] span = refl
+mark-length (ch ∷ more) span = ap suc (mark-length more span)
+
+pub word-length : (text : List ℕ) (span : Span) → length (printed_word text span) ≡ 1
+unfolding printed_word
+word-length text span = refl
+
+pub lifetime_of-Lifetime : (it : Lifetime) (tail : Trees) → lifetime_of (tree.Lifetime it ∷ tail) ≡ Some it
+unfolding lifetime_of
+lifetime_of-Lifetime it tail = rw (out-Lifetime it) refl
+
+pub lifetime_of-word : (text : List ℕ) (span : Span) (tail : Trees) → lifetime_of (printed_word text span ++ tail) ≡ None
+unfolding lifetime_of printed_word
+lifetime_of-word text span tail = rw (out-Ident (record { text = text; raw = false; span = span })) refl
+
+pub next_word-group : (between : Delimiter) (inner tail : Trees) (span : Span) → next_word (group between inner span ++ tail) ≡ word.None
+unfolding group next_word ident_of
+next_word-group between inner tail span = search (rules, the_lemmas)
+
+pub no-group : (between other : Delimiter) (inner tail : Trees) (span : Span) → same_delimiter between other ≡ false → is_group other (group between inner span ++ tail) ≡ false
+unfolding group is_group
+no-group between other inner tail span apart = search (rules, the_lemmas, apart)

@@ -1,0 +1,91 @@
+-- The law of printing for types.
+use Rattle.std.proofs.Common.{◌≡◌, ℕ, Bool, true, false, if◌then◌else◌, List, [], ◌∷◌, ◌++◌, map, length, Option, Some, None, refl, arith, rules, ap, sym, ◌∙◌, append_assoc, append-nil, codes, option_map}
+use Rattle.token_core.specs.declared.ident.Lifetime.{Lifetime}
+use Rattle.token_core.specs.declared.span.Span.{Span}
+use Rattle.token_core.specs.declared.tree.Delimiter.TheVariants as delimiter
+use Rattle.token_core.specs.declared.tree.TokenTree.TheVariants as tree
+use Rattle.grammar_core.specs.declared.look.TypeStart.{TypeStart}
+use Rattle.grammar_core.specs.declared.look.TypeStart.TheVariants as begin
+use Rattle.grammar_core.specs.declared.word.Word.TheVariants as word
+use Rattle.grammar_core.specs.Look.{type_start, type_word}
+use Rattle.grammar_core.specs.Make as make
+use Rattle.grammar_core.specs.Readers.{Readers, any_level}
+use Rattle.grammar_core.specs.Token.{ident_of, is_colon, is_equals, is_group, is_joint, is_pair, is_semicolon, lifetime_of, mark_of}
+use Rattle.grammar_core.specs.Types.{type_bracket, type_in_brackets, type_reference}
+use Rattle.grammar_core.specs.Words.{is_name, next_word, sees, word_of}
+use Rattle.print_core.specs.Marks.{Trees, group, lifetime, mark, optional, word as printed_word}
+use Rattle.print_core.specs.Nodes.{expr_tokens, type_tokens}
+use Rattle.bare_core.specs.Bare.{bare_expr, bare_type}
+use Rattle.bare_core.proofs.Made.{bare_type-Array, bare_array-make, bare_type-Slice, bare_type-Reference}
+use Rattle.front_core.specs.Alike.{Relation, Any}
+use Rattle.back_core.specs.Follow.{AfterType, BeginsType, Named, names}
+use Rattle.back_core.specs.Printed.{Back}
+use Rattle.back_core.proofs.Follows.{never, type-end, type_before-mark, type-seen, unnamed, looser-end, no-semicolon, one_bound, Unliving}
+use Rattle.back_core.proofs.Marks.{mark_of-mark, is_group-mark, next_word-mark, lifetime_of-mark, mark-length, word-length, sees-mut, lifetime_of-Lifetime, lifetime_of-word, next_word-group, no-group, out-Ident}
+use Rattle.back_core.proofs.Parts.{AllBacks}
+use Rattle.back_core.proofs.Prints.{print-array, print-reference, print-slice}
+use Rattle.back_core.proofs.Steps.{whole, pure-rest, here-rest, then-rest, close-rest}
+use Rattle.back_core.proofs.Takes.{AtEnd, skip-rest, eat_or-rest, eat-rest, eat_as-rest, inside-rest, is_group-group}
+
+-- a type begins so
+abbrev pub Begin : TypeStart → Relation
+Begin begins rest tail = (type_start tail ≡ begins) × Named true rest tail
+
+group-begin : (rest inner tail : Trees) (span : Span) → Begin begin.Parenthesis rest (group delimiter.Parenthesis inner span ++ tail)
+unfolding type_start
+group-begin rest inner tail span = (rw (is_group-group delimiter.Parenthesis inner tail span) refl, unnamed rest (group delimiter.Parenthesis inner span ++ tail) (next_word-group delimiter.Parenthesis inner tail span))
+
+brackets-begin : (rest inner tail : Trees) (span : Span) → Begin begin.Bracket rest (group delimiter.Bracket inner span ++ tail)
+unfolding type_start
+brackets-begin rest inner tail span =
+    (rw (no-group delimiter.Bracket delimiter.Parenthesis inner tail span refl, is_group-group delimiter.Bracket inner tail span) refl, unnamed rest (group delimiter.Bracket inner span ++ tail) (next_word-group delimiter.Bracket inner tail span))
+
+and-begin : (rest tail : Trees) (span : Span) → Begin begin.Reference rest (mark (codes "&") span ++ tail)
+unfolding type_start
+and-begin rest tail span =
+    (rw (is_group-mark 38 [] span tail delimiter.Parenthesis, is_group-mark 38 [] span tail delimiter.Bracket, mark_of-mark 38 [] span tail) refl, unnamed rest (mark (codes "&") span ++ tail) (next_word-mark 38 [] span tail))
+
+star-begin : (rest tail : Trees) (span : Span) → Begin begin.Pointer rest (mark (codes "*") span ++ tail)
+unfolding type_start
+star-begin rest tail span =
+    (rw (is_group-mark 42 [] span tail delimiter.Parenthesis, is_group-mark 42 [] span tail delimiter.Bracket, mark_of-mark 42 [] span tail) refl, unnamed rest (mark (codes "*") span ++ tail) (next_word-mark 42 [] span tail))
+
+bang-begin : (rest tail : Trees) (span : Span) → Begin begin.Never rest (mark (codes "!") span ++ tail)
+unfolding type_start
+bang-begin rest tail span =
+    (rw (is_group-mark 33 [] span tail delimiter.Parenthesis, is_group-mark 33 [] span tail delimiter.Bracket, mark_of-mark 33 [] span tail) refl, unnamed rest (mark (codes "!") span ++ tail) (next_word-mark 33 [] span tail))
+
+-- a word alone
+word-begin : (text : List ℕ) (begins : TypeStart) (rest tail : Trees) (span : Span) → type_word (word_of (record { text = text; raw = false; span = span })) ≡ begins → is_name (word_of (record { text = text; raw = false; span = span })) ≡ false
+    → Begin begins rest (printed_word text span ++ tail)
+unfolding type_start printed_word is_group mark_of is_pair is_joint next_word ident_of
+word-begin text begins rest tail span is none = (rw (out-Ident (record { text = text; raw = false; span = span })) is, (
+    never (names is_equals) rest (printed_word text span ++ tail) (rw (out-Ident (record { text = text; raw = false; span = span }), none) refl),
+    never (names is_colon) rest (printed_word text span ++ tail) (rw (out-Ident (record { text = text; raw = false; span = span }), none) refl)))
+
+module _ (readers : Readers) (parts : AllBacks readers) where
+  type_in_brackets-back : (many : Bool) → Back bare_type type_tokens (Begin begin.Bracket) (AfterType many) (type_in_brackets readers)
+  unfolding type_in_brackets type_bracket
+  type_in_brackets-back many = whole (here-rest (λ span. inside-rest {Inner = Any} delimiter.Bracket (λ (place : Unit {0}). span)
+      (then-rest {Second = AfterType true} (λ place. parts.ty true) (λ elem. eat_or-rest {Yes = Any} {No = AtEnd} 1 is_semicolon (λ place. mark (codes ";") span) (λ place. mark-length (codes ";") span) (λ place tail. rw (mark_of-mark 59 [] span tail) refl)
+          (then-rest {Second = AtEnd} (λ place. parts.expr any_level) (λ len. pure-rest tt (make.type_array elem len span) (λ q. make.type_array q.0.1 q.1 q.0.0.1)
+              (rw (print-array, append-nil, append_assoc) refl) (λ q ok. rw (bare_type-Array, bare_type-Array, bare_array-make, bare_array-make, ok.0.1, ok.1) refl))
+              (λ rest tail f. rw f (λ other. looser-end any_level rest)) (λ rest tail f. tt))
+          (pure-rest tt (make.type_slice elem span) (λ q. make.type_slice q.1 q.0.1) (rw (print-slice, append-nil) refl) (λ q ok. rw (bare_type-Slice, bare_type-Slice, ok.1) refl))
+          (λ input tail place seen f. type_before-mark 59 refl refl refl refl span input.rest tail true)
+          (λ rest tail seen f. rw f (no-semicolon, type-end true rest)))
+          (λ rest tail f. f) (λ rest tail f. tt))
+      (λ rest inner tail span seen f. brackets-begin rest inner tail span)))
+
+  type_reference-back : (many : Bool) → Back bare_type type_tokens (Begin begin.Reference) (AfterType many) (type_reference readers)
+  unfolding type_reference
+  type_reference-back many = whole (here-rest (λ start. skip-rest {Second = Any} (λ place. mark (codes "&") place) (mark-length (codes "&"))
+      (eat_as-rest {Second = λ o. Unliving} lifetime_of (λ o. optional (option_map lifetime o)) tree.Lifetime refl (λ it. refl) (λ rest tail it is. lifetime_of-Lifetime it tail) (λ it.
+      eat-rest {Second = λ b. BeginsType} 1 (sees word.Mut) (λ place. printed_word (codes "mut") place) (word-length (codes "mut")) (λ place tail. rw (sees-mut place tail) refl) (λ mutable.
+      then-rest {Second = AfterType many} (λ place. parts.ty false) (λ elem. close-rest start (λ q. q.0.1) (make.type_reference it mutable elem) (λ q. make.type_reference it mutable q.1)
+          (λ span. rw (print-reference, append-nil, append_assoc, append_assoc) refl) (λ span other q ok. rw (bare_type-Reference, bare_type-Reference, ok.1) refl))
+          (λ rest tail f. one_bound many rest tail f) (λ rest tail f. f))
+      (λ input tail place seen f. lifetime_of-word (codes "mut") place tail)
+      (λ rest tail seen f. ((type-seen tail f.0).mutable, (type-seen tail f.0).lifetime)))
+      (λ input tail it is f. tt) (λ rest tail none f. (f, tt)))
+      (λ input tail place f. and-begin input.rest tail place)))
