@@ -6,4 +6,5 @@ pub mod Joints
 pub mod Follows
 pub mod Prints
 pub mod Parts
+pub mod Arguments
 pub mod Types

@@ -13,7 +13,7 @@ use Rattle.token_core.specs.declared.tree.TokenTree.TheVariants as tree
 use Rattle.grammar_core.specs.declared.word.Word.{Word}
 use Rattle.grammar_core.specs.declared.word.Word.TheVariants as word
 use Rattle.grammar_core.specs.Token.{same_delimiter, mark_of, is_joint, is_group, is_pair, is_mark, is_colons, is_turbofish, is_arrow, is_comma, is_less, is_colon, after_one, ident_of, lifetime_of, literal_of}
-use Rattle.grammar_core.specs.Words.{next_word, word_of, word_at}
+use Rattle.grammar_core.specs.Words.{name_at, name_of, next_word, word_of, word_at}
 use Rattle.print_core.specs.Marks.{Trees, group, mark, is_some, word as printed_word, comma, colons}
 
 pub out-Punct : (it : Punct) → out-TokenTree (tree.Punct it) ≡ TokenTree-F.Punct it
@@ -101,3 +101,51 @@ next_word-group between inner tail span = search (rules, the_lemmas)
 pub no-group : (between other : Delimiter) (inner tail : Trees) (span : Span) → same_delimiter between other ≡ false → is_group other (group between inner span ++ tail) ≡ false
 unfolding group is_group
 no-group between other inner tail span apart = search (rules, the_lemmas, apart)
+
+pub mark_of-Lifetime : (it : Lifetime) (tail : Trees) → mark_of (tree.Lifetime it ∷ tail) ≡ 0
+unfolding mark_of
+mark_of-Lifetime it tail = rw (out-Lifetime it) refl
+
+pub sees-for : (span : Span) (tail : Trees) → next_word (printed_word (codes "for") span ++ tail) ≡ word.For
+unfolding printed_word next_word ident_of word_of Rattle.grammar_core.specs.Words.named_words Rattle.grammar_core.specs.Words.other_keywords
+sees-for span tail = rw (out-Ident (record { text = codes "for"; raw = false; span = span })) refl
+
+pub is_arrow-arrow : (tail : Trees) (span : Span) → is_arrow (mark (codes "->") span ++ tail) ≡ true
+unfolding is_pair
+is_arrow-arrow tail span = rw (is_joint-mark 45 (62 ∷ []) span tail, mark_of-mark 45 (62 ∷ []) span tail, after_one-mark 45 (62 ∷ []) span tail, mark_of-mark 62 [] span tail) refl
+
+-- ---- names
+
+name_by : (it : Word) (found : Option Ident) (name : Ident) → name_at it found ≡ Some name → (it ≡ word.Name) × (found ≡ Some name)
+name_by word.Name found name is = (refl, is)
+name_by word.None found name is = absurd cc
+name_by word.Underscore found name is = absurd cc
+name_by word.PathStart found name is = absurd cc
+name_by word.True found name is = absurd cc
+name_by word.False found name is = absurd cc
+name_by word.As found name is = absurd cc
+name_by word.Const found name is = absurd cc
+name_by word.Dyn found name is = absurd cc
+name_by word.Enum found name is = absurd cc
+name_by word.Fn found name is = absurd cc
+name_by word.For found name is = absurd cc
+name_by word.Impl found name is = absurd cc
+name_by word.In found name is = absurd cc
+name_by word.Move found name is = absurd cc
+name_by word.Mut found name is = absurd cc
+name_by word.Pub found name is = absurd cc
+name_by word.Struct found name is = absurd cc
+name_by word.Where found name is = absurd cc
+name_by word.Keyword found name is = absurd cc
+
+-- an identifier that was read as a name is a name
+pub name-word : (rest : Trees) (it : Ident) → name_of rest ≡ Some it → word_of it ≡ word.Name
+unfolding name_of next_word
+name-word rest it is =
+    let both = name_by (word_at (ident_of rest)) (ident_of rest) it is in
+    let named : word_at (ident_of rest) ≡ word.Name = both.0 in
+    rw both.1 at named
+
+pub name_of-Ident : (rest tail : Trees) (it : Ident) → name_of rest ≡ Some it → name_of (tree.Ident it ∷ tail) ≡ Some it
+unfolding name_of next_word ident_of
+name_of-Ident rest tail it is = rw (out-Ident it, name-word rest it is) refl

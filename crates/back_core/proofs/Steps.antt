@@ -47,6 +47,15 @@ part {print = print} h = record {
       record { place = tt; tokens = print found; is = refl; again = λ q ok tail last f. one.again tail last f; first = one.first };
 }
 
+-- the last part
+pub shown-rest : {A B P Q : Type 0} {Ok : Q → Type 0} {bare : A → B} {print₁ print : A → Trees} {wrap : P → Trees → Trees} {G F : Relation} {p p' : Parser A} (place : P) → ((x : A) → print x ≡ wrap place (print₁ x)) → Printed bare print₁ G F p p'
+    → Rest Ok bare print wrap G F p (λ q. p')
+shown-rest {print₁ = print₁} place same h = record {
+  of = λ input after found e.
+      let one = h.of input after found e in
+      record { place = place; tokens = print₁ found; is = same found; again = λ q ok tail last f. one.again tail last f; first = one.first };
+}
+
 -- more is asked of what follows, and less is said of where it starts
 pub weak-printed : {A B : Type 0} {bare : A → B} {print : A → Trees} {G Less F More : Relation} {p p' : Parser A}
     → ((rest tail : Trees) → More rest tail → F rest tail) → ((rest tail : Trees) → G rest tail → Less rest tail) → Printed bare print G F p p' → Printed bare print Less More p p'

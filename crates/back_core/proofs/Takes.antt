@@ -201,6 +201,21 @@ module _ {A B D P Q : Type 0} {Ok : Q → Type 0} {bare : B → D} {print : B �
             first = λ tail f. starts input (two.tokens ++ tail) x is (two.first tail f);
           }
 
+-- the same as a part
+pub take_as-printed : {A : Type 0} {G F : Relation} (of : Trees → Option A) (token : A → TokenTree) → ((rest tail : Trees) (x : A) → of rest ≡ Some x → of (token x ∷ tail) ≡ Some x)
+    → ((input : Input) (tail : Trees) (x : A) → of input.rest ≡ Some x → F (next input).rest tail → G input.rest (token x ∷ tail)) → Printed (λ (it : A). it) (λ x. token x ∷ []) G F (take_as of) (take_as of)
+unfolding next
+take_as-printed {A} {G} {F} of token sees starts = record { of = λ input after found e. by input after found (of input.rest) refl e }
+  where
+    by : (input after : Input) (found : A) (o : Option A) → of input.rest ≡ o → taken o (next input) ≡ Some (found, after) → Reads (λ (it : A). it) (G input.rest) (F after.rest) (take_as of) (token found ∷ []) found
+    by input after found None is e = absurd cc
+    by input after found (Some x) is e =
+        let both = some_pair_parts x found (next input) after e in
+        rw (← both.0) (record {
+          again = λ tail last f. record { value = x; new = span_of (token x); is = rw (sees input.rest tail x is) refl; same = refl };
+          first = λ tail f. starts input tail x is (rw both.1 f);
+        })
+
 -- ---- groups
 
 same-itself : (between : Delimiter) → same_delimiter between between ≡ true

@@ -8,7 +8,7 @@ use Rattle.grammar_core.specs.declared.look.TypeStart.TheVariants as ty
 use Rattle.grammar_core.specs.Input.{is_end}
 use Rattle.grammar_core.specs.Look.{at_level, begins_constant, begins_operand, is_there, operator_of, postfix_start, type_start}
 use Rattle.grammar_core.specs.Readers.{constant_level}
-use Rattle.grammar_core.specs.Token.{after_one, is_arrow, is_colon, is_colons, is_dots, is_equals, is_group, is_less, is_plus, is_turbofish}
+use Rattle.grammar_core.specs.Token.{after_one, is_arrow, is_colon, is_colons, is_dots, is_equals, is_group, is_less, is_mark, is_plus, is_turbofish}
 use Rattle.grammar_core.specs.Words.{begins_segment, is_name, next_word}
 use Rattle.print_core.specs.Marks.{Trees}
 use Rattle.front_core.specs.Alike.{Relation, Any}
@@ -31,11 +31,11 @@ abbrev pub Ends : Bool → Relation
 Ends true = Quiet
 Ends false = Any
 
-abbrev pub AfterSegment : Bool → Relation
-AfterSegment in_type rest tail = Keep is_turbofish rest tail × Ends in_type rest tail
-
 abbrev pub AfterPath : Bool → Relation
 AfterPath in_type rest tail = Keep is_colons rest tail × Ends in_type rest tail
+
+abbrev pub AfterSegment : Bool → Relation
+AfterSegment in_type rest tail = Keep is_turbofish rest tail × AfterPath in_type rest tail
 
 -- a name that the test holds behind
 abbrev pub names : (Trees → Bool) → Trees → Bool
@@ -45,6 +45,15 @@ names test trees = is_name (next_word trees) && test (after_one trees)
 abbrev pub Named : Bool → Relation
 Named true rest tail = Keep (names is_equals) rest tail × Keep (names is_colon) rest tail
 Named false rest tail = Unit {0}
+
+-- the same behind the name
+abbrev pub Behind : Bool → Relation
+Behind true rest tail = Keep is_equals rest tail × Keep is_colon rest tail
+Behind false rest tail = Unit {0}
+
+-- some token, and no `>` (62)
+abbrev pub Open : Relation
+Open rest tail = (is_end tail ≡ false) × (is_mark 62 tail ≡ false)
 
 abbrev pub BeginsSegment : Bool → Relation
 BeginsSegment in_type rest tail = (begins_segment (next_word tail) ≡ true) × Named in_type rest tail
