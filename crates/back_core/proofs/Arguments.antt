@@ -21,11 +21,11 @@ use Rattle.expr_core.specs.declared.path.GenericArgument.TheVariants as generic
 use Rattle.grammar_core.specs.declared.look.ArgumentStart.{ArgumentStart}
 use Rattle.grammar_core.specs.declared.look.ArgumentStart.TheVariants as argument
 use Rattle.grammar_core.specs.declared.word.Word.{Word}
-use Rattle.grammar_core.specs.Look.{argument_name, argument_start, begins_constant, is_there}
+use Rattle.grammar_core.specs.Look.{argument_name, argument_start, argument_word, begins_constant, is_there}
 use Rattle.grammar_core.specs.Make as make
 use Rattle.grammar_core.specs.Paths.{list, angle_list, binder, return_type, parenthesized, assoc_const, assoc_type, constraint, argument_by, generic_argument}
 use Rattle.grammar_core.specs.Readers.{Readers, constant_level}
-use Rattle.grammar_core.specs.Token.{ident_of, is_arrow, is_colon, is_equals, is_group, is_less, is_mark, is_pair, lifetime_of, literal_of, mark_of}
+use Rattle.grammar_core.specs.Token.{after_one, ident_of, is_arrow, is_colon, is_equals, is_group, is_less, is_mark, is_pair, lifetime_of, literal_of, mark_of}
 use Rattle.grammar_core.specs.Words.{is_name, name_of, next_word, sees, word_of}
 use Rattle.print_core.specs.declared.path.PathStyle.{PathStyle}
 use Rattle.print_core.specs.Kinds.{printed_return}
@@ -38,12 +38,12 @@ use Rattle.front_core.specs.Alike.{Relation, Any}
 use Rattle.front_core.specs.Front.{at}
 use Rattle.back_core.specs.Follow.{AfterExpr, AfterPath, AfterType, BeginsExpr, BeginsType, Keep, Named, Open, Some', names}
 use Rattle.back_core.specs.Printed.{Again, Reads, Printed, Back}
-use Rattle.back_core.proofs.Follows.{keep-false, never, type-end, type_before-mark, type-seen}
+use Rattle.back_core.proofs.Follows.{keep-false, never, type-end, type_before-mark, type-seen, constant-seen}
 use Rattle.back_core.proofs.Lists.{items-printed, until-printed, until_tokens}
 use Rattle.back_core.proofs.Marks.{mark_of-mark, is_joint-mark, out-Ident, name-word, name_of-Ident, mark-length, word-length, lifetime_of-Lifetime, next_word-mark, sees-for, is_arrow-arrow, mark_of-Lifetime}
 use Rattle.back_core.proofs.Parts.{AllBacks}
 use Rattle.back_core.proofs.Prints.{print-Parenthesized, print-AssocConst, print-AssocType, print-Constraint, print-Const, print-Lifetime, print-Ty}
-use Rattle.back_core.proofs.Steps.{Rest, whole, refuse-rest, test-rest, pure-rest, here-rest, then-rest, close-rest, shown-rest}
+use Rattle.back_core.proofs.Steps.{Free, Rest, hole, whole, refuse-rest, test-rest, pure-rest, here-rest, then-rest, close-rest, shown-rest}
 use Rattle.back_core.proofs.Takes.{AtEnd, eat_or-rest, skip-rest, take_as-rest, inside-rest, take_as-printed, skipped-over, is_group-group}
 
 -- a list between delimiters, which the comma and the group put at one place
@@ -158,6 +158,46 @@ colon-name : (tail : Trees) (span : Span) → argument_name (mark (codes ":") sp
 unfolding is_pair
 colon-name tail span = rw (mark_of-mark 58 [] span tail, is_joint-mark 58 [] span tail) refl
 
+lifetime-begin : (it : Lifetime) (rest tail : Trees) → Argument argument.Lifetime rest (tree.Lifetime it ∷ tail)
+unfolding argument_start
+lifetime-begin it rest tail = (rw (lifetime_of-Lifetime it tail) refl, (refl, rw (mark_of-Lifetime it tail) refl))
+
+constant-begin : (rest tail : Trees) → begins_constant tail ≡ true → Argument argument.Constant rest tail
+unfolding argument_start
+constant-begin rest tail h = let seen = constant-seen tail h in (rw (seen.lifetime, h) refl, (seen.some, seen.greater))
+
+-- nothing that makes a name more than a type stands behind it
+word-type : (it : Word) (behind : Trees) → argument_word it behind ≡ argument.Type → ((is_name it && is_equals behind) ≡ false) × ((is_name it && is_colon behind) ≡ false)
+word-type word.Name behind h = by (is_equals behind) (is_colon behind) (begins_constant (after_one behind)) h
+  where
+    by : (equals colon constant : Bool) → (if equals then (if constant then argument.AssocConst else argument.AssocType) else (if colon then argument.Constraint else argument.Type)) ≡ argument.Type → (equals ≡ false) × (colon ≡ false)
+    by true colon true h = absurd cc
+    by true colon false h = absurd cc
+    by false true constant h = absurd cc
+    by false false constant h = (refl, refl)
+word-type _ behind h = (refl, refl)
+
+type-word : (it : Word) (behind : Trees) → (is_name it && is_equals behind) ≡ false → (is_name it && is_colon behind) ≡ false → argument_word it behind ≡ argument.Type
+type-word word.Name behind equals colon = rw (equals, colon) refl
+type-word _ behind equals colon = refl
+
+start-word : (trees : Trees) → argument_start trees ≡ argument.Type → argument_word (next_word trees) (after_one trees) ≡ argument.Type
+unfolding argument_start
+start-word trees h = by (is_there (lifetime_of trees)) (begins_constant trees) h
+  where
+    by : (living constant : Bool) → (if living then argument.Lifetime else (if constant then argument.Constant else argument_word (next_word trees) (after_one trees))) ≡ argument.Type → argument_word (next_word trees) (after_one trees) ≡ argument.Type
+    by true constant h = absurd cc
+    by false true h = absurd cc
+    by false false h = h
+
+type-begin : (rest tail : Trees) → argument_start rest ≡ argument.Type → BeginsType rest tail → Argument argument.Type rest tail
+unfolding argument_start
+type-begin rest tail is f =
+    let seen = type-seen tail f.0 in
+    let source = word-type (next_word rest) (after_one rest) (start-word rest is) in
+    let word = type-word (next_word tail) (after_one tail) (keep-false (names is_equals) rest tail source.0 f.1.0) (keep-false (names is_colon) rest tail source.1 f.1.1) in
+    (rw (seen.lifetime, seen.constant) word, (seen.some, seen.greater))
+
 -- what any argument is followed by
 abbrev pub AfterArgument : Relation
 AfterArgument = AfterType true
@@ -192,3 +232,39 @@ module _ (readers : Readers) (parts : AllBacks readers) where
           (λ rest tail f. f) (λ rest tail f. f))
       (λ input tail place f. colon-name tail place))
       (λ input tail name is f. name-begin argument.Constraint name input.rest input.rest tail is f)))
+
+  -- what begins an argument, by its kind
+  abbrev Begun : ArgumentStart → Relation
+  Begun argument.Type = BeginsType
+  Begun argument.Lifetime = Argument argument.Lifetime
+  Begun argument.Constant = Argument argument.Constant
+  Begun argument.AssocConst = Argument argument.AssocConst
+  Begun argument.AssocType = Argument argument.AssocType
+  Begun argument.Constraint = Argument argument.Constraint
+
+  argument_by-rest : (begins : ArgumentStart) → Rest {P = Unit {0}} {Q = Unit {0}} Free bare_argument argument_tokens hole (Begun begins) AfterArgument (argument_by readers begins) (λ q. argument_by readers begins)
+  argument_by-rest argument.Lifetime = take_as-rest {Second = AfterArgument} lifetime_of tree.Lifetime (λ rest tail it is. lifetime_of-Lifetime it tail)
+      (λ it. pure-rest tt (generic.Lifetime it) (λ q. generic.Lifetime it) (rw (print-Lifetime) refl) (λ q ok. refl)) (λ input tail it is f. lifetime-begin it input.rest tail)
+  argument_by-rest argument.Constant = then-rest {Second = AfterArgument} (λ place. parts.expr constant_level)
+      (λ it. pure-rest tt (generic.Const it) (λ q. generic.Const q.1) (rw (print-Const, append-nil) refl) (λ q ok. rw (bare_argument-Const, bare_argument-Const, ok.1) refl)) (λ rest tail f other. absurd cc) (λ rest tail f. constant-begin rest tail (f.1 refl))
+  argument_by-rest argument.AssocConst = shown-rest tt (λ it. refl) assoc_const-back
+  argument_by-rest argument.AssocType = shown-rest tt (λ it. refl) assoc_type-back
+  argument_by-rest argument.Constraint = shown-rest tt (λ it. refl) constraint-back
+  argument_by-rest argument.Type = then-rest {Second = AfterArgument} (λ place. parts.ty true)
+      (λ it. pure-rest tt (generic.Ty it) (λ q. generic.Ty q.1) (rw (print-Ty, append-nil) refl) (λ q ok. rw (bare_argument-Ty, bare_argument-Ty, ok.1) refl)) (λ rest tail f. f) (λ rest tail f. f)
+
+  begun : (begins : ArgumentStart) (rest tail : Trees) → argument_start rest ≡ begins → Begun begins rest tail → (argument_start tail ≡ begins) × Open rest tail
+  begun argument.Type rest tail is f = type-begin rest tail is f
+  begun argument.Lifetime rest tail is f = f
+  begun argument.Constant rest tail is f = f
+  begun argument.AssocConst rest tail is f = f
+  begun argument.AssocType rest tail is f = f
+  begun argument.Constraint rest tail is f = f
+
+  pub generic_argument-back : Back bare_argument argument_tokens Open AfterArgument (generic_argument readers)
+  unfolding generic_argument
+  generic_argument-back = whole (test-rest {by = Begun} argument_start argument_by-rest begun)
+
+  pub generic_arguments-back : (span : Span) → Back (map bare_argument) (λ items. joined (comma span) (map argument_tokens items) ++ mark (codes ">") span) Any Any (angle_list (generic_argument readers))
+  generic_arguments-back span = until-printed bare_argument argument_tokens 62 refl (generic_argument readers) (generic_argument readers) generic_argument-back (λ rest tail f. f)
+      (λ rest tail span. type_before-mark 44 refl refl refl refl span rest tail true) (λ rest tail span. type_before-mark 62 refl refl refl refl span rest tail true) span

@@ -169,3 +169,22 @@ Unliving rest tail = lifetime_of tail ≡ None
 
 pub unnamed : (rest tail : Trees) → next_word tail ≡ word.None → Named true rest tail
 unnamed rest tail none = (never (names is_equals) rest tail (rw none refl), never (names is_colon) rest tail (rw none refl))
+
+-- ---- what begins a literal or a block
+
+pub record ConstantSeen (trees : Trees) : Type 0 where
+  pub some : is_end trees ≡ false
+  pub greater : is_mark 62 trees ≡ false
+  pub lifetime : lifetime_of trees ≡ None
+
+pub constant-seen : (trees : Trees) → begins_constant trees ≡ true → ConstantSeen trees
+unfolding begins_constant is_group mark_of next_word ident_of lifetime_of literal_of
+constant-seen [] h = absurd cc
+constant-seen (tree ∷ trees) h = by (out-TokenTree tree) refl
+  where
+    by : (layer : Layer) → out-TokenTree tree ≡ layer → ConstantSeen (tree ∷ trees)
+    by (TokenTree-F.Ident ident) is = record { some = refl; greater = rw is refl; lifetime = rw is refl }
+    by (TokenTree-F.Lifetime lifetime) is = let none = rw is at h in absurd cc
+    by (TokenTree-F.Literal literal) is = record { some = refl; greater = rw is refl; lifetime = rw is refl }
+    by (TokenTree-F.Group group) is = record { some = refl; greater = rw is refl; lifetime = rw is refl }
+    by (TokenTree-F.Punct punct) is = let none = rw is at h in absurd cc
