@@ -7,4 +7,5 @@ pub mod Follows
 pub mod Prints
 pub mod Parts
 pub mod Arguments
+pub mod Paths
 pub mod Types
