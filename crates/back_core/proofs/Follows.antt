@@ -9,13 +9,14 @@ use Rattle.token_core.specs.declared.tree.Group.{out-Group}
 use Rattle.token_core.specs.declared.tree.TokenTree.{TokenTree, out-TokenTree}
 use Rattle.token_core.specs.declared.tree.TokenTree.TheOpen.{TokenTree-F}
 use Rattle.token_core.specs.declared.tree.TokenTree.TheVariants as tree
+use Rattle.grammar_core.specs.declared.look.ArgumentsStart.TheVariants as arguments
 use Rattle.grammar_core.specs.declared.look.TypeStart.TheVariants as ty
 use Rattle.grammar_core.specs.declared.word.Word.{Word}
 use Rattle.grammar_core.specs.declared.word.Word.TheVariants as word
 use Rattle.grammar_core.specs.Input.{is_end}
-use Rattle.grammar_core.specs.Look.{atom_start, at_level, begins_operand, operand_start, operator_of, postfix_start, begins_constant, is_there, is_bool, type_start, type_word}
+use Rattle.grammar_core.specs.Look.{arguments_start, atom_start, at_level, begins_operand, operand_start, operator_of, postfix_start, begins_constant, is_there, is_bool, type_start, type_word}
 use Rattle.grammar_core.specs.Token.{Layer, same_delimiter, mark_of, mark_in, is_joint, joint_in, is_group, is_group_in, is_pair, is_mark, is_colons, is_turbofish, is_arrow, is_colon, is_equals, is_less, is_plus, after_one, ident_of, ident_in, lifetime_of, lifetime_in, literal_of, literal_in}
-use Rattle.grammar_core.specs.Words.{next_word, word_at, word_of, sees, is_word}
+use Rattle.grammar_core.specs.Words.{begins_segment, next_word, word_at, word_of, sees, is_word}
 use Rattle.print_core.specs.Marks.{Trees, mark, is_some, word as printed_word}
 use Rattle.front_core.specs.Alike.{Relation}
 use Rattle.back_core.specs.Follow.{Keep, Looser, Named, names, Quiet, AfterPath, AfterSegment, AfterType, Plus, is_type, BeginsType}
@@ -113,12 +114,12 @@ word-seen word.Struct h = absurd cc
 word-seen word.Where h = absurd cc
 word-seen word.Keyword h = absurd cc
 
-group-seen : (between : Delimiter) → is_type (if same_delimiter between delimiter.Parenthesis then ty.Parenthesis else (if same_delimiter between delimiter.Bracket then ty.Bracket else ty.Nothing)) ≡ true
+groups-seen : (between : Delimiter) → is_type (if same_delimiter between delimiter.Parenthesis then ty.Parenthesis else (if same_delimiter between delimiter.Bracket then ty.Bracket else ty.Nothing)) ≡ true
     → same_delimiter between delimiter.Brace ≡ false
-group-seen delimiter.Parenthesis h = refl
-group-seen delimiter.Bracket h = refl
-group-seen delimiter.Brace h = absurd cc
-group-seen delimiter.None h = absurd cc
+groups-seen delimiter.Parenthesis h = refl
+groups-seen delimiter.Bracket h = refl
+groups-seen delimiter.Brace h = absurd cc
+groups-seen delimiter.None h = absurd cc
 
 no-greater : (ch : ℕ) (joint second : Bool)
     → is_type (if ch == 33 then ty.Never else (if ch == 38 then ty.Reference else (if ch == 42 then ty.Pointer else (if ch == 60 then ty.Qualified else (if joint && (ch == 58 && second) then ty.Path else ty.Nothing))))) ≡ true → (ch == 62) ≡ false
@@ -138,7 +139,7 @@ type-seen (tree ∷ trees) h = by (out-TokenTree tree) refl
     by (TokenTree-F.Ident ident) is = let seen = word-seen (word_of ident) (rw is at h) in record { some = refl; greater = rw is refl; lifetime = rw is refl; constant = rw (is, seen.0) refl; mutable = rw is (seen.1) }
     by (TokenTree-F.Lifetime lifetime) is = let none = rw is at h in absurd cc
     by (TokenTree-F.Literal literal) is = let none = rw is at h in absurd cc
-    by (TokenTree-F.Group group) is = record { some = refl; greater = rw is refl; lifetime = rw is refl; constant = rw is (group-seen (out-Group group).delimiter (rw is at h)); mutable = rw is refl }
+    by (TokenTree-F.Group group) is = record { some = refl; greater = rw is refl; lifetime = rw is refl; constant = rw is (groups-seen (out-Group group).delimiter (rw is at h)); mutable = rw is refl }
     by (TokenTree-F.Punct punct) is = record { some = refl; greater = rw is (no-greater punct.ch punct.joint (mark_of trees == 58) (rw is at h)); lifetime = rw is refl; constant = rw is refl; mutable = rw is refl }
 
 -- ---- the end of the tokens, and what begins no name
@@ -187,4 +188,50 @@ constant-seen (tree ∷ trees) h = by (out-TokenTree tree) refl
     by (TokenTree-F.Lifetime lifetime) is = let none = rw is at h in absurd cc
     by (TokenTree-F.Literal literal) is = record { some = refl; greater = rw is refl; lifetime = rw is refl }
     by (TokenTree-F.Group group) is = record { some = refl; greater = rw is refl; lifetime = rw is refl }
+    by (TokenTree-F.Punct punct) is = let none = rw is at h in absurd cc
+
+-- ---- what begins a segment, and a group in parentheses
+
+pub no-colons : is_colons [] ≡ false
+unfolding is_pair is_joint
+no-colons = refl
+
+pub fish-colons : (trees : Trees) → is_colons trees ≡ false → is_turbofish trees ≡ false
+fish-colons trees none = rw none refl
+
+pub record SegmentSeen (trees : Trees) : Type 0 where
+  pub some : is_end trees ≡ false
+  pub colons : is_colons trees ≡ false
+  pub less : is_less trees ≡ false
+  pub question : is_mark 63 trees ≡ false
+  pub lifetime : lifetime_of trees ≡ None
+  pub start : type_start trees ≡ type_word (next_word trees)
+
+pub segment-seen : (trees : Trees) → begins_segment (next_word trees) ≡ true → SegmentSeen trees
+unfolding type_start is_pair is_joint is_group mark_of next_word ident_of lifetime_of
+segment-seen [] h = absurd cc
+segment-seen (tree ∷ trees) h = by (out-TokenTree tree) refl
+  where
+    by : (layer : Layer) → out-TokenTree tree ≡ layer → SegmentSeen (tree ∷ trees)
+    by (TokenTree-F.Ident ident) is = record { some = refl; colons = rw is refl; less = rw is refl; question = rw is refl; lifetime = rw is refl; start = rw is refl }
+    by (TokenTree-F.Lifetime lifetime) is = let none = rw is at h in absurd cc
+    by (TokenTree-F.Literal literal) is = let none = rw is at h in absurd cc
+    by (TokenTree-F.Group group) is = let none = rw is at h in absurd cc
+    by (TokenTree-F.Punct punct) is = let none = rw is at h in absurd cc
+
+pub record GroupSeen (trees : Trees) : Type 0 where
+  pub start : arguments_start true trees ≡ arguments.Parenthesis
+  pub equals : is_equals trees ≡ false
+  pub colon : is_colon trees ≡ false
+
+pub group-seen : (trees : Trees) → is_group delimiter.Parenthesis trees ≡ true → GroupSeen trees
+unfolding arguments_start is_pair is_joint is_group mark_of
+group-seen [] h = absurd cc
+group-seen (tree ∷ trees) h = by (out-TokenTree tree) refl
+  where
+    by : (layer : Layer) → out-TokenTree tree ≡ layer → GroupSeen (tree ∷ trees)
+    by (TokenTree-F.Group group) is = record { start = rw is (rw (rw is at h) refl); equals = rw is refl; colon = rw is refl }
+    by (TokenTree-F.Ident ident) is = let none = rw is at h in absurd cc
+    by (TokenTree-F.Lifetime lifetime) is = let none = rw is at h in absurd cc
+    by (TokenTree-F.Literal literal) is = let none = rw is at h in absurd cc
     by (TokenTree-F.Punct punct) is = let none = rw is at h in absurd cc

@@ -13,7 +13,7 @@ use Rattle.token_core.specs.declared.tree.TokenTree.TheVariants as tree
 use Rattle.grammar_core.specs.declared.word.Word.{Word}
 use Rattle.grammar_core.specs.declared.word.Word.TheVariants as word
 use Rattle.grammar_core.specs.Token.{same_delimiter, mark_of, is_joint, is_group, is_pair, is_mark, is_colons, is_turbofish, is_arrow, is_comma, is_less, is_colon, after_one, ident_of, lifetime_of, literal_of}
-use Rattle.grammar_core.specs.Words.{name_at, name_of, next_word, word_of, word_at}
+use Rattle.grammar_core.specs.Words.{begins_segment, segment_at, segment_word, name_at, name_of, next_word, word_of, word_at}
 use Rattle.print_core.specs.Marks.{Trees, group, mark, is_some, word as printed_word, comma, colons}
 
 pub out-Punct : (it : Punct) → out-TokenTree (tree.Punct it) ≡ TokenTree-F.Punct it
@@ -149,3 +149,59 @@ name-word rest it is =
 pub name_of-Ident : (rest tail : Trees) (it : Ident) → name_of rest ≡ Some it → name_of (tree.Ident it ∷ tail) ≡ Some it
 unfolding name_of next_word ident_of
 name_of-Ident rest tail it is = rw (out-Ident it, name-word rest it is) refl
+
+segment_by : (it : Word) (found : Option Ident) (name : Ident) → segment_at it found ≡ Some name → (begins_segment it ≡ true) × (found ≡ Some name)
+segment_by word.Name found name is = (refl, is)
+segment_by word.PathStart found name is = (refl, is)
+segment_by word.None found name is = absurd cc
+segment_by word.Underscore found name is = absurd cc
+segment_by word.True found name is = absurd cc
+segment_by word.False found name is = absurd cc
+segment_by word.As found name is = absurd cc
+segment_by word.Const found name is = absurd cc
+segment_by word.Dyn found name is = absurd cc
+segment_by word.Enum found name is = absurd cc
+segment_by word.Fn found name is = absurd cc
+segment_by word.For found name is = absurd cc
+segment_by word.Impl found name is = absurd cc
+segment_by word.In found name is = absurd cc
+segment_by word.Move found name is = absurd cc
+segment_by word.Mut found name is = absurd cc
+segment_by word.Pub found name is = absurd cc
+segment_by word.Struct found name is = absurd cc
+segment_by word.Where found name is = absurd cc
+segment_by word.Keyword found name is = absurd cc
+
+-- an identifier that was read as a segment's word is one
+pub segment-word : (rest : Trees) (it : Ident) → segment_word rest ≡ Some it → (begins_segment (word_of it) ≡ true) × (next_word rest ≡ word_of it)
+unfolding segment_word next_word
+segment-word rest it is =
+    let both = segment_by (word_at (ident_of rest)) (ident_of rest) it is in
+    let begins : begins_segment (word_at (ident_of rest)) ≡ true = both.0 in
+    (rw both.1 at begins, rw (both.1) refl)
+
+segment-same : (it : Word) (name : Ident) → begins_segment it ≡ true → segment_at it (Some name) ≡ Some name
+segment-same word.Name name h = refl
+segment-same word.PathStart name h = refl
+segment-same word.None name h = absurd cc
+segment-same word.Underscore name h = absurd cc
+segment-same word.True name h = absurd cc
+segment-same word.False name h = absurd cc
+segment-same word.As name h = absurd cc
+segment-same word.Const name h = absurd cc
+segment-same word.Dyn name h = absurd cc
+segment-same word.Enum name h = absurd cc
+segment-same word.Fn name h = absurd cc
+segment-same word.For name h = absurd cc
+segment-same word.Impl name h = absurd cc
+segment-same word.In name h = absurd cc
+segment-same word.Move name h = absurd cc
+segment-same word.Mut name h = absurd cc
+segment-same word.Pub name h = absurd cc
+segment-same word.Struct name h = absurd cc
+segment-same word.Where name h = absurd cc
+segment-same word.Keyword name h = absurd cc
+
+pub segment_word-Ident : (rest tail : Trees) (it : Ident) → segment_word rest ≡ Some it → segment_word (tree.Ident it ∷ tail) ≡ Some it
+unfolding segment_word next_word ident_of
+segment_word-Ident rest tail it is = rw (out-Ident it) (segment-same (word_of it) it (segment-word rest it is).0)
