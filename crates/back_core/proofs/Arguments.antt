@@ -61,26 +61,26 @@ lifetime-printed = take_as-printed lifetime_of tree.Lifetime (λ rest tail it is
 pub lifetimes-printed : (span : Span) → Printed (map (λ (it : Lifetime). it)) (λ items. joined (comma span) (map lifetime items) ++ mark (codes ">") span) Any Any (angle_list (take_as lifetime_of)) (angle_list (take_as lifetime_of))
 lifetimes-printed span = until-printed (λ (it : Lifetime). it) (λ it. tree.Lifetime it ∷ []) 62 refl (take_as lifetime_of) (take_as lifetime_of) lifetime-printed (λ rest tail f. f) (λ rest tail span. tt) (λ rest tail span. tt) span
 
--- no `for` comes
-abbrev pub NoFor : Relation
-NoFor rest tail = sees word.For tail ≡ false
+-- no `for` comes, and what is told
+abbrev pub NoForBut : (Trees → Type 0) → Relation
+NoForBut Sight rest tail = (sees word.For tail ≡ false) × Sight tail
 
 map-same : (items : List Lifetime) → map (λ (it : Lifetime). it) items ≡ items
 map-same [] = refl
 map-same (it ∷ items) = ap (λ more. it ∷ more) (map-same items)
 
-pub binder-printed : (span : Span) → Printed (λ (it : List Lifetime). it) (λ lifetimes. printed_binder lifetimes span) Any NoFor binder binder
+pub binder-printed : (Sight : Trees → Type 0) (span : Span) → ((tail : Trees) → Sight (printed_word (codes "for") span ++ tail)) → Printed (λ (it : List Lifetime). it) (λ lifetimes. printed_binder lifetimes span) (λ rest tail. Sight tail) (NoForBut Sight) binder binder
 unfolding binder after_eat
-binder-printed span = record { of = λ input after found e. by input after found (sees word.For input.rest) e }
+binder-printed Sight span begins = record { of = λ input after found e. by input after found (sees word.For input.rest) e }
   where
-    none : (input after : Input) → Reads (λ (it : List Lifetime). it) (λ tail. Unit {0}) (NoFor after.rest) binder [] []
-    none input after = record { again = λ tail last f. record { value = []; new = last; is = rw f refl; same = refl }; first = λ tail f. tt }
+    none : (input after : Input) → Reads (λ (it : List Lifetime). it) Sight (NoForBut Sight after.rest) binder [] []
+    none input after = record { again = λ tail last f. record { value = []; new = last; is = rw (f.0) refl; same = refl }; first = λ tail f. f.1 }
 
     some : (input after : Input) (it : Lifetime) (items : List Lifetime) → Reads (map (λ (it : Lifetime). it)) (λ tail. Unit {0}) (λ tail. Unit {0}) (angle_list (take_as lifetime_of)) (joined (comma span) (map lifetime (it ∷ items)) ++ mark (codes ">") span) (it ∷ items)
-        → Reads (λ (it : List Lifetime). it) (λ tail. Unit {0}) (NoFor after.rest) binder (printed_binder (it ∷ items) span) (it ∷ items)
+        → Reads (λ (it : List Lifetime). it) Sight (NoForBut Sight after.rest) binder (printed_binder (it ∷ items) span) (it ∷ items)
     some input after it items one = record {
       again = λ tail last f. read tail last;
-      first = λ tail f. tt;
+      first = λ tail f. rw (flat tail) (begins (mark (codes "<") span ++ (inner ++ tail)));
     }
       where
         inner : Trees
@@ -102,17 +102,17 @@ binder-printed span = record { of = λ input after found e. by input after found
             }
 
     found-by : (input after : Input) (items : List Lifetime) → Reads (map (λ (it : Lifetime). it)) (λ tail. Unit {0}) (λ tail. Unit {0}) (angle_list (take_as lifetime_of)) (joined (comma span) (map lifetime items) ++ mark (codes ">") span) items
-        → Reads (λ (it : List Lifetime). it) (λ tail. Unit {0}) (NoFor after.rest) binder (printed_binder items span) items
+        → Reads (λ (it : List Lifetime). it) Sight (NoForBut Sight after.rest) binder (printed_binder items span) items
     found-by input after [] one = none input after
     found-by input after (it ∷ items) one = some input after it items one
 
     by : (input after : Input) (found : List Lifetime) (b : Bool) → (if b then expect 1 is_less >> angle_list (take_as lifetime_of) else pure []) (after_eat 1 b input) ≡ Some (found, after)
-        → Reads (λ (it : List Lifetime). it) (λ tail. Unit {0}) (NoFor after.rest) binder (printed_binder found span) found
+        → Reads (λ (it : List Lifetime). it) Sight (NoForBut Sight after.rest) binder (printed_binder found span) found
     by input after found false e = rw (← (some_pair_parts [] found input after e).0) (none input after)
     by input after found true e = opened (is_less (skipped 1 input).rest) e
       where
         opened : (b : Bool) → and_then (if b then Some (tt {0}, skipped 1 (skipped 1 input)) else None) (λ _. angle_list (take_as lifetime_of)) ≡ Some (found, after)
-            → Reads (λ (it : List Lifetime). it) (λ tail. Unit {0}) (NoFor after.rest) binder (printed_binder found span) found
+            → Reads (λ (it : List Lifetime). it) Sight (NoForBut Sight after.rest) binder (printed_binder found span) found
         opened false e = absurd cc
         opened true e = found-by input after found ((lifetimes-printed span).of (skipped 1 (skipped 1 input)) after found e)
 

@@ -1,6 +1,6 @@
 -- What may follow types and paths in their printing, and what their beginnings tell.
-use Rattle.std.proofs.Common.{◌≡◌, ◌⊎◌, inl, inr, ℕ, Bool, true, false, ◌&&◌, ◌||◌, not, ◌==◌, if◌then◌else◌, List, [], ◌∷◌, ◌++◌, Option, Some, None, refl, arith, rules, ap, sym, ◌∙◌}
-use Rattle.std.proofs.lemmas.Bool.{and_left, and_right, both_ways, eqb-true}
+use Rattle.std.proofs.Common.{◌≡◌, ◌⊎◌, inl, inr, ℕ, Bool, true, false, ◌&&◌, ◌||◌, not, ◌==◌, if◌then◌else◌, List, [], ◌∷◌, ◌++◌, Option, Some, None, refl, arith, rules, ap, sym, ◌∙◌, codes}
+use Rattle.std.proofs.lemmas.Bool.{and_parts, and_left, and_right, both_ways, eqb-true}
 use Rattle.token_core.specs.declared.span.Span.{Span}
 use Rattle.token_core.specs.declared.ident.Ident.{Ident}
 use Rattle.token_core.specs.declared.tree.Delimiter.{Delimiter}
@@ -19,7 +19,7 @@ use Rattle.grammar_core.specs.Token.{Layer, same_delimiter, mark_of, mark_in, is
 use Rattle.grammar_core.specs.Words.{begins_segment, next_word, word_at, word_of, sees, is_word}
 use Rattle.print_core.specs.Marks.{Trees, mark, is_some, word as printed_word}
 use Rattle.front_core.specs.Alike.{Relation}
-use Rattle.back_core.specs.Follow.{Keep, Looser, Named, names, Quiet, AfterPath, AfterSegment, AfterType, Plus, is_type, BeginsType}
+use Rattle.back_core.specs.Follow.{is_path, Keep, Looser, Named, names, Quiet, AfterPath, AfterSegment, AfterType, Plus, is_type, BeginsType}
 use Rattle.back_core.proofs.Marks.{mark_of-mark, is_joint-mark, is_group-mark, out-Ident}
 
 pub keep-false : (test : Trees → Bool) (rest tail : Trees) → test rest ≡ false → Keep test rest tail → test tail ≡ false
@@ -235,3 +235,64 @@ group-seen (tree ∷ trees) h = by (out-TokenTree tree) refl
     by (TokenTree-F.Lifetime lifetime) is = let none = rw is at h in absurd cc
     by (TokenTree-F.Literal literal) is = let none = rw is at h in absurd cc
     by (TokenTree-F.Punct punct) is = let none = rw is at h in absurd cc
+
+or-left : (b : Bool) → (b || false) ≡ true → b ≡ true
+or-left true h = refl
+or-left false h = h
+
+-- what begins a bound that is no lifetime
+pub record PathSeen (trees : Trees) : Type 0 where
+  pub some : is_end trees ≡ false
+  pub question : is_mark 63 trees ≡ false
+  pub lifetime : lifetime_of trees ≡ None
+  pub bound : sees word.For trees ≡ false
+  pub start : type_start trees ≡ ty.Path
+
+segment-bound : (it : Word) → begins_segment it ≡ true → (is_word word.For it ≡ false) × (type_word it ≡ ty.Path)
+segment-bound word.Name h = (refl, refl)
+segment-bound word.PathStart h = (refl, refl)
+segment-bound word.None h = absurd cc
+segment-bound word.Underscore h = absurd cc
+segment-bound word.True h = absurd cc
+segment-bound word.False h = absurd cc
+segment-bound word.As h = absurd cc
+segment-bound word.Const h = absurd cc
+segment-bound word.Dyn h = absurd cc
+segment-bound word.Enum h = absurd cc
+segment-bound word.Fn h = absurd cc
+segment-bound word.For h = absurd cc
+segment-bound word.Impl h = absurd cc
+segment-bound word.In h = absurd cc
+segment-bound word.Move h = absurd cc
+segment-bound word.Mut h = absurd cc
+segment-bound word.Pub h = absurd cc
+segment-bound word.Struct h = absurd cc
+segment-bound word.Where h = absurd cc
+segment-bound word.Keyword h = absurd cc
+
+pub path-seen : (trees : Trees) → is_path trees ≡ true → PathSeen trees
+unfolding type_start is_pair is_joint is_group mark_of next_word ident_of lifetime_of
+path-seen [] h = absurd cc
+path-seen (tree ∷ trees) h = by (out-TokenTree tree) refl
+  where
+    by : (layer : Layer) → out-TokenTree tree ≡ layer → PathSeen (tree ∷ trees)
+    by (TokenTree-F.Ident ident) is = let seen = segment-bound (word_of ident) (rw is at h) in record { some = refl; question = rw is refl; lifetime = rw is refl; bound = rw is (seen.0); start = rw is (seen.1) }
+    by (TokenTree-F.Lifetime lifetime) is = let none = rw is at h in absurd cc
+    by (TokenTree-F.Literal literal) is = let none = rw is at h in absurd cc
+    by (TokenTree-F.Group group) is = let none = rw is at h in absurd cc
+    by (TokenTree-F.Punct punct) is =
+        let pair = or-left (punct.joint && (punct.ch == 58 && mark_of trees == 58)) (rw is at h) in
+        let parts = and_parts punct.joint (punct.ch == 58 && mark_of trees == 58) pair in
+        let marks = and_parts (punct.ch == 58) (mark_of trees == 58) parts.1 in
+        let colon = eqb-true punct.ch 58 marks.0 in
+        record { some = refl; question = rw (is, colon) refl; lifetime = rw is refl; bound = rw is refl; start = rw (is, colon, parts.0, marks.1) refl }
+
+pub path_before-plus : (rest tail : Trees) (span : Span) → AfterPath true rest (mark (codes "+") span ++ tail)
+unfolding is_pair
+path_before-plus rest tail span = (never is_colons rest (mark (codes "+") span ++ tail) (rw (is_joint-mark 43 [] span tail) refl), record {
+  less = never is_less rest (mark (codes "+") span ++ tail) (rw (mark_of-mark 43 [] span tail) refl);
+  inputs = never (is_group delimiter.Parenthesis) rest (mark (codes "+") span ++ tail) (is_group-mark 43 [] span tail delimiter.Parenthesis);
+  arrow = never is_arrow rest (mark (codes "+") span ++ tail) (rw (is_joint-mark 43 [] span tail) refl);
+  equals = never is_equals rest (mark (codes "+") span ++ tail) (rw (mark_of-mark 43 [] span tail) refl);
+  colon = never is_colon rest (mark (codes "+") span ++ tail) (rw (mark_of-mark 43 [] span tail) refl);
+})

@@ -8,4 +8,5 @@ pub mod Prints
 pub mod Parts
 pub mod Arguments
 pub mod Paths
+pub mod Bounds
 pub mod Types

@@ -205,3 +205,7 @@ segment-same word.Keyword name h = absurd cc
 pub segment_word-Ident : (rest tail : Trees) (it : Ident) → segment_word rest ≡ Some it → segment_word (tree.Ident it ∷ tail) ≡ Some it
 unfolding segment_word next_word ident_of
 segment_word-Ident rest tail it is = rw (out-Ident it) (segment-same (word_of it) it (segment-word rest it is).0)
+
+pub mark_of-word : (text : List ℕ) (span : Span) (tail : Trees) → mark_of (printed_word text span ++ tail) ≡ 0
+unfolding mark_of printed_word
+mark_of-word text span tail = rw (out-Ident (record { text = text; raw = false; span = span })) refl
