@@ -209,3 +209,7 @@ segment_word-Ident rest tail it is = rw (out-Ident it) (segment-same (word_of it
 pub mark_of-word : (text : List ℕ) (span : Span) (tail : Trees) → mark_of (printed_word text span ++ tail) ≡ 0
 unfolding mark_of printed_word
 mark_of-word text span tail = rw (out-Ident (record { text = text; raw = false; span = span })) refl
+
+pub sees-const : (span : Span) (tail : Trees) → next_word (printed_word (codes "const") span ++ tail) ≡ word.Const
+unfolding printed_word next_word ident_of word_of Rattle.grammar_core.specs.Words.named_words Rattle.grammar_core.specs.Words.other_keywords
+sees-const span tail = rw (out-Ident (record { text = codes "const"; raw = false; span = span })) refl

@@ -7,25 +7,28 @@ use Rattle.token_core.specs.declared.tree.TokenTree.TheVariants as tree
 use Rattle.grammar_core.specs.declared.look.TypeStart.{TypeStart}
 use Rattle.grammar_core.specs.declared.look.TypeStart.TheVariants as begin
 use Rattle.grammar_core.specs.declared.word.Word.TheVariants as word
+use Rattle.grammar_core.specs.Input.{Parser, ◌>>=◌, ◌>>◌, pure, here, skip, upto, expect}
 use Rattle.grammar_core.specs.Look.{type_start, type_word}
 use Rattle.grammar_core.specs.Make as make
 use Rattle.grammar_core.specs.Readers.{Readers, any_level}
 use Rattle.grammar_core.specs.Token.{ident_of, is_colon, is_equals, is_group, is_joint, is_pair, is_semicolon, lifetime_of, mark_of}
-use Rattle.grammar_core.specs.Types.{type_bracket, type_in_brackets, type_reference}
-use Rattle.grammar_core.specs.Words.{is_name, next_word, sees, word_of}
+use Rattle.grammar_core.specs.Types.{type_bracket, type_in_brackets, type_reference, type_pointer, type_trait_object, type_impl_trait, type_path}
+use Rattle.grammar_core.specs.Words.{is_name, named_words, next_word, other_keywords, sees, word_of}
 use Rattle.print_core.specs.Marks.{Trees, group, lifetime, mark, optional, word as printed_word}
 use Rattle.print_core.specs.Nodes.{expr_tokens, type_tokens}
 use Rattle.bare_core.specs.Bare.{bare_expr, bare_type}
-use Rattle.bare_core.proofs.Made.{bare_type-Array, bare_array-make, bare_type-Slice, bare_type-Reference}
+use Rattle.bare_core.proofs.Made.{bare_type-Ptr, bare_type-TraitObject, bare_type-ImplTrait, bare_type-Path, bare_type_path-make, bare_type-Never, bare_type-Infer, bare_type-Array, bare_array-make, bare_type-Slice, bare_type-Reference}
 use Rattle.front_core.specs.Alike.{Relation, Any}
-use Rattle.back_core.specs.Follow.{AfterType, BeginsType, Named, names}
+use Rattle.back_core.specs.Follow.{AfterType, BeginsType, Named, Some', names}
 use Rattle.back_core.specs.Printed.{Back}
-use Rattle.back_core.proofs.Follows.{never, type-end, type_before-mark, type-seen, unnamed, looser-end, no-semicolon, one_bound, Unliving}
-use Rattle.back_core.proofs.Marks.{mark_of-mark, is_group-mark, next_word-mark, lifetime_of-mark, mark-length, word-length, sees-mut, lifetime_of-Lifetime, lifetime_of-word, next_word-group, no-group, out-Ident}
+use Rattle.back_core.proofs.Bounds.{bounds-back}
+use Rattle.back_core.proofs.Follows.{never, path-seen, type-end, type_before-mark, type-seen, unnamed, looser-end, no-semicolon, one_bound, Unliving}
+use Rattle.back_core.proofs.Marks.{mark_of-mark, is_group-mark, next_word-mark, lifetime_of-mark, mark-length, word-length, sees-mut, lifetime_of-Lifetime, lifetime_of-word, next_word-group, no-group, out-Ident, sees-const}
 use Rattle.back_core.proofs.Parts.{AllBacks}
-use Rattle.back_core.proofs.Prints.{print-array, print-reference, print-slice}
-use Rattle.back_core.proofs.Steps.{whole, pure-rest, here-rest, then-rest, close-rest}
-use Rattle.back_core.proofs.Takes.{AtEnd, skip-rest, eat_or-rest, eat-rest, eat_as-rest, inside-rest, is_group-group}
+use Rattle.back_core.proofs.Paths.{path-back}
+use Rattle.back_core.proofs.Prints.{print-impl_trait, print-infer, print-never, print-ptr, print-trait_object, print-type_path, print-array, print-reference, print-slice}
+use Rattle.back_core.proofs.Steps.{Rest, whole, pure-rest, here-rest, then-rest, close-rest}
+use Rattle.back_core.proofs.Takes.{AtEnd, skip-rest, expect-rest, eat_or-rest, eat-rest, eat_as-rest, inside-rest, is_group-group}
 
 -- a type begins so
 abbrev pub Begin : TypeStart → Relation
@@ -63,6 +66,18 @@ word-begin text begins rest tail span is none = (rw (out-Ident (record { text = 
     never (names is_equals) rest (printed_word text span ++ tail) (rw (out-Ident (record { text = text; raw = false; span = span }), none) refl),
     never (names is_colon) rest (printed_word text span ++ tail) (rw (out-Ident (record { text = text; raw = false; span = span }), none) refl)))
 
+dyn-begin : (rest tail : Trees) (span : Span) → Begin begin.TraitObject rest (printed_word (codes "dyn") span ++ tail)
+unfolding word_of named_words other_keywords
+dyn-begin rest tail span = word-begin (codes "dyn") begin.TraitObject rest tail span refl refl
+
+impl-begin : (rest tail : Trees) (span : Span) → Begin begin.ImplTrait rest (printed_word (codes "impl") span ++ tail)
+unfolding word_of named_words other_keywords
+impl-begin rest tail span = word-begin (codes "impl") begin.ImplTrait rest tail span refl refl
+
+infer-begin : (rest tail : Trees) (span : Span) → Begin begin.Infer rest (printed_word (codes "_") span ++ tail)
+unfolding word_of named_words other_keywords
+infer-begin rest tail span = word-begin (codes "_") begin.Infer rest tail span refl refl
+
 module _ (readers : Readers) (parts : AllBacks readers) where
   type_in_brackets-back : (many : Bool) → Back bare_type type_tokens (Begin begin.Bracket) (AfterType many) (type_in_brackets readers)
   unfolding type_in_brackets type_bracket
@@ -89,3 +104,61 @@ module _ (readers : Readers) (parts : AllBacks readers) where
       (λ rest tail seen f. ((type-seen tail f.0).mutable, (type-seen tail f.0).lifetime)))
       (λ input tail it is f. tt) (λ rest tail none f. (f, tt)))
       (λ input tail place f. and-begin input.rest tail place)))
+
+  -- ---- pointers
+
+  abbrev pointer_rest : Bool → Parser (Unit {0}) 
+  pointer_rest mutable = if mutable then pure tt else expect 1 (sees word.Const)
+
+  pointer_by : (many : Bool) (start : Span) (mutable : Bool)
+      → Rest {P = Span} {Q = Unit {0} × Span} (λ q. Unit {0}) bare_type type_tokens (λ place more. mark (codes "*") place ++ ((if mutable then printed_word (codes "mut") place else []) ++ more)) (λ rest tail. mutable ≡ false → sees word.Mut tail ≡ false) (AfterType many)
+      (pointer_rest mutable >>= (λ constant. readers.ty false >>= (λ elem. upto start >>= (λ span. pure (make.type_ptr mutable elem span)))))
+      (λ q. pointer_rest mutable >>= (λ constant. readers.ty false >>= (λ elem. upto q.1 >>= (λ span. pure (make.type_ptr mutable elem span)))))
+  pointer_by many start true = then-rest {Second = AfterType many} (λ place. parts.ty false) (λ elem. close-rest start (λ q. q.0.1) (make.type_ptr true elem) (λ q. make.type_ptr true q.1)
+          (λ span. rw (print-ptr, append-nil, append_assoc) refl) (λ span other q ok. rw (bare_type-Ptr, bare_type-Ptr, ok.1) refl))
+      (λ rest tail f. one_bound many rest tail f) (λ rest tail f h. absurd cc)
+  pointer_by many start false = expect-rest {Second = BeginsType} 1 (sees word.Const) (λ place. printed_word (codes "const") place) (word-length (codes "const")) (λ place tail. rw (sees-const place tail) refl)
+      (then-rest {Second = AfterType many} (λ place. parts.ty false) (λ elem. close-rest start (λ q. q.0.1) (make.type_ptr false elem) (λ q. make.type_ptr false q.1)
+          (λ span. rw (print-ptr, append-nil, append_assoc) refl) (λ span other q ok. rw (bare_type-Ptr, bare_type-Ptr, ok.1) refl))
+          (λ rest tail f. one_bound many rest tail f) (λ rest tail f. f))
+      (λ input tail place seen f h. rw (sees-const place tail) refl)
+
+  type_pointer-back : (many : Bool) → Back bare_type type_tokens (Begin begin.Pointer) (AfterType many) (type_pointer readers)
+  unfolding type_pointer
+  type_pointer-back many = whole (here-rest (λ start. skip-rest {Second = Any} (λ place. mark (codes "*") place) (mark-length (codes "*"))
+      (eat-rest {Second = λ mutable rest tail. mutable ≡ false → sees word.Mut tail ≡ false} 1 (sees word.Mut) (λ place. printed_word (codes "mut") place) (word-length (codes "mut")) (λ place tail. rw (sees-mut place tail) refl) (pointer_by many start)
+      (λ input tail place seen f. tt) (λ rest tail seen f. (f refl, tt)))
+      (λ input tail place f. star-begin input.rest tail place)))
+
+  -- ---- bounds, paths, and single tokens
+
+  type_trait_object-back : (many : Bool) → Back bare_type type_tokens (Begin begin.TraitObject) (AfterType many) (type_trait_object readers many)
+  unfolding type_trait_object
+  type_trait_object-back many = whole (here-rest (λ start. skip-rest {Second = Some'} (λ place. printed_word (codes "dyn") place) (word-length (codes "dyn"))
+      (then-rest {Second = AfterType many} (λ place. bounds-back readers parts many place) (λ found. close-rest start (λ q. q.0.1) (make.type_trait_object found) (λ q. make.type_trait_object q.1)
+          (λ span. rw (print-trait_object, append-nil) refl) (λ span other q ok. rw (bare_type-TraitObject, bare_type-TraitObject, ok.1) refl))
+          (λ rest tail f. f) (λ rest tail f. f))
+      (λ input tail place f. dyn-begin input.rest tail place)))
+
+  type_impl_trait-back : (many : Bool) → Back bare_type type_tokens (Begin begin.ImplTrait) (AfterType many) (type_impl_trait readers many)
+  unfolding type_impl_trait
+  type_impl_trait-back many = whole (here-rest (λ start. skip-rest {Second = Some'} (λ place. printed_word (codes "impl") place) (word-length (codes "impl"))
+      (then-rest {Second = AfterType many} (λ place. bounds-back readers parts many place) (λ found. close-rest start (λ q. q.0.1) (make.type_impl_trait found) (λ q. make.type_impl_trait q.1)
+          (λ span. rw (print-impl_trait, append-nil) refl) (λ span other q ok. rw (bare_type-ImplTrait, bare_type-ImplTrait, ok.1) refl))
+          (λ rest tail f. f) (λ rest tail f. f))
+      (λ input tail place f. impl-begin input.rest tail place)))
+
+  type_path-back : (many : Bool) → Back bare_type type_tokens (Begin begin.Path) (AfterType many) (type_path readers)
+  unfolding type_path
+  type_path-back many = whole (here-rest (λ start.
+      then-rest {Second = AfterType many} (λ (place : Span). path-back readers parts true) (λ found. close-rest start (λ q. q.0.1) (make.type_path None found) (λ q. make.type_path None q.1)
+          (λ span. rw (print-type_path, append-nil) refl) (λ span other q ok. rw (bare_type-Path, bare_type-Path, bare_type_path-make, bare_type_path-make, ok.1) refl))
+      (λ rest tail f. f.0) (λ rest tail f. ((path-seen tail f.0).start, f.1))))
+
+  type_never-back : (many : Bool) → Back bare_type type_tokens (Begin begin.Never) (AfterType many) (here >>= (λ span. skip >> pure (make.type_never span)))
+  type_never-back many = whole (here-rest (λ span. skip-rest {Second = AfterType many} (λ (place : Unit {0}). mark (codes "!") span) (λ place. mark-length (codes "!") span)
+      (pure-rest tt (make.type_never span) (λ q. make.type_never q.1) (rw (print-never, append-nil) refl) (λ q ok. rw (bare_type-Never, bare_type-Never) refl)) (λ input tail place f. bang-begin input.rest tail span)))
+
+  type_infer-back : (many : Bool) → Back bare_type type_tokens (Begin begin.Infer) (AfterType many) (here >>= (λ span. skip >> pure (make.type_infer span)))
+  type_infer-back many = whole (here-rest (λ span. skip-rest {Second = AfterType many} (λ (place : Unit {0}). printed_word (codes "_") span) (λ place. word-length (codes "_") span)
+      (pure-rest tt (make.type_infer span) (λ q. make.type_infer q.1) (rw (print-infer, append-nil) refl) (λ q ok. rw (bare_type-Infer, bare_type-Infer) refl)) (λ input tail place f. infer-begin input.rest tail span)))
