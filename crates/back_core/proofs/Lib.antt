@@ -9,4 +9,6 @@ pub mod Parts
 pub mod Arguments
 pub mod Paths
 pub mod Bounds
+pub mod Functions
+pub mod Groups
 pub mod Types
