@@ -88,3 +88,17 @@ module _ {A C : Type 0} (bare : A → C) (print : A → Trees) (count : ℕ) (ho
           first = one.first;
         });
   }
+
+-- there is one item at least
+pub joined-some : {A : Type 0} (joint : Parser Bool) (item : Parser A) (turns : ℕ) (found : List A) (input after : Input) (items : List A) → joined_from joint item turns found input ≡ Some (items, after) → suc (length found) ≤ length items
+unfolding joined_from
+joined-some joint item zero found input after items e = absurd cc
+joined-some {A} joint item (suc turns) found input after items e =
+    let parts = bind-at (item input) (λ y. joint >>= (λ more. if more then joined_from joint item turns (found ++ y ∷ []) else pure (found ++ y ∷ []))) items after e in
+    let more = bind-at (joint parts.1) (λ more. if more then joined_from joint item turns (found ++ parts.0 ∷ []) else pure (found ++ parts.0 ∷ [])) items after parts.3 in
+    by more.0 more.1 parts.0 (joined-some joint item turns (found ++ parts.0 ∷ []) more.1 after items) more.3
+  where
+    by : (b : Bool) (behind : Input) (y : A) → (joined_from joint item turns (found ++ y ∷ []) behind ≡ Some (items, after) → suc (length (found ++ y ∷ [])) ≤ length items)
+        → (if b then joined_from joint item turns (found ++ y ∷ []) else pure (found ++ y ∷ [])) behind ≡ Some (items, after) → suc (length found) ≤ length items
+    by true behind y later e = omega (arith, later e, length-append found (y ∷ []))
+    by false behind y later e = rw (← (some_pair_parts (found ++ y ∷ []) items behind after e).0) (omega (arith, length-append found (y ∷ [])))

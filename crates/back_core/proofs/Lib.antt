@@ -11,4 +11,5 @@ pub mod Paths
 pub mod Bounds
 pub mod Functions
 pub mod Groups
+pub mod Qualified
 pub mod Types

@@ -56,7 +56,7 @@ unfolding arguments_start mark
 fish-start tail span = rw (is_colons-colons (mark (codes "<") span ++ tail) span, mark_of-mark 60 [] span tail) refl
 
 -- the segments in one style
-styled : (items : List PathSegment) (style : PathStyle) → map (in_style style) (map segment_tokens items) ≡ map (λ it. segment_tokens it style) items
+pub styled : (items : List PathSegment) (style : PathStyle) → map (in_style style) (map segment_tokens items) ≡ map (λ it. segment_tokens it style) items
 styled [] style = refl
 styled (it ∷ items) style = ap (λ more. segment_tokens it style ∷ more) (styled items style)
 

@@ -196,6 +196,28 @@ module _ {A B C D P Q : Type 0} {Ok : Q → Type 0} {bare₁ : A → C} {bare : 
         };
   }
 
+  -- a part of which more is known, and what comes after it
+  pub sure-rest : {V : A → Type 0} {p p' : Parser A} {f : A → Parser B} {g : Q × A → Parser B} → ((place : P) → Printed bare₁ (print₁ place) Start Middle p p') → ((input after : Input) (y : A) → p input ≡ Some (y, after) → V y)
+      → ((y : A) → V y → Rest {Q = Q × A} (λ q. Ok q.0 × (bare₁ q.1 ≡ bare₁ y)) bare print (λ place tokens. wrap place (print₁ place y ++ tokens)) Second F (f y) g)
+      → ((rest tail : Trees) → Second rest tail → Middle rest tail) → ((rest tail : Trees) → Start rest tail → G rest tail) → Rest Ok bare print wrap G F (p >>= f) (λ q. p' >>= (λ y. g (q, y)))
+  sure-rest {V} {p} {p'} {f} {g} h valid next follows starts = record {
+    of = λ input after found e.
+        let parts = bind-at (p input) f found after e in
+        let two = (next parts.0 (valid input parts.1 parts.0 parts.2)).of parts.1 after found parts.3 in
+        let one = (h two.place).of input parts.1 parts.0 parts.2 in
+        let behind = λ (tail : Trees) (f : F after.rest tail). follows parts.1.rest (two.tokens ++ tail) (two.first tail f) in
+        record {
+          place = two.place;
+          tokens = print₁ two.place parts.0 ++ two.tokens;
+          is = two.is;
+          again = λ q ok tail last f.
+              let mine = one.again (two.tokens ++ tail) last (behind tail f) in
+              let more = two.again (q, mine.value) (ok, mine.same) tail mine.new f in
+              record { value = more.value; new = more.new; is = rw (append_assoc (print₁ two.place parts.0) two.tokens tail, mine.is) more.is; same = more.same };
+          first = λ tail f. rw (append_assoc (print₁ two.place parts.0) two.tokens tail) (starts input.rest _ (one.first (two.tokens ++ tail) (behind tail f)));
+        };
+  }
+
   -- a part, and what comes after it
   pub then-rest : {p p' : Parser A} {f : A → Parser B} {g : Q × A → Parser B} → ((place : P) → Printed bare₁ (print₁ place) Start Middle p p')
       → ((y : A) → Rest {Q = Q × A} (λ q. Ok q.0 × (bare₁ q.1 ≡ bare₁ y)) bare print (λ place tokens. wrap place (print₁ place y ++ tokens)) Second F (f y) g)
