@@ -13,3 +13,4 @@ pub mod Functions
 pub mod Groups
 pub mod Qualified
 pub mod Types
+pub mod Within

@@ -12,22 +12,25 @@ use Rattle.grammar_core.specs.Look.{type_start, type_word}
 use Rattle.grammar_core.specs.Make as make
 use Rattle.grammar_core.specs.Readers.{Readers, any_level}
 use Rattle.grammar_core.specs.Token.{ident_of, is_colon, is_equals, is_group, is_joint, is_pair, is_semicolon, lifetime_of, mark_of}
-use Rattle.grammar_core.specs.Types.{type_bracket, type_in_brackets, type_reference, type_pointer, type_trait_object, type_impl_trait, type_path}
+use Rattle.grammar_core.specs.Types.{type_bracket, type_in_brackets, type_reference, type_pointer, type_trait_object, type_impl_trait, type_path, type_qualified, type_group, type_in_parentheses, type_by, type_step}
 use Rattle.grammar_core.specs.Words.{is_name, named_words, next_word, other_keywords, sees, word_of}
 use Rattle.print_core.specs.Marks.{Trees, group, lifetime, mark, optional, word as printed_word}
 use Rattle.print_core.specs.Nodes.{expr_tokens, type_tokens}
 use Rattle.bare_core.specs.Bare.{bare_expr, bare_type}
-use Rattle.bare_core.proofs.Made.{bare_type-Ptr, bare_type-TraitObject, bare_type-ImplTrait, bare_type-Path, bare_type_path-make, bare_type-Never, bare_type-Infer, bare_type-Array, bare_array-make, bare_type-Slice, bare_type-Reference}
+use Rattle.bare_core.proofs.Made.{bare_type-Tuple, bare_type-Paren, bare_type-Ptr, bare_type-TraitObject, bare_type-ImplTrait, bare_type-Path, bare_type_path-make, bare_type-Never, bare_type-Infer, bare_type-Array, bare_array-make, bare_type-Slice, bare_type-Reference}
 use Rattle.front_core.specs.Alike.{Relation, Any}
 use Rattle.back_core.specs.Follow.{AfterType, BeginsType, Named, Some', names}
 use Rattle.back_core.specs.Printed.{Back}
 use Rattle.back_core.proofs.Bounds.{bounds-back}
 use Rattle.back_core.proofs.Follows.{never, path-seen, type-end, type_before-mark, type-seen, unnamed, looser-end, no-semicolon, one_bound, Unliving}
+use Rattle.back_core.proofs.Functions.{type_fn_ptr-back}
+use Rattle.back_core.proofs.Groups.{inner-rest}
 use Rattle.back_core.proofs.Marks.{mark_of-mark, is_group-mark, next_word-mark, lifetime_of-mark, mark-length, word-length, sees-mut, lifetime_of-Lifetime, lifetime_of-word, next_word-group, no-group, out-Ident, sees-const}
 use Rattle.back_core.proofs.Parts.{AllBacks}
 use Rattle.back_core.proofs.Paths.{path-back}
-use Rattle.back_core.proofs.Prints.{print-impl_trait, print-infer, print-never, print-ptr, print-trait_object, print-type_path, print-array, print-reference, print-slice}
-use Rattle.back_core.proofs.Steps.{Rest, whole, pure-rest, here-rest, then-rest, close-rest}
+use Rattle.back_core.proofs.Prints.{print-tuple, print-paren, print-type_qualified, print-impl_trait, print-infer, print-never, print-ptr, print-trait_object, print-type_path, print-array, print-reference, print-slice}
+use Rattle.back_core.proofs.Qualified.{Pair, qualified-back}
+use Rattle.back_core.proofs.Steps.{Free, Rest, hole, refuse-rest, shown-rest, test-rest, whole, pure-rest, here-rest, then-rest, close-rest}
 use Rattle.back_core.proofs.Takes.{AtEnd, skip-rest, expect-rest, eat_or-rest, eat-rest, eat_as-rest, inside-rest, is_group-group}
 
 -- a type begins so
@@ -162,3 +165,60 @@ module _ (readers : Readers) (parts : AllBacks readers) where
   type_infer-back : (many : Bool) → Back bare_type type_tokens (Begin begin.Infer) (AfterType many) (here >>= (λ span. skip >> pure (make.type_infer span)))
   type_infer-back many = whole (here-rest (λ span. skip-rest {Second = AfterType many} (λ (place : Unit {0}). printed_word (codes "_") span) (λ place. word-length (codes "_") span)
       (pure-rest tt (make.type_infer span) (λ q. make.type_infer q.1) (rw (print-infer, append-nil) refl) (λ q ok. rw (bare_type-Infer, bare_type-Infer) refl)) (λ input tail place f. infer-begin input.rest tail span)))
+
+  type_qualified-back : (many : Bool) → Back bare_type type_tokens (Begin begin.Qualified) (AfterType many) (type_qualified readers)
+  unfolding type_qualified
+  type_qualified-back many = whole (here-rest (λ start.
+      then-rest {Second = AfterType many} (λ (place : Span). qualified-back readers parts true) (λ found. close-rest start (λ q. q.0.1) (make.type_path (Some found.0) found.1) (λ q. make.type_path (Some q.1.0) q.1.1)
+          (λ span. rw (print-type_qualified, append-nil) refl)
+          (λ span other q ok. rw (bare_type-Path, bare_type-Path, bare_type_path-make, bare_type_path-make, ap (λ (it : Pair). it.0) ok.1, ap (λ (it : Pair). it.1) ok.1) refl))
+      (λ rest tail f. f.0) (λ rest tail f. f)))
+
+  -- ---- parentheses
+
+  type_in_parentheses-back : (many : Bool) → Back bare_type type_tokens (Begin begin.Parenthesis) (AfterType many) (type_in_parentheses readers)
+  unfolding type_in_parentheses type_group
+  type_in_parentheses-back many = whole (here-rest (λ span. inside-rest {Inner = Any} delimiter.Parenthesis (λ (place : Unit {0}). span)
+      (inner-rest bare_type type_tokens (readers.ty true) (parts.ty true) (λ rest tail f. (type-seen tail f.0).some) (type-end true) (λ rest tail span. type_before-mark 44 refl refl refl refl span rest tail true)
+          make.type_tuple make.type_paren print-tuple print-paren
+          (λ one two span other same. rw (bare_type-Tuple, bare_type-Tuple, same) refl) (λ one two span other same. rw (bare_type-Paren, bare_type-Paren, same) refl) span)
+      (λ rest inner tail span' seen f. group-begin rest inner tail span')))
+
+  -- ---- all types
+
+  -- what begins a type, by its kind
+  abbrev Begun : TypeStart → Relation
+  Begun begin.Nothing = λ rest tail. ⊥
+  Begun begins = Begin begins
+
+  type_by-rest : (many : Bool) (begins : TypeStart) → Rest {P = Unit {0}} {Q = Unit {0}} Free bare_type type_tokens hole (Begun begins) (AfterType many) (type_by readers many begins) (λ q. type_by readers many begins)
+  type_by-rest many begin.Parenthesis = shown-rest tt (λ it. refl) (type_in_parentheses-back many)
+  type_by-rest many begin.Bracket = shown-rest tt (λ it. refl) (type_in_brackets-back many)
+  type_by-rest many begin.Never = shown-rest tt (λ it. refl) (type_never-back many)
+  type_by-rest many begin.Infer = shown-rest tt (λ it. refl) (type_infer-back many)
+  type_by-rest many begin.Reference = shown-rest tt (λ it. refl) (type_reference-back many)
+  type_by-rest many begin.Pointer = shown-rest tt (λ it. refl) (type_pointer-back many)
+  type_by-rest many begin.FnPtr = shown-rest tt (λ it. refl) (type_fn_ptr-back readers parts many)
+  type_by-rest many begin.TraitObject = shown-rest tt (λ it. refl) (type_trait_object-back many)
+  type_by-rest many begin.ImplTrait = shown-rest tt (λ it. refl) (type_impl_trait-back many)
+  type_by-rest many begin.Qualified = shown-rest tt (λ it. refl) (type_qualified-back many)
+  type_by-rest many begin.Path = shown-rest tt (λ it. refl) (type_path-back many)
+  type_by-rest many begin.Nothing = refuse-rest
+
+  begun : (begins : TypeStart) (rest tail : Trees) → type_start rest ≡ begins → Begun begins rest tail → (type_start tail ≡ begins) × BeginsType rest tail
+  begun begin.Parenthesis rest tail is f = (f.0, (rw (f.0) refl, f.1))
+  begun begin.Bracket rest tail is f = (f.0, (rw (f.0) refl, f.1))
+  begun begin.Never rest tail is f = (f.0, (rw (f.0) refl, f.1))
+  begun begin.Infer rest tail is f = (f.0, (rw (f.0) refl, f.1))
+  begun begin.Reference rest tail is f = (f.0, (rw (f.0) refl, f.1))
+  begun begin.Pointer rest tail is f = (f.0, (rw (f.0) refl, f.1))
+  begun begin.FnPtr rest tail is f = (f.0, (rw (f.0) refl, f.1))
+  begun begin.TraitObject rest tail is f = (f.0, (rw (f.0) refl, f.1))
+  begun begin.ImplTrait rest tail is f = (f.0, (rw (f.0) refl, f.1))
+  begun begin.Qualified rest tail is f = (f.0, (rw (f.0) refl, f.1))
+  begun begin.Path rest tail is f = (f.0, (rw (f.0) refl, f.1))
+  begun begin.Nothing rest tail is f = absurd f
+
+  pub type_step-back : (many : Bool) → Back bare_type type_tokens BeginsType (AfterType many) (type_step readers many)
+  unfolding type_step
+  type_step-back many = whole (test-rest {by = Begun} type_start (type_by-rest many) (λ begins rest tail is f. begun begins rest tail is f))
