@@ -1,6 +1,5 @@
 -- The law of printing for the arguments of a path's segments.
-use Rattle.std.proofs.Common.{◌≡◌, ℕ, Bool, true, false, ◌&&◌, ◌||◌, if◌then◌else◌, List, [], ◌∷◌, ◌++◌, map, length, Option, Some, None, refl, arith, rules, ap, sym, subst, ◌∙◌, append_assoc, append-nil, codes}
-use Rattle.std.proofs.lemmas.Bool.{both_ways}
+use Rattle.std.proofs.Common.{◌≡◌, Bool, true, false, ◌&&◌, if◌then◌else◌, List, [], ◌∷◌, ◌++◌, map, Some, None, refl, ap, sym, ◌∙◌, append_assoc, append-nil, codes}
 use Rattle.std.proofs.lemmas.Option.{some_pair_parts}
 use Rattle.token_core.specs.declared.ident.Ident.{Ident}
 use Rattle.token_core.specs.declared.ident.Lifetime.{Lifetime}
@@ -8,43 +7,37 @@ use Rattle.token_core.specs.declared.span.Span.{Span}
 use Rattle.token_core.specs.declared.tree.Delimiter.{Delimiter}
 use Rattle.token_core.specs.declared.tree.Delimiter.TheVariants as delimiter
 use Rattle.token_core.specs.declared.tree.TokenTree.TheVariants as tree
-use Rattle.expr_core.specs.declared.path.PathArguments.{PathArguments}
 use Rattle.expr_core.specs.declared.path.PathArguments.TheVariants as made
-use Rattle.expr_core.specs.declared.ty.«Type».{«Type» as Ty}
-use Rattle.expr_core.specs.declared.ty.ReturnType.{ReturnType}
 use Rattle.expr_core.specs.declared.ty.ReturnType.TheVariants as return
 use Rattle.grammar_core.specs.declared.word.Word.TheVariants as word
-use Rattle.grammar_core.specs.Input.{Input, Outcome, Parser, and_then, ◌>>=◌, ◌>>◌, pure, skipped, after_eat, eat, expect, take_as, inside, is_end}
-use Rattle.expr_core.specs.declared.generics.TypeParamBound.{TypeParamBound}
-use Rattle.expr_core.specs.declared.path.GenericArgument.{GenericArgument}
+use Rattle.grammar_core.specs.Input.{Input, Parser, and_then, ◌>>◌, pure, skipped, after_eat, expect, take_as, inside, is_end}
 use Rattle.expr_core.specs.declared.path.GenericArgument.TheVariants as generic
 use Rattle.grammar_core.specs.declared.look.ArgumentStart.{ArgumentStart}
 use Rattle.grammar_core.specs.declared.look.ArgumentStart.TheVariants as argument
 use Rattle.grammar_core.specs.declared.word.Word.{Word}
 use Rattle.grammar_core.specs.Look.{argument_name, argument_start, argument_word, begins_constant, is_there}
-use Rattle.grammar_core.specs.Make as make
 use Rattle.grammar_core.specs.Paths.{list, angle_list, binder, return_type, parenthesized, assoc_const, assoc_type, constraint, argument_by, generic_argument}
 use Rattle.grammar_core.specs.Readers.{Readers, constant_level}
-use Rattle.grammar_core.specs.Token.{after_one, ident_of, is_arrow, is_colon, is_equals, is_group, is_less, is_mark, is_pair, lifetime_of, literal_of, mark_of}
-use Rattle.grammar_core.specs.Words.{is_name, name_of, next_word, sees, word_of}
+use Rattle.grammar_core.specs.Token.{after_one, ident_of, is_arrow, is_colon, is_equals, is_group, is_less, is_pair, lifetime_of, literal_of, mark_of}
+use Rattle.grammar_core.specs.Words.{is_name, name_of, next_word, sees}
 use Rattle.print_core.specs.declared.path.PathStyle.{PathStyle}
 use Rattle.print_core.specs.Kinds.{printed_return}
 use Rattle.print_core.specs.Marks.{Trees, comma, group, joined, lifetime, mark, word as printed_word}
-use Rattle.print_core.specs.Nodes.{argument_tokens, arguments_tokens, type_tokens}
+use Rattle.print_core.specs.Nodes.{argument_tokens, arguments_tokens}
 use Rattle.print_core.specs.Paths.{binder as printed_binder, return_of}
-use Rattle.bare_core.specs.Bare.{bare_argument, bare_arguments, bare_output, bare_type}
-use Rattle.bare_core.proofs.Made.{bare_arguments-Parenthesized, bare_argument-AssocConst, bare_argument-AssocType, bare_argument-Constraint, bare_argument-Const, bare_argument-Lifetime, bare_argument-Ty}
+use Rattle.bare_core.specs.Bare.{bare_argument, bare_arguments, bare_output}
+use Rattle.bare_core.proofs.Made.{bare_arguments-Parenthesized, bare_argument-AssocConst, bare_argument-AssocType, bare_argument-Constraint, bare_argument-Const, bare_argument-Ty}
 use Rattle.front_core.specs.Alike.{Relation, Any}
 use Rattle.front_core.specs.Front.{at}
-use Rattle.back_core.specs.Follow.{AfterExpr, AfterPath, AfterType, BeginsExpr, BeginsType, Keep, Named, Open, Some', names}
+use Rattle.back_core.specs.Follow.{AfterType, BeginsExpr, BeginsType, Keep, Open, Some', names}
 use Rattle.back_core.specs.Printed.{Again, Reads, Printed, Back}
 use Rattle.back_core.proofs.Follows.{keep-false, never, type-end, type_before-mark, type-seen, constant-seen}
-use Rattle.back_core.proofs.Lists.{items-printed, until-printed, until_tokens}
-use Rattle.back_core.proofs.Marks.{mark_of-mark, is_joint-mark, out-Ident, name-word, name_of-Ident, mark-length, word-length, lifetime_of-Lifetime, next_word-mark, sees-for, is_arrow-arrow, mark_of-Lifetime}
-use Rattle.back_core.proofs.Parts.{AllBacks}
+use Rattle.back_core.proofs.Lists.{items-printed, until-printed}
+use Rattle.back_core.proofs.Marks.{mark_of-mark, is_joint-mark, out-Ident, name-word, name_of-Ident, mark-length, word-length, lifetime_of-Lifetime, sees-for, is_arrow-arrow, mark_of-Lifetime}
+use Rattle.back_core.specs.Parts.{AllBacks}
 use Rattle.back_core.proofs.Prints.{print-Parenthesized, print-AssocConst, print-AssocType, print-Constraint, print-Const, print-Lifetime, print-Ty}
-use Rattle.back_core.proofs.Steps.{Free, Rest, hole, whole, refuse-rest, test-rest, pure-rest, here-rest, then-rest, close-rest, shown-rest}
-use Rattle.back_core.proofs.Takes.{AtEnd, eat_or-rest, skip-rest, take_as-rest, inside-rest, take_as-printed, skipped-over, is_group-group}
+use Rattle.back_core.proofs.Steps.{Free, Rest, hole, whole, test-rest, pure-rest, here-rest, then-rest, close-rest, shown-rest}
+use Rattle.back_core.proofs.Takes.{eat_or-rest, skip-rest, take_as-rest, inside-rest, take_as-printed, skipped-over, is_group-group}
 
 -- a list between delimiters, which the comma and the group put at one place
 pub group-printed : {A C : Type 0} {bare : A → C} {print : A → Trees} {item other : Parser A} {G F Start End : Relation} (between : Delimiter) → Printed bare print G F item other → ((rest tail : Trees) → G rest tail → is_end tail ≡ false)
@@ -130,8 +123,8 @@ module _ (readers : Readers) (parts : AllBacks readers) where
   parenthesized-back style span = whole (here-rest (λ start.
       then-rest {Middle = Any} {Second = Any} (λ place. group-printed {Start = λ rest tail. is_group delimiter.Parenthesis tail ≡ true} {End = Any} delimiter.Parenthesis (parts.ty true) (λ rest tail f. (type-seen tail f.0).some) (type-end true) (λ rest tail span. type_before-mark 44 refl refl refl refl span rest tail true) place (λ rest inner tail own. is_group-group delimiter.Parenthesis inner tail own)) (λ inputs.
       then-rest {Second = AfterType false} (λ place. return_type-back place) (λ output. close-rest start (λ q. q.0.0.1) (made.Parenthesized inputs output) (λ q. made.Parenthesized q.0.1 q.1)
-          (λ own. rw (print-Parenthesized inputs output own style span, append-nil) refl) (λ own other q ok. rw (bare_arguments-Parenthesized, bare_arguments-Parenthesized, ok.0.1, ok.1) refl))
-          (λ rest tail f. f) (λ rest tail f. tt))
+      (λ own. rw (print-Parenthesized inputs output own style span, append-nil) refl) (λ own other q ok. rw (bare_arguments-Parenthesized, bare_arguments-Parenthesized, ok.0.1, ok.1) refl))
+      (λ rest tail f. f) (λ rest tail f. tt))
       (λ rest tail f. tt) (λ rest tail f. f)))
 
 -- ---- arguments in `<..>`
@@ -208,8 +201,8 @@ module _ (readers : Readers) (parts : AllBacks readers) where
   assoc_const-back = whole (here-rest (λ start. take_as-rest {Second = Behind_name argument.AssocConst} name_of tree.Ident (λ rest tail it is. name_of-Ident rest tail it is) (λ name.
       skip-rest {Second = BeginsExpr constant_level} (λ place. mark (codes "=") place) (mark-length (codes "="))
       (then-rest {Second = AfterArgument} (λ place. parts.expr constant_level) (λ value. close-rest start (λ q. q.0.1) (λ span. generic.AssocConst name value span) (λ q span. generic.AssocConst name q.1 span)
-          (λ span. rw (print-AssocConst, append-nil, append_assoc) refl) (λ span other q ok. rw (bare_argument-AssocConst, bare_argument-AssocConst, ok.1) refl))
-          (λ rest tail f other. absurd cc) (λ rest tail f. f))
+      (λ span. rw (print-AssocConst, append-nil, append_assoc) refl) (λ span other q ok. rw (bare_argument-AssocConst, bare_argument-AssocConst, ok.1) refl))
+      (λ rest tail f other. absurd cc) (λ rest tail f. f))
       (λ input tail place f. equals-name tail place true (f.1 refl)))
       (λ input tail name is f. name-begin argument.AssocConst name input.rest input.rest tail is f)))
 
@@ -218,8 +211,8 @@ module _ (readers : Readers) (parts : AllBacks readers) where
   assoc_type-back = whole (here-rest (λ start. take_as-rest {Second = Behind_name argument.AssocType} name_of tree.Ident (λ rest tail it is. name_of-Ident rest tail it is) (λ name.
       skip-rest {Second = BeginsType} (λ place. mark (codes "=") place) (mark-length (codes "="))
       (then-rest {Second = AfterArgument} (λ place. parts.ty true) (λ it. close-rest start (λ q. q.0.1) (λ span. generic.AssocType name it span) (λ q span. generic.AssocType name q.1 span)
-          (λ span. rw (print-AssocType, append-nil, append_assoc) refl) (λ span other q ok. rw (bare_argument-AssocType, bare_argument-AssocType, ok.1) refl))
-          (λ rest tail f. f) (λ rest tail f. f))
+      (λ span. rw (print-AssocType, append-nil, append_assoc) refl) (λ span other q ok. rw (bare_argument-AssocType, bare_argument-AssocType, ok.1) refl))
+      (λ rest tail f. f) (λ rest tail f. f))
       (λ input tail place f. equals-name tail place false (type-seen tail f.0).constant))
       (λ input tail name is f. name-begin argument.AssocType name input.rest input.rest tail is f)))
 
@@ -228,8 +221,8 @@ module _ (readers : Readers) (parts : AllBacks readers) where
   constraint-back = whole (here-rest (λ start. take_as-rest {Second = Behind_name argument.Constraint} name_of tree.Ident (λ rest tail it is. name_of-Ident rest tail it is) (λ name.
       skip-rest {Second = Some'} (λ place. mark (codes ":") place) (mark-length (codes ":"))
       (then-rest {Second = AfterArgument} (λ place. parts.bounds place) (λ found. close-rest start (λ q. q.0.1) (λ span. generic.Constraint name found span) (λ q span. generic.Constraint name q.1 span)
-          (λ span. rw (print-Constraint, append-nil, append_assoc) refl) (λ span other q ok. rw (bare_argument-Constraint, bare_argument-Constraint, ok.1) refl))
-          (λ rest tail f. f) (λ rest tail f. f))
+      (λ span. rw (print-Constraint, append-nil, append_assoc) refl) (λ span other q ok. rw (bare_argument-Constraint, bare_argument-Constraint, ok.1) refl))
+      (λ rest tail f. f) (λ rest tail f. f))
       (λ input tail place f. colon-name tail place))
       (λ input tail name is f. name-begin argument.Constraint name input.rest input.rest tail is f)))
 

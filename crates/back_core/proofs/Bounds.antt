@@ -1,31 +1,26 @@
 -- The law of printing for bounds.
-use Rattle.std.proofs.Common.{◌≡◌, ℕ, Bool, true, false, ◌&&◌, not, if◌then◌else◌, List, [], ◌∷◌, ◌++◌, map, length, Option, Some, None, refl, arith, rules, ap, sym, ◌∙◌, append_assoc, append-nil, codes}
+use Rattle.std.proofs.Common.{◌≡◌, Bool, true, false, if◌then◌else◌, [], ◌∷◌, ◌++◌, map, None, refl, append_assoc, append-nil, codes}
 use Rattle.token_core.specs.declared.span.Span.{Span}
-use Rattle.token_core.specs.declared.tree.Delimiter.TheVariants as delimiter
 use Rattle.token_core.specs.declared.tree.TokenTree.TheVariants as tree
-use Rattle.expr_core.specs.declared.generics.TypeParamBound.{TypeParamBound}
 use Rattle.expr_core.specs.declared.generics.TypeParamBound.TheVariants as bound
-use Rattle.grammar_core.specs.declared.word.Word.TheVariants as word
-use Rattle.grammar_core.specs.Input.{Parser, ◌>>=◌, ◌<$>◌, take_as, is_end}
+use Rattle.grammar_core.specs.Input.{◌<$>◌, take_as, is_end}
 use Rattle.grammar_core.specs.Look.{is_there}
 use Rattle.grammar_core.specs.Make as make
 use Rattle.grammar_core.specs.Paths.{trait_bound, one_bound, joined_bounds, bounds}
 use Rattle.grammar_core.specs.Readers.{Readers}
-use Rattle.grammar_core.specs.Token.{is_arrow, is_colon, is_colons, is_equals, is_group, is_less, is_mark, is_pair, is_plus, is_question, lifetime_of, mark_of}
-use Rattle.grammar_core.specs.Words.{sees}
-use Rattle.print_core.specs.Marks.{Trees, joined, mark, plus, word as printed_word}
-use Rattle.print_core.specs.Nodes.{bound_tokens, path_tokens}
-use Rattle.print_core.specs.Paths.{binder as printed_binder}
+use Rattle.grammar_core.specs.Token.{is_plus, is_question, lifetime_of}
+use Rattle.print_core.specs.Marks.{Trees, mark, plus, word as printed_word}
+use Rattle.print_core.specs.Nodes.{bound_tokens}
 use Rattle.bare_core.specs.Bare.{bare_bound}
-use Rattle.bare_core.proofs.Made.{bare_bound-Lifetime, bare_bound-Trait, bare_trait_bound-make}
+use Rattle.bare_core.proofs.Made.{bare_bound-Trait, bare_trait_bound-make}
 use Rattle.front_core.specs.Alike.{Relation}
-use Rattle.back_core.specs.Follow.{AfterPath, AfterType, BeginsPath, Keep, Some'}
+use Rattle.back_core.specs.Follow.{AfterPath, AfterType, BeginsPath, Some'}
 use Rattle.back_core.specs.Printed.{Back}
-use Rattle.back_core.proofs.Arguments.{NoForBut, binder-printed}
-use Rattle.back_core.proofs.Follows.{keep-false, never, path-seen, path_before-plus, type-end}
+use Rattle.back_core.proofs.Arguments.{binder-printed}
+use Rattle.back_core.proofs.Follows.{keep-false, path-seen, path_before-plus, type-end}
 use Rattle.back_core.proofs.Joints.{joined-printed}
 use Rattle.back_core.proofs.Marks.{mark_of-mark, mark-length, lifetime_of-Lifetime, lifetime_of-mark, lifetime_of-word, mark_of-word}
-use Rattle.back_core.proofs.Parts.{AllBacks, bounds_tokens}
+use Rattle.back_core.specs.Parts.{AllBacks, bounds_tokens}
 use Rattle.back_core.proofs.Paths.{path-back}
 use Rattle.back_core.proofs.Prints.{print-bound_lifetime, print-trait_bound}
 use Rattle.back_core.proofs.Steps.{Free, Rest, hole, whole, pure-rest, here-rest, then-rest, exact-rest, close-rest, shown-rest, test-rest}
@@ -53,9 +48,9 @@ module _ (readers : Readers) (parts : AllBacks readers) where
   trait_bound-back = whole (here-rest (λ start. eat-rest {Second = λ b rest tail. BoundSight tail} 1 is_question (λ place. mark (codes "?") place) (mark-length (codes "?")) (λ place tail. rw (mark_of-mark 63 [] place tail) refl) (λ maybe.
       exact-rest {Second = BeginsPath true} (λ place. binder-printed BoundSight place (for-sight place)) (λ lifetimes.
       then-rest {Second = AfterPath true} (λ place. path-back readers parts true) (λ found. close-rest start (λ q. q.0.1) (make.trait_bound maybe lifetimes found) (λ q. make.trait_bound maybe lifetimes q.1)
-          (λ span. rw (print-trait_bound, append-nil, append_assoc) refl) (λ span other q ok. rw (bare_bound-Trait, bare_bound-Trait, bare_trait_bound-make, bare_trait_bound-make, ok.1) refl))
-          (λ rest tail f. f) (λ rest tail f. f))
-          (λ rest tail f. let seen = path-seen tail f.0 in (seen.bound, (seen.some, (seen.question, seen.lifetime)))) (λ rest tail f. f))
+      (λ span. rw (print-trait_bound, append-nil, append_assoc) refl) (λ span other q ok. rw (bare_bound-Trait, bare_bound-Trait, bare_trait_bound-make, bare_trait_bound-make, ok.1) refl))
+      (λ rest tail f. f) (λ rest tail f. f))
+      (λ rest tail f. let seen = path-seen tail f.0 in (seen.bound, (seen.some, (seen.question, seen.lifetime)))) (λ rest tail f. f))
       (λ input tail place seen f. question-living input.rest tail place)
       (λ rest tail seen f. (f.1.0, (f.0, rw (f.1.1) refl)))))
 

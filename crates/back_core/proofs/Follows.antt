@@ -1,12 +1,12 @@
 -- What may follow types and paths in their printing, and what their beginnings tell.
-use Rattle.std.proofs.Common.{◌≡◌, ◌⊎◌, inl, inr, ℕ, Bool, true, false, ◌&&◌, ◌||◌, not, ◌==◌, if◌then◌else◌, List, [], ◌∷◌, ◌++◌, Option, Some, None, refl, arith, rules, ap, sym, ◌∙◌, codes}
-use Rattle.std.proofs.lemmas.Bool.{and_parts, and_left, and_right, both_ways, eqb-true}
+use Rattle.std.proofs.Common.{◌≡◌, ℕ, Bool, true, false, ◌&&◌, ◌||◌, ◌==◌, if◌then◌else◌, List, [], ◌∷◌, ◌++◌, None, refl, codes}
+use Rattle.std.proofs.lemmas.Bool.{and_parts, both_ways, eqb-true}
 use Rattle.token_core.specs.declared.span.Span.{Span}
 use Rattle.token_core.specs.declared.ident.Ident.{Ident}
 use Rattle.token_core.specs.declared.tree.Delimiter.{Delimiter}
 use Rattle.token_core.specs.declared.tree.Delimiter.TheVariants as delimiter
 use Rattle.token_core.specs.declared.tree.Group.{out-Group}
-use Rattle.token_core.specs.declared.tree.TokenTree.{TokenTree, out-TokenTree}
+use Rattle.token_core.specs.declared.tree.TokenTree.{out-TokenTree}
 use Rattle.token_core.specs.declared.tree.TokenTree.TheOpen.{TokenTree-F}
 use Rattle.token_core.specs.declared.tree.TokenTree.TheVariants as tree
 use Rattle.grammar_core.specs.declared.look.ArgumentsStart.TheVariants as arguments
@@ -14,12 +14,12 @@ use Rattle.grammar_core.specs.declared.look.TypeStart.TheVariants as ty
 use Rattle.grammar_core.specs.declared.word.Word.{Word}
 use Rattle.grammar_core.specs.declared.word.Word.TheVariants as word
 use Rattle.grammar_core.specs.Input.{is_end}
-use Rattle.grammar_core.specs.Look.{arguments_start, atom_start, at_level, begins_operand, operand_start, operator_of, postfix_start, begins_constant, is_there, is_bool, type_start, type_word}
-use Rattle.grammar_core.specs.Token.{Layer, same_delimiter, mark_of, mark_in, is_joint, joint_in, is_group, is_group_in, is_pair, is_mark, is_colons, is_turbofish, is_arrow, is_colon, is_equals, is_less, is_plus, after_one, ident_of, ident_in, lifetime_of, lifetime_in, literal_of, literal_in}
-use Rattle.grammar_core.specs.Words.{begins_segment, next_word, word_at, word_of, sees, is_word}
-use Rattle.print_core.specs.Marks.{Trees, mark, is_some, word as printed_word}
+use Rattle.grammar_core.specs.Look.{arguments_start, atom_start, begins_operand, operand_start, operator_of, postfix_start, begins_constant, is_bool, type_start, type_word}
+use Rattle.grammar_core.specs.Token.{Layer, same_delimiter, mark_of, is_joint, is_group, is_pair, is_mark, is_colons, is_turbofish, is_arrow, is_colon, is_equals, is_less, is_plus, ident_of, lifetime_of, literal_of}
+use Rattle.grammar_core.specs.Words.{begins_segment, next_word, word_of, sees, is_word}
+use Rattle.print_core.specs.Marks.{Trees, mark, word as printed_word}
 use Rattle.front_core.specs.Alike.{Relation}
-use Rattle.back_core.specs.Follow.{is_path, Keep, Looser, Named, names, Quiet, AfterPath, AfterSegment, AfterType, Plus, is_type, BeginsType}
+use Rattle.back_core.specs.Follow.{is_path, Keep, Looser, Named, names, Quiet, AfterPath, AfterType, is_type}
 use Rattle.back_core.proofs.Marks.{mark_of-mark, is_joint-mark, is_group-mark, out-Ident}
 
 pub keep-false : (test : Trees → Bool) (rest tail : Trees) → test rest ≡ false → Keep test rest tail → test tail ≡ false
@@ -289,10 +289,13 @@ path-seen (tree ∷ trees) h = by (out-TokenTree tree) refl
 
 pub path_before-plus : (rest tail : Trees) (span : Span) → AfterPath true rest (mark (codes "+") span ++ tail)
 unfolding is_pair
-path_before-plus rest tail span = (never is_colons rest (mark (codes "+") span ++ tail) (rw (is_joint-mark 43 [] span tail) refl), record {
-  less = never is_less rest (mark (codes "+") span ++ tail) (rw (mark_of-mark 43 [] span tail) refl);
-  inputs = never (is_group delimiter.Parenthesis) rest (mark (codes "+") span ++ tail) (is_group-mark 43 [] span tail delimiter.Parenthesis);
-  arrow = never is_arrow rest (mark (codes "+") span ++ tail) (rw (is_joint-mark 43 [] span tail) refl);
-  equals = never is_equals rest (mark (codes "+") span ++ tail) (rw (mark_of-mark 43 [] span tail) refl);
-  colon = never is_colon rest (mark (codes "+") span ++ tail) (rw (mark_of-mark 43 [] span tail) refl);
-})
+path_before-plus rest tail span = (
+  never is_colons rest (mark (codes "+") span ++ tail) (rw (is_joint-mark 43 [] span tail) refl),
+  record {
+    less = never is_less rest (mark (codes "+") span ++ tail) (rw (mark_of-mark 43 [] span tail) refl);
+    inputs = never (is_group delimiter.Parenthesis) rest (mark (codes "+") span ++ tail) (is_group-mark 43 [] span tail delimiter.Parenthesis);
+    arrow = never is_arrow rest (mark (codes "+") span ++ tail) (rw (is_joint-mark 43 [] span tail) refl);
+    equals = never is_equals rest (mark (codes "+") span ++ tail) (rw (mark_of-mark 43 [] span tail) refl);
+    colon = never is_colon rest (mark (codes "+") span ++ tail) (rw (mark_of-mark 43 [] span tail) refl);
+  },
+)

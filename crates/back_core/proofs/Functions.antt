@@ -1,5 +1,5 @@
 -- The law of printing for the types of functions.
-use Rattle.std.proofs.Common.{◌≡◌, ℕ, Bool, true, false, ◌&&◌, if◌then◌else◌, List, [], ◌∷◌, ◌++◌, map, length, Option, Some, None, refl, arith, rules, ap, sym, ◌∙◌, append_assoc, append-nil, codes, option_map}
+use Rattle.std.proofs.Common.{◌≡◌, ℕ, Bool, true, false, ◌&&◌, if◌then◌else◌, List, [], ◌∷◌, ◌++◌, length, Option, Some, None, refl, sym, append_assoc, append-nil, codes}
 use Rattle.token_core.specs.declared.ident.Ident.{Ident}
 use Rattle.token_core.specs.declared.span.Span.{Span}
 use Rattle.token_core.specs.declared.tree.Delimiter.TheVariants as delimiter
@@ -13,26 +13,24 @@ use Rattle.grammar_core.specs.Input.{Parser, ◌>>=◌, pure, upto, is_end}
 use Rattle.grammar_core.specs.Look.{type_start, type_word}
 use Rattle.grammar_core.specs.Make as make
 use Rattle.grammar_core.specs.Readers.{Readers}
-use Rattle.grammar_core.specs.Token.{after_one, ident_of, is_arrow, is_colon, is_colons, is_equals, is_group, is_joint, is_less, is_pair, mark_of}
+use Rattle.grammar_core.specs.Token.{after_one, ident_of, is_colon, is_equals, is_group, is_joint, is_pair, mark_of}
 use Rattle.grammar_core.specs.Types.{arg_name_by, name_before_colon, named_arg, type_fn_ptr}
 use Rattle.grammar_core.specs.Words.{is_name, name_at, name_of, named_words, next_word, other_keywords, sees, word_at, word_of}
-use Rattle.print_core.specs.Kinds.{named_arg_tokens, printed_return}
-use Rattle.print_core.specs.Marks.{Trees, comma, group, ident, joined, mark, word as printed_word}
+use Rattle.print_core.specs.Kinds.{named_arg_tokens}
+use Rattle.print_core.specs.Marks.{Trees, mark, word as printed_word}
 use Rattle.print_core.specs.Nodes.{type_tokens}
-use Rattle.print_core.specs.Paths.{binder as printed_binder, return_of}
-use Rattle.print_core.specs.Types.{maybe_name}
-use Rattle.bare_core.specs.Bare.{bare_ident, bare_named_arg, bare_type}
+use Rattle.bare_core.specs.Bare.{bare_named_arg, bare_type}
 use Rattle.bare_core.proofs.Made.{bare_type-FnPtr}
 use Rattle.front_core.specs.Alike.{Relation, Any}
-use Rattle.back_core.specs.Follow.{AfterType, BeginsType, Keep, Named, Some', names}
+use Rattle.back_core.specs.Follow.{AfterType, BeginsType, Named, Some', names}
 use Rattle.back_core.specs.Printed.{Back}
 use Rattle.back_core.proofs.Arguments.{NoForBut, binder-printed, group-printed, return_type-back}
 use Rattle.back_core.proofs.Follows.{keep-false, never, one_bound, type-end, type_before-mark, type-seen}
-use Rattle.back_core.proofs.Marks.{mark_of-mark, is_joint-mark, mark-length, word-length, name-word, name_of-Ident, next_word-Ident, out-Ident}
-use Rattle.back_core.proofs.Parts.{AllBacks}
+use Rattle.back_core.proofs.Marks.{mark_of-mark, is_joint-mark, mark-length, word-length, name_of-Ident, out-Ident}
+use Rattle.back_core.specs.Parts.{AllBacks}
 use Rattle.back_core.proofs.Prints.{print-fn_ptr}
 use Rattle.back_core.proofs.Steps.{Rest, whole, here-rest, test-rest, then-rest, exact-rest, close-rest}
-use Rattle.back_core.proofs.Takes.{expect-rest, skip_by-rest, is_group-group}
+use Rattle.back_core.proofs.Takes.{expect-rest, skip_by-rest}
 
 -- ---- names before a colon
 
@@ -84,7 +82,7 @@ module _ (readers : Readers) (parts : AllBacks readers) where
       (λ span. sym (append-nil (type_tokens it))) (λ span other q ok. rw (ok.1) refl)) (λ rest tail f. f) (λ rest tail f. f)
   named_by start (Some name) = skip_by-rest {Second = BeginsType} 2 (λ place. tree.Ident name ∷ mark (codes ":") place) (λ place. named-length name place)
       (then-rest {Second = AfterType true} (λ place. parts.ty true) (λ it. close-rest start (λ q. q.0.1) (make.named_arg (Some name) it) (λ q. make.named_arg (Some name) q.1)
-          (λ span. rw append-nil refl) (λ span other q ok. rw (ok.1) refl)) (λ rest tail f. f) (λ rest tail f. f))
+      (λ span. rw append-nil refl) (λ span other q ok. rw (ok.1) refl)) (λ rest tail f. f) (λ rest tail f. f))
       (λ input tail place f. (refl, λ is. named-colon input.rest tail name place is))
     where
       named-length : (name : Ident) (place : Span) → length (tree.Ident name ∷ mark (codes ":") place) ≡ 2
@@ -126,8 +124,8 @@ module _ (readers : Readers) (parts : AllBacks readers) where
       expect-rest {Second = Any} 1 (sees word.Fn) (λ place. printed_word (codes "fn") place) (word-length (codes "fn")) (λ place tail. rw (sees-fn place tail) refl)
       (then-rest {Start = Any} {Middle = Any} {Second = Any} (λ place. group-printed delimiter.Parenthesis named_arg-back (λ rest tail f. f) (type-end true) (λ rest tail span. type_before-mark 44 refl refl refl refl span rest tail true) place (λ rest inner tail own. tt)) (λ inputs.
       then-rest {Second = AfterType many} (λ place. return_type-back readers parts place) (λ output. close-rest start (λ q. q.0.0.1) (make.type_fn_ptr lifetimes inputs output) (λ q. make.type_fn_ptr lifetimes q.0.1 q.1)
-          (λ span. rw (print-fn_ptr, append-nil, append_assoc, append_assoc) refl) (λ span other q ok. rw (bare_type-FnPtr, bare_type-FnPtr, ok.0.1, ok.1) refl))
-          (λ rest tail f. one_bound many rest tail f) (λ rest tail f. tt))
+      (λ span. rw (print-fn_ptr, append-nil, append_assoc, append_assoc) refl) (λ span other q ok. rw (bare_type-FnPtr, bare_type-FnPtr, ok.0.1, ok.1) refl))
+      (λ rest tail f. one_bound many rest tail f) (λ rest tail f. tt))
       (λ rest tail f. tt) (λ rest tail f. tt))
       (λ input tail place seen f. (rw (sees-fn place tail) refl, fn-sight place tail)))
       (λ rest tail f. f)

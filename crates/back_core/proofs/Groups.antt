@@ -1,13 +1,12 @@
 -- The law of printing for what stands in parentheses: nothing, one item and no comma, or a list. Over any item.
-use Rattle.std.proofs.Common.{◌≡◌, ◌⊎◌, inl, inr, ℕ, suc, ◌≤◌, Bool, true, false, ◌==◌, if◌then◌else◌, List, [], ◌∷◌, ◌++◌, map, length, Option, Some, None, refl, arith, ap, sym, subst, ◌∙◌, append_assoc, append-nil, length-append}
+use Rattle.std.proofs.Common.{◌≡◌, ◌⊎◌, inl, inr, ℕ, suc, ◌≤◌, Bool, true, false, ◌==◌, if◌then◌else◌, List, [], ◌∷◌, ◌++◌, map, length, Some, refl, arith, subst, append_assoc, append-nil, length-append}
 use Rattle.std.proofs.lemmas.Bool.Decides.{nat_tests}
 use Rattle.std.proofs.lemmas.Option.{some_pair_parts}
 use Rattle.token_core.specs.declared.span.Span.{Span}
-use Rattle.token_core.specs.declared.span.Span.TheVariants.{CallSite}
 use Rattle.token_core.specs.declared.tree.Delimiter.TheVariants as delimiter
-use Rattle.grammar_core.specs.Input.{Input, Outcome, Parser, ◌>>=◌, ◌<$>◌, pure, after_eat, at_end, eat, is_end, items_from, items_after}
+use Rattle.grammar_core.specs.Input.{Input, Parser, ◌>>=◌, ◌<$>◌, pure, after_eat, at_end, eat, is_end, items_from, items_after}
 use Rattle.grammar_core.specs.Token.{is_comma, mark_of}
-use Rattle.print_core.specs.Marks.{Trees, after, comma, ended, group, joined, tuple}
+use Rattle.print_core.specs.Marks.{Trees, after, comma, group, joined, tuple}
 use Rattle.front_core.specs.Alike.{Relation, Any}
 use Rattle.front_core.specs.Front.{at}
 use Rattle.back_core.specs.Printed.{Again, Reads, Printed}

@@ -1,8 +1,8 @@
 -- The law of printing for items that a mark joins, over any item and any mark.
-use Rattle.std.proofs.Common.{◌≡◌, ◌⊎◌, inl, inr, ℕ, zero, suc, ◌≤◌, Bool, true, false, if◌then◌else◌, List, [], ◌∷◌, ◌++◌, length, map, Option, Some, None, refl, arith, sym, subst, ◌∙◌, append_assoc, append-nil, length-append}
+use Rattle.std.proofs.Common.{◌≡◌, ℕ, zero, suc, ◌≤◌, Bool, true, false, if◌then◌else◌, List, [], ◌∷◌, ◌++◌, length, map, Some, refl, arith, sym, subst, ◌∙◌, append_assoc, length-append}
 use Rattle.std.proofs.lemmas.Option.{some_pair_parts}
 use Rattle.token_core.specs.declared.span.Span.{Span}
-use Rattle.grammar_core.specs.Input.{Input, Outcome, Parser, ◌>>=◌, pure, skipped, after_eat, eat, is_end, joined_from, joined_by}
+use Rattle.grammar_core.specs.Input.{Input, Parser, ◌>>=◌, pure, skipped, after_eat, eat, is_end, joined_from, joined_by}
 use Rattle.print_core.specs.Marks.{Trees, joined, ended}
 use Rattle.front_core.specs.Alike.{Relation}
 use Rattle.front_core.specs.Front.{at}
@@ -54,7 +54,7 @@ module _ {A C : Type 0} (bare : A → C) (print : A → Trees) (count : ℕ) (ho
           let more = one.again (separator ++ (two.tokens ++ tail)) last behind in
           let stands = skipped-over count separator (two.tokens ++ tail) more.new sizes in
           let rest = two.again turns (others ++ more.value ∷ []) (same-push bare others found more.value x same more.same) tail stands.0
-              (omega (arith, some-length (print x) (starts input.rest (print x ++ []) (one.first [] (ends after.rest))), length-append (print x) (separator ++ two.tokens), length-append separator two.tokens)) f in
+          (omega (arith, some-length (print x) (starts input.rest (print x ++ []) (one.first [] (ends after.rest))), length-append (print x) (separator ++ two.tokens), length-append separator two.tokens)) f in
           record {
             value = rest.value;
             new = rest.new;

@@ -5,7 +5,6 @@ pub mod Lists
 pub mod Joints
 pub mod Follows
 pub mod Prints
-pub mod Parts
 pub mod Arguments
 pub mod Paths
 pub mod Bounds

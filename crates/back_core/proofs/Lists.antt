@@ -1,11 +1,10 @@
 -- The law of printing for lists, over any item.
-use Rattle.std.proofs.Common.{◌≡◌, ◌⊎◌, inl, inr, ℕ, zero, suc, ◌+◌, ◌≤◌, Bool, true, false, if◌then◌else◌, List, [], ◌∷◌, ◌++◌, length, map, Option, Some, None, refl, arith, ap, sym, subst, ◌∙◌, ◌==◌, append_assoc, append-nil, length-append}
+use Rattle.std.proofs.Common.{◌≡◌, ◌⊎◌, inl, inr, ℕ, zero, suc, ◌≤◌, Bool, true, false, if◌then◌else◌, List, [], ◌∷◌, ◌++◌, length, map, Some, None, refl, arith, sym, subst, ◌∙◌, ◌==◌, append_assoc, append-nil, length-append}
 use Rattle.std.proofs.lemmas.List.{map-append}
 use Rattle.std.proofs.lemmas.Bool.{eq-eqb}
 use Rattle.std.proofs.lemmas.Option.{some_pair_parts}
 use Rattle.token_core.specs.declared.span.Span.{Span}
-use Rattle.token_core.specs.declared.tree.TokenTree.{TokenTree}
-use Rattle.grammar_core.specs.Input.{Input, Outcome, Parser, and_then, ◌>>=◌, ◌>>◌, pure, skipped, after_eat, eat, expect, is_end, items_from, items_after, until_from, until, joined_from, joined_by, by_turns}
+use Rattle.grammar_core.specs.Input.{Input, Outcome, Parser, and_then, ◌>>=◌, ◌>>◌, pure, skipped, after_eat, eat, expect, is_end, items_from, items_after, until_from, until}
 use Rattle.grammar_core.specs.Token.{is_comma, is_mark}
 use Rattle.print_core.specs.Marks.{Trees, comma, joined, after, ended, mark}
 use Rattle.front_core.specs.Alike.{Relation, Any}
@@ -73,7 +72,6 @@ module _ {A C : Type 0} (bare : A → C) (print : A → Trees) (item other : Par
   }
     where
       go : (turns : ℕ) (others : List A) → map bare others ≡ map bare found → (tail : Trees) (last : Span) → length (print x) ≤ turns → tail ≡ [] → Again (map bare) (items_from other turns others) (at (print x ++ tail) last) tail (found ++ x ∷ [])
-
       go zero others same tail last fits f = absurd (omega (arith, some-length (print x) (starts input.rest (print x ++ []) (one.first [] (ends after.rest)))))
       go (suc turns) others same tail last fits f = rw f read
         where

@@ -1,5 +1,5 @@
 -- How the rules see the tokens that the printing makes.
-use Rattle.std.proofs.Common.{◌≡◌, ℕ, suc, Bool, true, false, ◌&&◌, ◌||◌, not, ◌==◌, if◌then◌else◌, List, [], ◌∷◌, ◌++◌, length, Option, Some, None, refl, arith, rules, ap, sym, ◌∙◌, codes}
+use Rattle.std.proofs.Common.{◌≡◌, ℕ, suc, true, false, List, [], ◌∷◌, ◌++◌, length, Option, Some, None, refl, rules, ap, codes}
 use Rattle.token_core.specs.declared.ident.Ident.{Ident}
 use Rattle.token_core.specs.declared.ident.Lifetime.{Lifetime}
 use Rattle.token_core.specs.declared.span.Span.{Span}
@@ -7,12 +7,12 @@ use Rattle.token_core.specs.declared.tree.Delimiter.{Delimiter}
 use Rattle.token_core.specs.declared.tree.Group.{Group}
 use Rattle.token_core.specs.declared.tree.Literal.{Literal}
 use Rattle.token_core.specs.declared.tree.Punct.{Punct}
-use Rattle.token_core.specs.declared.tree.TokenTree.{TokenTree, out-TokenTree, the_lemmas}
+use Rattle.token_core.specs.declared.tree.TokenTree.{out-TokenTree, the_lemmas}
 use Rattle.token_core.specs.declared.tree.TokenTree.TheOpen.{TokenTree-F}
 use Rattle.token_core.specs.declared.tree.TokenTree.TheVariants as tree
 use Rattle.grammar_core.specs.declared.word.Word.{Word}
 use Rattle.grammar_core.specs.declared.word.Word.TheVariants as word
-use Rattle.grammar_core.specs.Token.{same_delimiter, mark_of, is_joint, is_group, is_pair, is_mark, is_colons, is_turbofish, is_arrow, is_comma, is_less, is_colon, after_one, ident_of, lifetime_of, literal_of}
+use Rattle.grammar_core.specs.Token.{same_delimiter, mark_of, is_joint, is_group, is_pair, is_colons, is_arrow, is_comma, after_one, ident_of, lifetime_of, literal_of}
 use Rattle.grammar_core.specs.Words.{begins_segment, segment_at, segment_word, name_at, name_of, next_word, word_of, word_at}
 use Rattle.print_core.specs.Marks.{Trees, group, mark, is_some, word as printed_word, comma, colons}
 

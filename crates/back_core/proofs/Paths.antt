@@ -1,11 +1,10 @@
 -- The law of printing for paths and bounds.
-use Rattle.std.proofs.Common.{◌≡◌, ℕ, Bool, true, false, ◌&&◌, ◌||◌, if◌then◌else◌, List, [], ◌∷◌, ◌++◌, map, length, Option, Some, None, refl, arith, rules, ap, sym, subst, ◌∙◌, append_assoc, append-nil, codes, length-append}
+use Rattle.std.proofs.Common.{◌≡◌, Bool, true, false, if◌then◌else◌, List, [], ◌∷◌, ◌++◌, map, Some, refl, ap, subst, append_assoc, append-nil, codes, length-append}
 use Rattle.std.proofs.lemmas.Bool.{and_parts}
 use Rattle.std.proofs.lemmas.Option.{some_pair_parts}
 use Rattle.token_core.specs.declared.ident.Ident.{Ident}
 use Rattle.token_core.specs.declared.span.Span.{Span}
 use Rattle.token_core.specs.declared.tree.Delimiter.TheVariants as delimiter
-use Rattle.token_core.specs.declared.tree.TokenTree.{TokenTree}
 use Rattle.token_core.specs.declared.tree.TokenTree.TheVariants as tree
 use Rattle.expr_core.specs.declared.path.GenericArgument.{GenericArgument}
 use Rattle.expr_core.specs.declared.path.PathArguments.{PathArguments}
@@ -13,31 +12,27 @@ use Rattle.expr_core.specs.declared.path.PathArguments.TheVariants as made
 use Rattle.expr_core.specs.declared.path.PathSegment.{PathSegment}
 use Rattle.grammar_core.specs.declared.look.ArgumentsStart.{ArgumentsStart}
 use Rattle.grammar_core.specs.declared.look.ArgumentsStart.TheVariants as begin
-use Rattle.grammar_core.specs.declared.word.Word.{Word}
-use Rattle.grammar_core.specs.declared.word.Word.TheVariants as word
-use Rattle.grammar_core.specs.Input.{Input, Outcome, Parser, and_then, ◌>>=◌, ◌>>◌, ◌<$>◌, pure, next, next_at, skipped, eat, is_end}
+use Rattle.grammar_core.specs.Input.{Input, ◌<$>◌, pure, next, next_at, skipped}
 use Rattle.grammar_core.specs.Look.{arguments_start}
 use Rattle.grammar_core.specs.Make as make
 use Rattle.grammar_core.specs.Paths.{angle_list, generic_argument, arguments_by, arguments, segment, segments, path, parenthesized}
 use Rattle.grammar_core.specs.Readers.{Readers}
 use Rattle.grammar_core.specs.Token.{after_one, is_arrow, is_colon, is_colons, is_equals, is_group, is_less, is_pair, is_turbofish}
-use Rattle.grammar_core.specs.Words.{begins_segment, is_name, next_word, segment_word, word_of}
+use Rattle.grammar_core.specs.Words.{is_name, next_word, segment_word, word_of}
 use Rattle.print_core.specs.declared.path.PathStyle.{PathStyle}
 use Rattle.print_core.specs.declared.path.PathStyle.TheVariants.{Plain, Turbofish}
-use Rattle.print_core.specs.Marks.{Trees, colons, comma, group, ident, joined, mark}
+use Rattle.print_core.specs.Marks.{Trees, colons, comma, joined, mark}
 use Rattle.print_core.specs.Nodes.{argument_tokens, arguments_tokens, path_tokens, segment_tokens}
-use Rattle.print_core.specs.Paths.{Styled, in_style, before_arguments}
+use Rattle.print_core.specs.Paths.{in_style}
 use Rattle.bare_core.specs.Bare.{bare_argument, bare_arguments, bare_path, bare_segment}
 use Rattle.bare_core.proofs.Made.{bare_arguments-AngleBracketed, bare_path-make, bare_segment-make}
-use Rattle.front_core.specs.Alike.{Relation, Any}
-use Rattle.front_core.specs.Front.{at}
-use Rattle.back_core.specs.Follow.{AfterPath, AfterSegment, AfterType, Behind, BeginsPath, BeginsSegment, Ends, Keep, Named, Quiet, is_path, names}
-use Rattle.back_core.specs.Printed.{Again, Reads, Printed, Back}
+use Rattle.back_core.specs.Follow.{AfterPath, AfterSegment, AfterType, Behind, BeginsPath, BeginsSegment, Keep, Quiet, names}
+use Rattle.back_core.specs.Printed.{Reads, Back}
 use Rattle.back_core.proofs.Arguments.{generic_arguments-back, parenthesized-back}
 use Rattle.back_core.proofs.Follows.{fish-colons, group-seen, keep-false, never, no-colons, segment-seen, type-end, unnamed}
 use Rattle.back_core.proofs.Joints.{joined-printed}
-use Rattle.back_core.proofs.Marks.{segment-word, segment_word-Ident, mark_of-mark, is_joint-mark, after_one-mark, is_group-mark, mark-length, next_word-mark, next_word-Ident, is_colons-colons}
-use Rattle.back_core.proofs.Parts.{AllBacks}
+use Rattle.back_core.proofs.Marks.{segment-word, segment_word-Ident, mark_of-mark, is_joint-mark, is_group-mark, mark-length, next_word-mark, next_word-Ident, is_colons-colons}
+use Rattle.back_core.specs.Parts.{AllBacks}
 use Rattle.back_core.proofs.Prints.{print-AngleBracketed, print-None, print-segment, path_parts-make}
 use Rattle.back_core.proofs.Steps.{bind-at, whole, here-rest, then-rest, close-rest}
 use Rattle.back_core.proofs.Takes.{skipped-over, take_as-rest, eat-rest}
@@ -219,8 +214,8 @@ module _ (readers : Readers) (parts' : AllBacks readers) where
   unfolding segment
   segment-back in_type = whole (here-rest (λ start. take_as-rest {Second = Behind in_type} segment_word tree.Ident (λ rest tail it is. segment_word-Ident rest tail it is) (λ name.
       then-rest {Second = AfterSegment in_type} (λ place. arguments-back in_type place) (λ found. close-rest start (λ q. q.0.1) (make.segment name found) (λ q. make.segment name q.1)
-          (λ span. rw (print-segment name found span (style_of in_type), append-nil) refl) (λ span other q ok. rw (bare_segment-make, bare_segment-make, ok.1) refl))
-          (λ rest tail f. f) (λ rest tail f. f))
+      (λ span. rw (print-segment name found span (style_of in_type), append-nil) refl) (λ span other q ok. rw (bare_segment-make, bare_segment-make, ok.1) refl))
+      (λ rest tail f. f) (λ rest tail f. f))
       (λ input tail name is f. segment-begin in_type input tail name is f)))
 
   pub segments-back : (in_type : Bool) (span : Span) → Back (map bare_segment) (λ items. joined (colons span) (map (λ it. segment_tokens it (style_of in_type)) items)) (BeginsSegment in_type) (AfterPath in_type) (segments readers in_type)
@@ -234,7 +229,7 @@ module _ (readers : Readers) (parts' : AllBacks readers) where
   unfolding path
   path-back in_type = whole (here-rest (λ start. eat-rest {Second = λ b. BeginsSegment in_type} 2 is_colons (λ place. colons place) (mark-length (codes "::")) (λ place tail. is_colons-colons tail place) (λ leading.
       then-rest {Second = AfterPath in_type} (λ place. segments-back in_type place) (λ found. close-rest start (λ q. q.0.1) (make.path leading found) (λ q. make.path leading q.1)
-          (λ span. rw (path_parts-make leading found span, append-nil, styled found (style_of in_type)) refl) (λ span other q ok. rw (bare_path-make, bare_path-make, ok.1) refl))
-          (λ rest tail f. f) (λ rest tail f. f))
+      (λ span. rw (path_parts-make leading found span, append-nil, styled found (style_of in_type)) refl) (λ span other q ok. rw (bare_path-make, bare_path-make, ok.1) refl))
+      (λ rest tail f. f) (λ rest tail f. f))
       (λ input tail place seen f. colons-begin in_type input.rest tail place)
       (λ rest tail seen f. ((segment-seen tail f.0).colons, (rw ((segment-seen tail f.0).colons, f.0) refl, f.1)))))

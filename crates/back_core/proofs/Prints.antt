@@ -1,5 +1,5 @@
 -- What each node of a path or a type prints, with its parts from left to right.
-use Rattle.std.proofs.Common.{◌≡◌, ℕ, Bool, true, false, if◌then◌else◌, ◌==◌, List, [], ◌∷◌, ◌++◌, map, take, drop, Option, Some, None, refl, rules, ap, sym, ◌∙◌, append_assoc, append-nil, codes}
+use Rattle.std.proofs.Common.{◌≡◌, Bool, if◌then◌else◌, List, [], ◌∷◌, ◌++◌, map, Option, Some, None, refl, ap, codes}
 use Rattle.std.specs.Option.{option_map}
 use Rattle.token_core.specs.declared.ident.Ident.{Ident}
 use Rattle.token_core.specs.declared.ident.Lifetime.{Lifetime}
@@ -21,11 +21,11 @@ use Rattle.expr_core.specs.declared.ty.ReturnType.{ReturnType}
 use Rattle.expr_core.specs.declared.ty.ReturnType.TheVariants as return
 use Rattle.grammar_core.specs.Make as make
 use Rattle.print_core.specs.declared.path.PathStyle.{PathStyle}
-use Rattle.print_core.specs.declared.path.PathStyle.TheVariants.{Plain, Turbofish}
+use Rattle.print_core.specs.declared.path.PathStyle.TheVariants.{Plain}
 use Rattle.print_core.specs.Kinds.{printed_arg, printed_return, named_arg_tokens}
-use Rattle.print_core.specs.Marks.{Trees, ident, lifetime, mark, word, group, comma, plus, colons, joined, tuple, optional}
-use Rattle.print_core.specs.Nodes.{expr_tokens, bound_tokens, argument_tokens, arguments_tokens, type_tokens, trait_bound_tokens, path_parts, segment_tokens, path_tokens}
-use Rattle.print_core.specs.Paths.{Arguments, PathParts, angled, binder, before_arguments, return_of, sum_of, segment_rule, qualified, path_in, after_type}
+use Rattle.print_core.specs.Marks.{Trees, ident, lifetime, mark, word, group, comma, joined, tuple, optional}
+use Rattle.print_core.specs.Nodes.{expr_tokens, bound_tokens, argument_tokens, arguments_tokens, type_tokens, path_parts, segment_tokens, path_tokens}
+use Rattle.print_core.specs.Paths.{Arguments, angled, binder, before_arguments, return_of, sum_of, segment_rule, after_type}
 use Rattle.print_core.specs.Types.{mutability, named_arg_rule}
 
 -- ---- types

@@ -1,5 +1,5 @@
 -- The law of printing for paths with a type in front.
-use Rattle.std.proofs.Common.{◌≡◌, ℕ, suc, ◌≤◌, Bool, true, false, ◌==◌, if◌then◌else◌, List, [], ◌∷◌, ◌++◌, map, take, drop, length, Option, Some, None, refl, arith, ap, sym, ◌∙◌, append_assoc, append-nil, codes}
+use Rattle.std.proofs.Common.{◌≡◌, ℕ, ◌≤◌, Bool, true, false, ◌==◌, if◌then◌else◌, List, [], ◌∷◌, ◌++◌, map, take, drop, length, Some, refl, arith, ap, sym, ◌∙◌, append_assoc, append-nil, codes}
 use Rattle.std.proofs.lemmas.Bool.Decides.{nat_tests}
 use Rattle.std.proofs.lemmas.List.{map-append, length-map}
 use Rattle.token_core.specs.declared.span.Span.{Span}
@@ -10,12 +10,12 @@ use Rattle.expr_core.specs.declared.path.QSelf.{QSelf}
 use Rattle.expr_core.specs.declared.ty.«Type».{«Type» as Ty}
 use Rattle.grammar_core.specs.declared.look.TypeStart.TheVariants as begin
 use Rattle.grammar_core.specs.declared.word.Word.TheVariants as word
-use Rattle.grammar_core.specs.Input.{Input, Parser, eat}
+use Rattle.grammar_core.specs.Input.{Input, eat}
 use Rattle.grammar_core.specs.Look.{type_start}
 use Rattle.grammar_core.specs.Make as make
 use Rattle.grammar_core.specs.Paths.{after_as, without_as, qualified, segment, segments}
 use Rattle.grammar_core.specs.Readers.{Readers}
-use Rattle.grammar_core.specs.Token.{is_colons, is_greater, is_less, is_pair}
+use Rattle.grammar_core.specs.Token.{is_colons, is_greater, is_less}
 use Rattle.grammar_core.specs.Words.{named_words, next_word, other_keywords, sees, word_of}
 use Rattle.grammar_core.specs.Token.{ident_of}
 use Rattle.print_core.specs.declared.path.PathStyle.{PathStyle}
@@ -30,8 +30,8 @@ use Rattle.back_core.specs.Follow.{AfterPath, AfterType, BeginsSegment, BeginsTy
 use Rattle.back_core.specs.Printed.{Back}
 use Rattle.back_core.proofs.Follows.{segment-seen, type_before-mark, type_before-word, unnamed}
 use Rattle.back_core.proofs.Joints.{joined-some}
-use Rattle.back_core.proofs.Marks.{is_colons-colons, is_group-mark, is_joint-mark, mark-length, mark_of-mark, next_word-mark, out-Ident, word-length}
-use Rattle.back_core.proofs.Parts.{AllBacks}
+use Rattle.back_core.proofs.Marks.{is_colons-colons, is_group-mark, mark-length, mark_of-mark, next_word-mark, out-Ident, word-length}
+use Rattle.back_core.specs.Parts.{AllBacks}
 use Rattle.back_core.proofs.Paths.{segments-back, style_of, styled}
 use Rattle.back_core.proofs.Prints.{path_parts-make}
 use Rattle.back_core.proofs.Steps.{Rest, whole, pure-rest, here-rest, upto-rest, then-rest, sure-rest}
@@ -66,8 +66,13 @@ print-after_as : (before behind : List PathSegment) (leading : Bool) (qspan span
     → after_type (length before) qspan style (path_parts (make.path leading (before ++ behind) span))
     ≡ printed_word (codes "as") qspan ++ ((if leading then colons span else []) ++ (joined (colons span) (map (λ it. segment_tokens it Plain) before) ++ (mark (codes ">") qspan ++ (colons span ++ joined (colons span) (map (λ it. segment_tokens it style) behind)))))
 print-after_as before behind leading qspan span style some others =
-    rw (path_parts-make leading (before ++ behind) span, not-zero (length before) some, taken before behind, dropped before behind style,
-      after-some (colons span) (map (λ it. segment_tokens it style) behind) (rw (length-map behind (λ it. segment_tokens it style)) others)) (rw (append_assoc, append_assoc, append_assoc) refl)
+    rw (
+      path_parts-make leading (before ++ behind) span,
+      not-zero (length before) some,
+      taken before behind,
+      dropped before behind style,
+      after-some (colons span) (map (λ it. segment_tokens it style) behind) (rw (length-map behind (λ it. segment_tokens it style)) others),
+    ) (rw (append_assoc, append_assoc, append_assoc) refl)
 
 less-begin : (rest tail : Trees) (span : Span) → (type_start (mark (codes "<") span ++ tail) ≡ begin.Qualified) × Named true rest (mark (codes "<") span ++ tail)
 unfolding type_start
@@ -101,12 +106,12 @@ module _ (readers : Readers) (parts : AllBacks readers) where
   unfolding without_as
   without_as-rest in_type start it = expect-rest {Second = Any} 1 is_greater (λ place. mark (codes ">") place.0) (λ place. mark-length (codes ">") place.0) (λ place tail. rw (mark_of-mark 62 [] place.0 tail) refl)
       (upto-rest start (λ q. q.0.1) (λ qspan. here-rest (λ path_start. expect-rest {Second = BeginsSegment in_type} 2 is_colons (λ place. colons place.1) (λ place. mark-length (codes "::") place.1) (λ place tail. is_colons-colons tail place.1)
-          (then-rest {Second = AfterPath in_type} (λ place. segments-back readers parts in_type place.1) (λ behind. upto-rest path_start (λ q. q.0.1) (λ span. pure-rest (qspan, span) (make.qself it 0 qspan, make.path true behind span)
-              (λ q. (make.qself q.0.0.0.0.1 0 q.0.0.0.1, make.path true q.0.1 q.1))
-              (rw (path_parts-make true behind span, styled behind (style_of in_type), append-nil, append_assoc) refl)
-              (λ q ok. rw (bare_path-make, bare_path-make, ok.1, ok.0.1) refl)))
-              (λ rest tail f. f) (λ rest tail f. f))
-          (λ input tail place seen f. tt))))
+      (then-rest {Second = AfterPath in_type} (λ place. segments-back readers parts in_type place.1) (λ behind. upto-rest path_start (λ q. q.0.1) (λ span. pure-rest (qspan, span) (make.qself it 0 qspan, make.path true behind span)
+      (λ q. (make.qself q.0.0.0.0.1 0 q.0.0.0.1, make.path true q.0.1 q.1))
+      (rw (path_parts-make true behind span, styled behind (style_of in_type), append-nil, append_assoc) refl)
+      (λ q ok. rw (bare_path-make, bare_path-make, ok.1, ok.0.1) refl)))
+      (λ rest tail f. f) (λ rest tail f. f))
+      (λ input tail place seen f. tt))))
       (λ input tail place seen f. (rw (next_word-mark 62 [] place.0 tail) refl, type_before-mark 62 refl refl refl refl place.0 input.rest tail true))
 
   after_as-rest : (in_type : Bool) (start : Span) (it : Ty)
@@ -116,13 +121,13 @@ module _ (readers : Readers) (parts : AllBacks readers) where
       sure-rest {Second = λ rest tail. AfterPath true rest tail} (λ place. segments-back readers parts true place.1) (segments-some true) (λ before some.
       expect-rest {Second = Any} 1 is_greater (λ place. mark (codes ">") place.0) (λ place. mark-length (codes ">") place.0) (λ place tail. rw (mark_of-mark 62 [] place.0 tail) refl)
       (upto-rest start (λ q. q.0.0.0.1) (λ qspan. expect-rest {Second = BeginsSegment in_type} 2 is_colons (λ place. colons place.1) (λ place. mark-length (codes "::") place.1) (λ place tail. is_colons-colons tail place.1)
-          (sure-rest {Second = AfterPath in_type} (λ place. segments-back readers parts in_type place.1) (segments-some in_type) (λ behind others. upto-rest path_start (λ q. q.0.0.0.1) (λ span.
-              pure-rest (qspan, span) (make.qself it (length before) qspan, make.path leading (before ++ behind) span)
-              (λ q. (make.qself q.0.0.0.0.0.1 (length q.0.0.0.1) q.0.0.1, make.path leading (q.0.0.0.1 ++ q.0.1) q.1))
-              (rw (print-after_as before behind leading qspan span (style_of in_type) some others, append-nil, append_assoc) refl)
-              (λ q ok. rw (bare_path-make, bare_path-make, map-append, map-append, same-length q.0.0.0.1 before ok.0.1, ok.1, ok.0.1, ok.0.0.1) refl)))
-              (λ rest tail f. f) (λ rest tail f. f))
-          (λ input tail place seen f. tt)))
+      (sure-rest {Second = AfterPath in_type} (λ place. segments-back readers parts in_type place.1) (segments-some in_type) (λ behind others. upto-rest path_start (λ q. q.0.0.0.1) (λ span.
+      pure-rest (qspan, span) (make.qself it (length before) qspan, make.path leading (before ++ behind) span)
+      (λ q. (make.qself q.0.0.0.0.0.1 (length q.0.0.0.1) q.0.0.1, make.path leading (q.0.0.0.1 ++ q.0.1) q.1))
+      (rw (print-after_as before behind leading qspan span (style_of in_type) some others, append-nil, append_assoc) refl)
+      (λ q ok. rw (bare_path-make, bare_path-make, map-append, map-append, same-length q.0.0.0.1 before ok.0.1, ok.1, ok.0.1, ok.0.0.1) refl)))
+      (λ rest tail f. f) (λ rest tail f. f))
+      (λ input tail place seen f. tt)))
       (λ input tail place seen f. (type_before-mark 62 refl refl refl refl place.0 input.rest tail true).0))
       (λ rest tail f. f) (λ rest tail f. f))
       (λ input tail place seen f. tt)
@@ -132,8 +137,8 @@ module _ (readers : Readers) (parts : AllBacks readers) where
   unfolding qualified
   qualified-back in_type = whole (here-rest (λ start. expect-rest {Second = BeginsType} 1 is_less (λ place. mark (codes "<") place.0) (λ place. mark-length (codes "<") place.0) (λ place tail. rw (mark_of-mark 60 [] place.0 tail) refl)
       (then-rest {Second = AfterType true} (λ place. parts.ty true) (λ it. eat_or-rest {Yes = Any} {No = Closed} 1 (sees word.As) (λ place. printed_word (codes "as") place.0) (λ place. word-length (codes "as") place.0) (λ place tail. rw (sees-as place.0 tail) refl)
-          (after_as-rest in_type start it) (without_as-rest in_type start it)
-          (λ input tail place seen f. type_before-word (codes "as") place.0 true input.rest tail)
-          (λ rest tail seen f. f))
-          (λ rest tail f. f) (λ rest tail f. f))
+      (after_as-rest in_type start it) (without_as-rest in_type start it)
+      (λ input tail place seen f. type_before-word (codes "as") place.0 true input.rest tail)
+      (λ rest tail seen f. f))
+      (λ rest tail f. f) (λ rest tail f. f))
       (λ input tail place seen f. less-begin input.rest tail place.0)))

@@ -1,14 +1,13 @@
 -- The law of printing for the steps that every rule is made of.
-use Rattle.std.proofs.Common.{◌≡◌, ℕ, zero, suc, Bool, true, false, if◌then◌else◌, List, [], ◌∷◌, ◌++◌, length, Option, Some, None, refl, arith, ap, sym, subst, ◌∙◌, append_assoc, append-nil}
-use Rattle.std.proofs.lemmas.Option.{some_pair_parts, cond_some}
+use Rattle.std.proofs.Common.{◌≡◌, Bool, true, false, if◌then◌else◌, [], ◌++◌, Some, None, refl, ap, sym, subst, ◌∙◌, append_assoc}
+use Rattle.std.proofs.lemmas.Option.{some_pair_parts}
 use Rattle.token_core.specs.Span.{joined}
 use Rattle.token_core.specs.declared.span.Span.{Span}
-use Rattle.token_core.specs.declared.tree.TokenTree.{TokenTree}
 use Rattle.grammar_core.specs.Input.{Input, Outcome, Parser, and_then, ◌>>=◌, pure, refuse, test, here, first_span, upto}
 use Rattle.print_core.specs.Marks.{Trees}
 use Rattle.front_core.specs.Alike.{Relation}
 use Rattle.front_core.specs.Front.{at}
-use Rattle.back_core.specs.Printed.{Again, Reads, Printed, Back}
+use Rattle.back_core.specs.Printed.{Again, Reads, Printed}
 
 -- ---- what is left of a rule
 

@@ -1,21 +1,18 @@
 -- The law of printing for the steps that take tokens.
-use Rattle.std.proofs.Common.{◌≡◌, ℕ, zero, suc, Bool, true, false, if◌then◌else◌, List, [], ◌∷◌, ◌++◌, length, Option, Some, None, refl, arith, rules, ap, sym, subst, ◌∙◌, append_assoc, append-nil}
+use Rattle.std.proofs.Common.{◌≡◌, ℕ, zero, suc, Bool, true, false, if◌then◌else◌, [], ◌∷◌, ◌++◌, length, Option, Some, None, refl, arith, rules, ap, ◌∙◌, append_assoc, append-nil}
 use Rattle.std.proofs.lemmas.Option.{some_pair_parts}
 use Rattle.token_core.specs.declared.span.Span.{Span}
 use Rattle.token_core.specs.declared.span.Span.TheVariants.{CallSite}
 use Rattle.token_core.specs.declared.tree.Delimiter.{Delimiter}
 use Rattle.token_core.specs.declared.tree.Delimiter.TheVariants as delimiter
-use Rattle.token_core.specs.declared.tree.Group.{out-Group}
-use Rattle.token_core.specs.declared.tree.TokenStream.{out-TokenStream}
-use Rattle.token_core.specs.declared.tree.TokenTree.{TokenTree, out-TokenTree, the_lemmas}
-use Rattle.token_core.specs.declared.tree.TokenTree.TheOpen.{TokenTree-F}
+use Rattle.token_core.specs.declared.tree.TokenTree.{TokenTree, the_lemmas}
 use Rattle.grammar_core.specs.Input.{Input, Outcome, Parser, and_then, ◌>>=◌, next, skipped, skip, skip_by, after_eat, eat, expect, taken, take_as, after_found, eat_as, is_end, finished, inside, start_of}
-use Rattle.grammar_core.specs.Token.{is_group, is_group_in, contents_of, contents_in, span_of, same_delimiter}
+use Rattle.grammar_core.specs.Token.{is_group, contents_of, span_of, same_delimiter}
 use Rattle.print_core.specs.Marks.{Trees, group}
 use Rattle.front_core.specs.Alike.{Relation}
 use Rattle.front_core.specs.Front.{at}
-use Rattle.back_core.specs.Printed.{Again, Reads, Printed, Back}
-use Rattle.back_core.proofs.Steps.{Gives, Rest, hole, whole, wrap-rest}
+use Rattle.back_core.specs.Printed.{Reads, Printed}
+use Rattle.back_core.proofs.Steps.{Gives, Rest}
 
 -- where one stands behind tokens that were skipped
 pub skipped-over : (count : ℕ) (tokens tail : Trees) (last : Span) → length tokens ≡ count → (new : Span) × (skipped count (at (tokens ++ tail) last) ≡ at tail new)

@@ -1,6 +1,5 @@
 -- The law of printing for types.
-use Rattle.std.proofs.Common.{◌≡◌, ℕ, Bool, true, false, if◌then◌else◌, List, [], ◌∷◌, ◌++◌, map, length, Option, Some, None, refl, arith, rules, ap, sym, ◌∙◌, append_assoc, append-nil, codes, option_map}
-use Rattle.token_core.specs.declared.ident.Lifetime.{Lifetime}
+use Rattle.std.proofs.Common.{◌≡◌, ℕ, Bool, true, false, if◌then◌else◌, List, [], ◌++◌, Some, None, refl, ap, append_assoc, append-nil, codes, option_map}
 use Rattle.token_core.specs.declared.span.Span.{Span}
 use Rattle.token_core.specs.declared.tree.Delimiter.TheVariants as delimiter
 use Rattle.token_core.specs.declared.tree.TokenTree.TheVariants as tree
@@ -15,8 +14,8 @@ use Rattle.grammar_core.specs.Token.{ident_of, is_colon, is_equals, is_group, is
 use Rattle.grammar_core.specs.Types.{type_bracket, type_in_brackets, type_reference, type_pointer, type_trait_object, type_impl_trait, type_path, type_qualified, type_group, type_in_parentheses, type_by, type_step}
 use Rattle.grammar_core.specs.Words.{is_name, named_words, next_word, other_keywords, sees, word_of}
 use Rattle.print_core.specs.Marks.{Trees, group, lifetime, mark, optional, word as printed_word}
-use Rattle.print_core.specs.Nodes.{expr_tokens, type_tokens}
-use Rattle.bare_core.specs.Bare.{bare_expr, bare_type}
+use Rattle.print_core.specs.Nodes.{type_tokens}
+use Rattle.bare_core.specs.Bare.{bare_type}
 use Rattle.bare_core.proofs.Made.{bare_type-Tuple, bare_type-Paren, bare_type-Ptr, bare_type-TraitObject, bare_type-ImplTrait, bare_type-Path, bare_type_path-make, bare_type-Never, bare_type-Infer, bare_type-Array, bare_array-make, bare_type-Slice, bare_type-Reference}
 use Rattle.front_core.specs.Alike.{Relation, Any}
 use Rattle.back_core.specs.Follow.{AfterType, BeginsType, Named, Some', names}
@@ -25,8 +24,8 @@ use Rattle.back_core.proofs.Bounds.{bounds-back}
 use Rattle.back_core.proofs.Follows.{never, path-seen, type-end, type_before-mark, type-seen, unnamed, looser-end, no-semicolon, one_bound, Unliving}
 use Rattle.back_core.proofs.Functions.{type_fn_ptr-back}
 use Rattle.back_core.proofs.Groups.{inner-rest}
-use Rattle.back_core.proofs.Marks.{mark_of-mark, is_group-mark, next_word-mark, lifetime_of-mark, mark-length, word-length, sees-mut, lifetime_of-Lifetime, lifetime_of-word, next_word-group, no-group, out-Ident, sees-const}
-use Rattle.back_core.proofs.Parts.{AllBacks}
+use Rattle.back_core.proofs.Marks.{mark_of-mark, is_group-mark, next_word-mark, mark-length, word-length, sees-mut, lifetime_of-Lifetime, lifetime_of-word, next_word-group, no-group, out-Ident, sees-const}
+use Rattle.back_core.specs.Parts.{AllBacks}
 use Rattle.back_core.proofs.Paths.{path-back}
 use Rattle.back_core.proofs.Prints.{print-tuple, print-paren, print-type_qualified, print-impl_trait, print-infer, print-never, print-ptr, print-trait_object, print-type_path, print-array, print-reference, print-slice}
 use Rattle.back_core.proofs.Qualified.{Pair, qualified-back}
@@ -65,9 +64,13 @@ bang-begin rest tail span =
 word-begin : (text : List ℕ) (begins : TypeStart) (rest tail : Trees) (span : Span) → type_word (word_of (record { text = text; raw = false; span = span })) ≡ begins → is_name (word_of (record { text = text; raw = false; span = span })) ≡ false
     → Begin begins rest (printed_word text span ++ tail)
 unfolding type_start printed_word is_group mark_of is_pair is_joint next_word ident_of
-word-begin text begins rest tail span is none = (rw (out-Ident (record { text = text; raw = false; span = span })) is, (
+word-begin text begins rest tail span is none = (
+  rw (out-Ident (record { text = text; raw = false; span = span })) is,
+  (
     never (names is_equals) rest (printed_word text span ++ tail) (rw (out-Ident (record { text = text; raw = false; span = span }), none) refl),
-    never (names is_colon) rest (printed_word text span ++ tail) (rw (out-Ident (record { text = text; raw = false; span = span }), none) refl)))
+    never (names is_colon) rest (printed_word text span ++ tail) (rw (out-Ident (record { text = text; raw = false; span = span }), none) refl),
+  ),
+)
 
 dyn-begin : (rest tail : Trees) (span : Span) → Begin begin.TraitObject rest (printed_word (codes "dyn") span ++ tail)
 unfolding word_of named_words other_keywords
@@ -86,13 +89,13 @@ module _ (readers : Readers) (parts : AllBacks readers) where
   unfolding type_in_brackets type_bracket
   type_in_brackets-back many = whole (here-rest (λ span. inside-rest {Inner = Any} delimiter.Bracket (λ (place : Unit {0}). span)
       (then-rest {Second = AfterType true} (λ place. parts.ty true) (λ elem. eat_or-rest {Yes = Any} {No = AtEnd} 1 is_semicolon (λ place. mark (codes ";") span) (λ place. mark-length (codes ";") span) (λ place tail. rw (mark_of-mark 59 [] span tail) refl)
-          (then-rest {Second = AtEnd} (λ place. parts.expr any_level) (λ len. pure-rest tt (make.type_array elem len span) (λ q. make.type_array q.0.1 q.1 q.0.0.1)
-              (rw (print-array, append-nil, append_assoc) refl) (λ q ok. rw (bare_type-Array, bare_type-Array, bare_array-make, bare_array-make, ok.0.1, ok.1) refl))
-              (λ rest tail f. rw f (λ other. looser-end any_level rest)) (λ rest tail f. tt))
-          (pure-rest tt (make.type_slice elem span) (λ q. make.type_slice q.1 q.0.1) (rw (print-slice, append-nil) refl) (λ q ok. rw (bare_type-Slice, bare_type-Slice, ok.1) refl))
-          (λ input tail place seen f. type_before-mark 59 refl refl refl refl span input.rest tail true)
-          (λ rest tail seen f. rw f (no-semicolon, type-end true rest)))
-          (λ rest tail f. f) (λ rest tail f. tt))
+      (then-rest {Second = AtEnd} (λ place. parts.expr any_level) (λ len. pure-rest tt (make.type_array elem len span) (λ q. make.type_array q.0.1 q.1 q.0.0.1)
+      (rw (print-array, append-nil, append_assoc) refl) (λ q ok. rw (bare_type-Array, bare_type-Array, bare_array-make, bare_array-make, ok.0.1, ok.1) refl))
+      (λ rest tail f. rw f (λ other. looser-end any_level rest)) (λ rest tail f. tt))
+      (pure-rest tt (make.type_slice elem span) (λ q. make.type_slice q.1 q.0.1) (rw (print-slice, append-nil) refl) (λ q ok. rw (bare_type-Slice, bare_type-Slice, ok.1) refl))
+      (λ input tail place seen f. type_before-mark 59 refl refl refl refl span input.rest tail true)
+      (λ rest tail seen f. rw f (no-semicolon, type-end true rest)))
+      (λ rest tail f. f) (λ rest tail f. tt))
       (λ rest inner tail span seen f. brackets-begin rest inner tail span)))
 
   type_reference-back : (many : Bool) → Back bare_type type_tokens (Begin begin.Reference) (AfterType many) (type_reference readers)
@@ -101,8 +104,8 @@ module _ (readers : Readers) (parts : AllBacks readers) where
       (eat_as-rest {Second = λ o. Unliving} lifetime_of (λ o. optional (option_map lifetime o)) tree.Lifetime refl (λ it. refl) (λ rest tail it is. lifetime_of-Lifetime it tail) (λ it.
       eat-rest {Second = λ b. BeginsType} 1 (sees word.Mut) (λ place. printed_word (codes "mut") place) (word-length (codes "mut")) (λ place tail. rw (sees-mut place tail) refl) (λ mutable.
       then-rest {Second = AfterType many} (λ place. parts.ty false) (λ elem. close-rest start (λ q. q.0.1) (make.type_reference it mutable elem) (λ q. make.type_reference it mutable q.1)
-          (λ span. rw (print-reference, append-nil, append_assoc, append_assoc) refl) (λ span other q ok. rw (bare_type-Reference, bare_type-Reference, ok.1) refl))
-          (λ rest tail f. one_bound many rest tail f) (λ rest tail f. f))
+      (λ span. rw (print-reference, append-nil, append_assoc, append_assoc) refl) (λ span other q ok. rw (bare_type-Reference, bare_type-Reference, ok.1) refl))
+      (λ rest tail f. one_bound many rest tail f) (λ rest tail f. f))
       (λ input tail place seen f. lifetime_of-word (codes "mut") place tail)
       (λ rest tail seen f. ((type-seen tail f.0).mutable, (type-seen tail f.0).lifetime)))
       (λ input tail it is f. tt) (λ rest tail none f. (f, tt)))
@@ -110,7 +113,7 @@ module _ (readers : Readers) (parts : AllBacks readers) where
 
   -- ---- pointers
 
-  abbrev pointer_rest : Bool → Parser (Unit {0}) 
+  abbrev pointer_rest : Bool → Parser (Unit {0})
   pointer_rest mutable = if mutable then pure tt else expect 1 (sees word.Const)
 
   pointer_by : (many : Bool) (start : Span) (mutable : Bool)
@@ -118,12 +121,12 @@ module _ (readers : Readers) (parts : AllBacks readers) where
       (pointer_rest mutable >>= (λ constant. readers.ty false >>= (λ elem. upto start >>= (λ span. pure (make.type_ptr mutable elem span)))))
       (λ q. pointer_rest mutable >>= (λ constant. readers.ty false >>= (λ elem. upto q.1 >>= (λ span. pure (make.type_ptr mutable elem span)))))
   pointer_by many start true = then-rest {Second = AfterType many} (λ place. parts.ty false) (λ elem. close-rest start (λ q. q.0.1) (make.type_ptr true elem) (λ q. make.type_ptr true q.1)
-          (λ span. rw (print-ptr, append-nil, append_assoc) refl) (λ span other q ok. rw (bare_type-Ptr, bare_type-Ptr, ok.1) refl))
+      (λ span. rw (print-ptr, append-nil, append_assoc) refl) (λ span other q ok. rw (bare_type-Ptr, bare_type-Ptr, ok.1) refl))
       (λ rest tail f. one_bound many rest tail f) (λ rest tail f h. absurd cc)
   pointer_by many start false = expect-rest {Second = BeginsType} 1 (sees word.Const) (λ place. printed_word (codes "const") place) (word-length (codes "const")) (λ place tail. rw (sees-const place tail) refl)
       (then-rest {Second = AfterType many} (λ place. parts.ty false) (λ elem. close-rest start (λ q. q.0.1) (make.type_ptr false elem) (λ q. make.type_ptr false q.1)
-          (λ span. rw (print-ptr, append-nil, append_assoc) refl) (λ span other q ok. rw (bare_type-Ptr, bare_type-Ptr, ok.1) refl))
-          (λ rest tail f. one_bound many rest tail f) (λ rest tail f. f))
+      (λ span. rw (print-ptr, append-nil, append_assoc) refl) (λ span other q ok. rw (bare_type-Ptr, bare_type-Ptr, ok.1) refl))
+      (λ rest tail f. one_bound many rest tail f) (λ rest tail f. f))
       (λ input tail place seen f h. rw (sees-const place tail) refl)
 
   type_pointer-back : (many : Bool) → Back bare_type type_tokens (Begin begin.Pointer) (AfterType many) (type_pointer readers)
@@ -139,23 +142,23 @@ module _ (readers : Readers) (parts : AllBacks readers) where
   unfolding type_trait_object
   type_trait_object-back many = whole (here-rest (λ start. skip-rest {Second = Some'} (λ place. printed_word (codes "dyn") place) (word-length (codes "dyn"))
       (then-rest {Second = AfterType many} (λ place. bounds-back readers parts many place) (λ found. close-rest start (λ q. q.0.1) (make.type_trait_object found) (λ q. make.type_trait_object q.1)
-          (λ span. rw (print-trait_object, append-nil) refl) (λ span other q ok. rw (bare_type-TraitObject, bare_type-TraitObject, ok.1) refl))
-          (λ rest tail f. f) (λ rest tail f. f))
+      (λ span. rw (print-trait_object, append-nil) refl) (λ span other q ok. rw (bare_type-TraitObject, bare_type-TraitObject, ok.1) refl))
+      (λ rest tail f. f) (λ rest tail f. f))
       (λ input tail place f. dyn-begin input.rest tail place)))
 
   type_impl_trait-back : (many : Bool) → Back bare_type type_tokens (Begin begin.ImplTrait) (AfterType many) (type_impl_trait readers many)
   unfolding type_impl_trait
   type_impl_trait-back many = whole (here-rest (λ start. skip-rest {Second = Some'} (λ place. printed_word (codes "impl") place) (word-length (codes "impl"))
       (then-rest {Second = AfterType many} (λ place. bounds-back readers parts many place) (λ found. close-rest start (λ q. q.0.1) (make.type_impl_trait found) (λ q. make.type_impl_trait q.1)
-          (λ span. rw (print-impl_trait, append-nil) refl) (λ span other q ok. rw (bare_type-ImplTrait, bare_type-ImplTrait, ok.1) refl))
-          (λ rest tail f. f) (λ rest tail f. f))
+      (λ span. rw (print-impl_trait, append-nil) refl) (λ span other q ok. rw (bare_type-ImplTrait, bare_type-ImplTrait, ok.1) refl))
+      (λ rest tail f. f) (λ rest tail f. f))
       (λ input tail place f. impl-begin input.rest tail place)))
 
   type_path-back : (many : Bool) → Back bare_type type_tokens (Begin begin.Path) (AfterType many) (type_path readers)
   unfolding type_path
   type_path-back many = whole (here-rest (λ start.
       then-rest {Second = AfterType many} (λ (place : Span). path-back readers parts true) (λ found. close-rest start (λ q. q.0.1) (make.type_path None found) (λ q. make.type_path None q.1)
-          (λ span. rw (print-type_path, append-nil) refl) (λ span other q ok. rw (bare_type-Path, bare_type-Path, bare_type_path-make, bare_type_path-make, ok.1) refl))
+      (λ span. rw (print-type_path, append-nil) refl) (λ span other q ok. rw (bare_type-Path, bare_type-Path, bare_type_path-make, bare_type_path-make, ok.1) refl))
       (λ rest tail f. f.0) (λ rest tail f. ((path-seen tail f.0).start, f.1))))
 
   type_never-back : (many : Bool) → Back bare_type type_tokens (Begin begin.Never) (AfterType many) (here >>= (λ span. skip >> pure (make.type_never span)))
@@ -170,8 +173,8 @@ module _ (readers : Readers) (parts : AllBacks readers) where
   unfolding type_qualified
   type_qualified-back many = whole (here-rest (λ start.
       then-rest {Second = AfterType many} (λ (place : Span). qualified-back readers parts true) (λ found. close-rest start (λ q. q.0.1) (make.type_path (Some found.0) found.1) (λ q. make.type_path (Some q.1.0) q.1.1)
-          (λ span. rw (print-type_qualified, append-nil) refl)
-          (λ span other q ok. rw (bare_type-Path, bare_type-Path, bare_type_path-make, bare_type_path-make, ap (λ (it : Pair). it.0) ok.1, ap (λ (it : Pair). it.1) ok.1) refl))
+      (λ span. rw (print-type_qualified, append-nil) refl)
+      (λ span other q ok. rw (bare_type-Path, bare_type-Path, bare_type_path-make, bare_type_path-make, ap (λ (it : Pair). it.0) ok.1, ap (λ (it : Pair). it.1) ok.1) refl))
       (λ rest tail f. f.0) (λ rest tail f. f)))
 
   -- ---- parentheses
@@ -180,8 +183,8 @@ module _ (readers : Readers) (parts : AllBacks readers) where
   unfolding type_in_parentheses type_group
   type_in_parentheses-back many = whole (here-rest (λ span. inside-rest {Inner = Any} delimiter.Parenthesis (λ (place : Unit {0}). span)
       (inner-rest bare_type type_tokens (readers.ty true) (parts.ty true) (λ rest tail f. (type-seen tail f.0).some) (type-end true) (λ rest tail span. type_before-mark 44 refl refl refl refl span rest tail true)
-          make.type_tuple make.type_paren print-tuple print-paren
-          (λ one two span other same. rw (bare_type-Tuple, bare_type-Tuple, same) refl) (λ one two span other same. rw (bare_type-Paren, bare_type-Paren, same) refl) span)
+      make.type_tuple make.type_paren print-tuple print-paren
+      (λ one two span other same. rw (bare_type-Tuple, bare_type-Tuple, same) refl) (λ one two span other same. rw (bare_type-Paren, bare_type-Paren, same) refl) span)
       (λ rest inner tail span' seen f. group-begin rest inner tail span')))
 
   -- ---- all types

@@ -1,5 +1,5 @@
 -- The law of printing for trees of every depth, from the law of one level of expressions.
-use Rattle.std.proofs.Common.{◌≡◌, ℕ, zero, suc, nat_le, Bool, true, false, if◌then◌else◌, List, [], ◌∷◌, ◌++◌, map, Option, Some, None, refl, ap, sym, ◌∙◌}
+use Rattle.std.proofs.Common.{◌≡◌, ℕ, zero, suc, nat_le, Bool, true, false, if◌then◌else◌, List, [], ◌∷◌, map, Some, None, refl, ap, sym, ◌∙◌}
 use Rattle.std.proofs.lemmas.Option.{same_Some}
 use Rattle.expr_core.specs.declared.expr.Expr.{Expr}
 use Rattle.expr_core.specs.declared.generics.TypeParamBound.{TypeParamBound}
@@ -14,11 +14,10 @@ use Rattle.print_core.specs.Nodes.{expr_tokens}
 use Rattle.bare_core.specs.Bare.{bare_bound, bare_expr, bare_type}
 use Rattle.bare_core.proofs.Depths.{bound_depth-bare, expr_depth-bare, type_depth-bare}
 use Rattle.front_core.specs.Alike.{Relation}
-use Rattle.front_core.specs.Front.{at}
 use Rattle.back_core.specs.Follow.{AfterExpr, BeginsExpr}
-use Rattle.back_core.specs.Printed.{Again, Reads, Back}
+use Rattle.back_core.specs.Printed.{Reads, Back}
 use Rattle.back_core.proofs.Bounds.{bounds-back}
-use Rattle.back_core.proofs.Parts.{AllBacks}
+use Rattle.back_core.specs.Parts.{AllBacks}
 use Rattle.back_core.proofs.Types.{type_step-back}
 
 refuse-back : {A B : Type 0} {bare : A → B} {print : A → Trees} {G F : Relation} → Back bare print G F refuse

@@ -1,5 +1,5 @@
 -- What may follow what is printed, and what begins it, beside the tokens that the source had there.
-use Rattle.std.specs.Prelude.{◌≡◌, ℕ, ◌≤◌, Bool, true, false, ◌&&◌, ◌||◌, ◌==◌, if◌then◌else◌}
+use Rattle.std.specs.Prelude.{◌≡◌, ℕ, ◌≤◌, Bool, true, false, ◌&&◌, ◌||◌, ◌==◌}
 use Rattle.token_core.specs.declared.tree.Delimiter.TheVariants as delimiter
 use Rattle.grammar_core.specs.declared.look.PostfixStart.{PostfixStart}
 use Rattle.grammar_core.specs.declared.look.PostfixStart.TheVariants as postfix

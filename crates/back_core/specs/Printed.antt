@@ -1,5 +1,5 @@
 -- That the printing of what was read is read as the same value but for places.
-use Rattle.std.specs.Prelude.{◌≡◌, List, ◌++◌, Some}
+use Rattle.std.specs.Prelude.{◌≡◌, ◌++◌, Some}
 use Rattle.token_core.specs.declared.span.Span.{Span}
 use Rattle.grammar_core.specs.Input.{Input, Parser}
 use Rattle.print_core.specs.Marks.{Trees}

@@ -1,5 +1,5 @@
 -- The law of printing for the readers of the parts of a rule.
-use Rattle.std.proofs.Common.{ℕ, Bool, true, List, map}
+use Rattle.std.specs.Prelude.{ℕ, Bool, true, List, map}
 use Rattle.token_core.specs.declared.span.Span.{Span}
 use Rattle.expr_core.specs.declared.generics.TypeParamBound.{TypeParamBound}
 use Rattle.grammar_core.specs.Readers.{Readers}
