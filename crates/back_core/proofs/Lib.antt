@@ -1,0 +1,15 @@
+pub mod Steps
+pub mod Takes
+pub mod Marks
+pub mod Lists
+pub mod Joints
+pub mod Follows
+pub mod Prints
+pub mod Arguments
+pub mod Paths
+pub mod Bounds
+pub mod Functions
+pub mod Groups
+pub mod Qualified
+pub mod Types
+pub mod Within

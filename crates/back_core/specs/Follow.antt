@@ -1,0 +1,109 @@
+-- What may follow what is printed, and what begins it, beside the tokens that the source had there.
+use Rattle.std.specs.Prelude.{◌≡◌, ℕ, ◌≤◌, Bool, true, false, ◌&&◌, ◌||◌, ◌==◌}
+use Rattle.token_core.specs.declared.tree.Delimiter.TheVariants as delimiter
+use Rattle.grammar_core.specs.declared.look.PostfixStart.{PostfixStart}
+use Rattle.grammar_core.specs.declared.look.PostfixStart.TheVariants as postfix
+use Rattle.grammar_core.specs.declared.look.TypeStart.{TypeStart}
+use Rattle.grammar_core.specs.declared.look.TypeStart.TheVariants as ty
+use Rattle.grammar_core.specs.Input.{is_end}
+use Rattle.grammar_core.specs.Look.{at_level, begins_constant, begins_operand, is_there, operator_of, postfix_start, type_start}
+use Rattle.grammar_core.specs.Readers.{constant_level}
+use Rattle.grammar_core.specs.Token.{after_one, is_arrow, is_colon, is_colons, is_dots, is_equals, is_group, is_less, is_mark, is_plus, is_turbofish}
+use Rattle.grammar_core.specs.Words.{begins_segment, is_name, next_word}
+use Rattle.print_core.specs.Marks.{Trees}
+use Rattle.front_core.specs.Alike.{Relation, Any}
+
+-- the printed tokens have this only where the source had it
+abbrev pub Keep : (Trees → Bool) → Relation
+Keep test rest tail = test tail ≡ true → test rest ≡ true
+
+-- ---- paths
+
+-- what goes on with a segment of a type, or with the name that a segment is
+pub record Quiet (rest tail : Trees) : Type 0 where
+  pub less : Keep is_less rest tail
+  pub inputs : Keep (is_group delimiter.Parenthesis) rest tail
+  pub arrow : Keep is_arrow rest tail
+  pub equals : Keep is_equals rest tail
+  pub colon : Keep is_colon rest tail
+
+abbrev pub Ends : Bool → Relation
+Ends true = Quiet
+Ends false = Any
+
+abbrev pub AfterPath : Bool → Relation
+AfterPath in_type rest tail = Keep is_colons rest tail × Ends in_type rest tail
+
+abbrev pub AfterSegment : Bool → Relation
+AfterSegment in_type rest tail = Keep is_turbofish rest tail × AfterPath in_type rest tail
+
+-- a name that the test holds behind
+abbrev pub names : (Trees → Bool) → Trees → Bool
+names test trees = is_name (next_word trees) && test (after_one trees)
+
+-- `=` or `:` stands behind the name that a type begins with only where it did
+abbrev pub Named : Bool → Relation
+Named true rest tail = Keep (names is_equals) rest tail × Keep (names is_colon) rest tail
+Named false rest tail = Unit {0}
+
+-- the same behind the name
+abbrev pub Behind : Bool → Relation
+Behind true rest tail = Keep is_equals rest tail × Keep is_colon rest tail
+Behind false rest tail = Unit {0}
+
+-- some token, and no `>` (62)
+abbrev pub Open : Relation
+Open rest tail = (is_end tail ≡ false) × (is_mark 62 tail ≡ false)
+
+abbrev pub BeginsSegment : Bool → Relation
+BeginsSegment in_type rest tail = (begins_segment (next_word tail) ≡ true) × Named in_type rest tail
+
+abbrev pub is_path : Trees → Bool
+is_path trees = is_colons trees || begins_segment (next_word trees)
+
+abbrev pub BeginsPath : Bool → Relation
+BeginsPath in_type rest tail = (is_path tail ≡ true) × Named in_type rest tail
+
+-- some token
+abbrev pub Some' : Relation
+Some' rest tail = is_end tail ≡ false
+
+-- ---- types
+
+abbrev pub Plus : Bool → Relation
+Plus true = Keep is_plus
+Plus false = Any
+
+-- a type with several bounds goes on with `+`
+abbrev pub AfterType : Bool → Relation
+AfterType many rest tail = AfterPath true rest tail × Plus many rest tail
+
+abbrev pub is_type : TypeStart → Bool
+is_type ty.Nothing = false
+is_type _ = true
+
+abbrev pub BeginsType : Relation
+BeginsType rest tail = (is_type (type_start tail) ≡ true) × Named true rest tail
+
+-- ---- expressions
+
+abbrev pub goes_on : PostfixStart → Bool
+goes_on postfix.Nothing = false
+goes_on _ = true
+
+-- what goes on with an expression of a level
+pub record Looser (level : ℕ) (rest tail : Trees) : Type 0 where
+  pub colons : Keep is_colons rest tail
+  pub turbofish : Keep is_turbofish rest tail
+  pub called : Keep (is_group delimiter.Parenthesis) rest tail
+  pub postfix : Keep (λ trees. goes_on (postfix_start trees)) rest tail
+  pub operator : (tighter : ℕ) → tighter ≤ level → Keep (λ trees. is_there (at_level tighter (operator_of trees))) rest tail
+  pub dots : Keep is_dots rest tail
+  pub operand : Keep begins_operand rest tail
+
+-- a literal or a block ends by itself
+abbrev pub AfterExpr : ℕ → Relation
+AfterExpr level rest tail = (level == constant_level) ≡ false → Looser level rest tail
+
+abbrev pub BeginsExpr : ℕ → Relation
+BeginsExpr level rest tail = (is_end tail ≡ false) × ((level == constant_level) ≡ true → begins_constant tail ≡ true)

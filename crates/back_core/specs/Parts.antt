@@ -1,0 +1,21 @@
+-- The law of printing for the readers of the parts of a rule.
+use Rattle.std.specs.Prelude.{ℕ, Bool, true, List, map}
+use Rattle.token_core.specs.declared.span.Span.{Span}
+use Rattle.expr_core.specs.declared.generics.TypeParamBound.{TypeParamBound}
+use Rattle.grammar_core.specs.Readers.{Readers}
+use Rattle.print_core.specs.Marks.{Trees}
+use Rattle.print_core.specs.Nodes.{bound_tokens, expr_tokens, type_tokens}
+use Rattle.print_core.specs.Paths.{sum_of}
+use Rattle.bare_core.specs.Bare.{bare_bound, bare_expr, bare_type}
+use Rattle.back_core.specs.Follow.{AfterExpr, AfterType, BeginsExpr, BeginsType, Some'}
+use Rattle.back_core.specs.Printed.{Back}
+
+-- bounds, with `+` of this place between them
+abbrev pub bounds_tokens : Span → List TypeParamBound → Trees
+bounds_tokens span found = sum_of (map bound_tokens found) span
+
+-- the readers of the parts have the law
+pub record AllBacks (readers : Readers) : Type 0 where
+  pub ty : (many : Bool) → Back bare_type type_tokens BeginsType (AfterType many) (readers.ty many)
+  pub expr : (level : ℕ) → Back bare_expr expr_tokens (BeginsExpr level) (AfterExpr level) (readers.expr level)
+  pub bounds : (span : Span) → Back (map bare_bound) (bounds_tokens span) Some' (AfterType true) readers.bounds

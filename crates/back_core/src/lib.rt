@@ -1,0 +1,6 @@
+//! What is printed is read back, as the same tree but for places.
+#![tactic(auto)]
+
+mod laws;
+
+pub use laws::types_are_read_back;
