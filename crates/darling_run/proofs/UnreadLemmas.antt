@@ -1,5 +1,5 @@
 -- Where the first attribute stands, of attributes in two runs.
-use Rattle.std.proofs.Common.{◌≡◌, Bool, true, false, if◌then◌else◌, List, [], ◌∷◌, ◌++◌, Option, Some, None, refl}
+use Rattle.std.proofs.Common.{◌≡◌, Bool, true, false, cond, List, [], ◌∷◌, ◌++◌, Option, Some, None, refl}
 use Rattle.std.specs.Prelude.{filter, is_some}
 use Rattle.token_core.specs.declared.span.Span.{Span}
 use Rattle.node_core.specs.declared.attr.Attribute.{Attribute}
@@ -18,6 +18,12 @@ pub or_else-None : (one other : Option Span) → is_some one ≡ false → or_el
 or_else-None (Some span) other there = cc
 or_else-None None other there = refl
 
+by_test : (test : Bool) (attribute : Attribute) (one both : List Attribute) (other : Option Span) → first_place both ≡ or_else (first_place one) other
+    → first_place (cond test (attribute ∷ both) both) ≡ or_else (first_place (cond test (attribute ∷ one) one)) other
+by_test true attribute one both other more = refl
+by_test false attribute one both other more = more
+
 pub first_place-append : (test : Attribute → Bool) (one other : List Attribute) → first_place (filter test (one ++ other)) ≡ or_else (first_place (filter test one)) (first_place (filter test other))
 first_place-append test [] other = refl
-first_place-append test (attribute ∷ one) other = cond (test attribute) (λ it. refl) (λ it. first_place-append test one other)
+first_place-append test (attribute ∷ one) other =
+    by_test (test attribute) attribute (filter test one) (filter test (one ++ other)) (first_place (filter test other)) (first_place-append test one other)

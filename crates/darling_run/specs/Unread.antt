@@ -2,7 +2,6 @@
 use Rattle.std.specs.Prelude.{Bool, true, false, ◌&&◌, not, List, [], ◌∷◌, filter, flat_map, Option, Some, None, is_some}
 use Rattle.base_core.specs.declared.text.Text.{Text}
 use Rattle.token_core.specs.declared.span.Span.{Span}
-use Rattle.token_core.specs.declared.tree.Delimiter.{Delimiter}
 use Rattle.token_core.specs.declared.tree.Delimiter.TheVariants.{Parenthesis}
 use Rattle.node_core.specs.declared.attr.Attribute.{Attribute}
 use Rattle.node_core.specs.declared.attr.Meta.{Meta}
