@@ -1,6 +1,6 @@
 -- Nested items: what stands between the parentheses of an attribute, separated by commas.
 use Rattle.std.specs.Prelude.{Bool, true, false, ◌&&◌, not, if◌then◌else◌, List, [], ◌∷◌, codes, Option, Some, None, is_some, option_and_then, Result, Ok, Err}
-use Rattle.std.specs.Result.{result_ok, result_err, result_map}
+use Rattle.std.specs.Result.{result_ok, result_err, result_map_both}
 use Rattle.token_core.specs.declared.span.Span.{Span}
 use Rattle.token_core.specs.declared.tree.Delimiter.{Delimiter}
 use Rattle.token_core.specs.declared.tree.Delimiter.TheVariants as delimiter
@@ -139,7 +139,7 @@ found_of = whole (items_after item [])
 abbrev pub among : List Found → Result (List NestedMeta) Span
 among [] = Ok []
 among (found.Attribute place ∷ more) = Err place
-among (found.Item it ∷ more) = result_map (λ items. it ∷ items) (among more)
+among (found.Item it ∷ more) = result_map_both (λ items. it ∷ items) (λ place. place) (among more)
 
 -- the nested items that the tokens are
 unfoldable pub nested_of : TokenStream → Option (List NestedMeta)

@@ -1,5 +1,5 @@
 -- Where a nested item stands, and the tokens that it stands for.
-use Rattle.std.specs.Prelude.{List, [], ◌∷◌, ◌++◌, map, codes}
+use Rattle.std.specs.Prelude.{List, ◌∷◌, ◌++◌, map, codes}
 use Rattle.token_core.specs.declared.span.Span.{Span}
 use Rattle.token_core.specs.declared.tree.TokenStream.{out-TokenStream}
 use Rattle.token_core.specs.declared.tree.TokenTree.{TokenTree}

@@ -1,17 +1,17 @@
 -- What stands behind the `=` of a nested item: the shortest run of tokens that is a value and is followed by a comma or by
 -- nothing; or a bad value, the tokens up to the next comma.
-use Rattle.std.specs.Prelude.{ℕ, zero, suc, Bool, if◌then◌else◌, List, [], ◌∷◌, length, take, drop, Option, Some, None, option_map}
+use Rattle.std.specs.Prelude.{ℕ, zero, suc, if◌then◌else◌, List, [], ◌∷◌, length, take, drop, Option, Some, None, option_map}
 use Rattle.token_core.specs.declared.span.Span.{Span}
 use Rattle.token_core.specs.declared.tree.TokenTree.{TokenTree}
 use Rattle.expr_core.specs.declared.expr.Expr.{Expr}
 use Rattle.expr_core.specs.declared.expr.Expr.TheVariants as expr
 use Rattle.expr_core.specs.declared.lit.Lit.{Lit}
-use Rattle.grammar_core.specs.Input.{Parser, ◌>>=◌, pure, test, skip_by}
+use Rattle.grammar_core.specs.Input.{Parser, ◌>>=◌, ◌>>◌, pure, test, skip_by}
 use Rattle.grammar_core.specs.Token.{is_comma, span_of}
 use Rattle.front_core.specs.Alike.{stops}
 use Rattle.item_core.specs.Attributes.{number_in, expr_in, stream}
 use Rattle.meta_core.specs.declared.value.Value.{Value}
-use Rattle.meta_core.specs.declared.value.Value.TheVariants as value
+use Rattle.meta_core.specs.declared.value.Value.TheVariants as kind
 
 abbrev pub either_value : Option Lit → Option Expr → Option Expr
 either_value (Some number) found = Some (expr.Lit number)
@@ -51,10 +51,10 @@ unfoldable pub bad_value : Span → Parser Value
 bad_value eq_span = do
   trees ← test before_comma
   skip_by (length trees)
-  pure (value.Bad (stream trees) (bad_place eq_span trees))
+  pure (kind.Bad (stream trees) (bad_place eq_span trees))
 
 abbrev pub value_by : Span → Option (Expr × ℕ) → Parser Value
-value_by eq_span (Some run) = skip_by run.1 >>= (λ done. pure (value.Expr run.0))
+value_by eq_span (Some run) = skip_by run.1 >>= (λ done. pure (kind.Expr run.0))
 value_by eq_span None = bad_value eq_span
 
 unfoldable pub value : Span → Parser Value

@@ -5,7 +5,7 @@ ghost use Rattle.item_core.specs.Lists.{Flat};
 ghost use Rattle.meta_core.specs.Nested as spec;
 
 use crate::nested::{MetaNameValueInvalidExpr, NestedMeta};
-use crate::value::{Value, value};
+use crate::value::{Value, take_value};
 use base_core::Mem;
 use error_core::Error;
 use expr_core::{Delimiter, Lit, LitBool, Path, Span, TokenTree};
@@ -116,7 +116,7 @@ fn value_item(
 ) -> Front<Found>
     ensures { Flat (spec.value_item start path eq_span tokens.old) result tokens.new }
 {
-    let (value, _) = value(alloc, tokens, eq_span)?;
+    let (value, _) = take_value(alloc, tokens, eq_span)?;
     let span = tokens.upto(start);
     let item = with_value(alloc, path, eq_span, span, value)?;
     Ok((Found::Item(item), 0))

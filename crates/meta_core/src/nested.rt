@@ -75,12 +75,13 @@ fn list(alloc: Global, tokens: &mut Cursor<'_>) -> Front<Items<Found>>
     ensures { Flat (input.items_after spec.item [] tokens.old) result tokens.new }
 {
     let none = Items::new(alloc);
-    items_after(
+    let (found, _) = items_after(
         tokens,
         |tokens: &mut Cursor<'_>| item(alloc, tokens),
         none,
         0,
-    )
+    )?;
+    Ok((found, 0))
 }
 
 /// What all of the tokens are, as far as they go without an attribute.

@@ -92,7 +92,7 @@ fn bad_value(alloc: Global, tokens: &mut Cursor<'_>, eq_span: Span) -> Front<Val
 
 /// The value behind the `=` that stands at `eq_span`.
 #[tactic(auto, unfolding(crate::specs::Values::value))]
-pub(crate) fn value(alloc: Global, tokens: &mut Cursor<'_>, eq_span: Span) -> Front<Value>
+pub(crate) fn take_value(alloc: Global, tokens: &mut Cursor<'_>, eq_span: Span) -> Front<Value>
     ensures { Flat (spec.value eq_span tokens.old) result tokens.new }
 {
     match shortest_run(alloc, tokens.rest())? {
