@@ -154,7 +154,10 @@ fn place(text: &str, part: &str) -> Tested<Span> {
     let Some(at) = text.find(part) else {
         return Err(Fail::new(format_args!("{part} is not there")));
     };
-    match (u32::try_from(at), u32::try_from(at + part.len())) {
+    match (
+        u32::try_from(at),
+        u32::try_from(at.saturating_add(part.len())),
+    ) {
         (Ok(start), Ok(end)) => Ok(Span::At {
             source: 0,
             start,
