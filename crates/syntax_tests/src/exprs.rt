@@ -3,7 +3,7 @@ use std::alloc::Global;
 use syn_core::{parse_expr, parse_expr_array, parse_expr_path, parse_expr_range};
 
 // Expressions that are printed as they stand.
-pub const EXPRS: [&str; 96] = [
+const EXPRS: [&str; 96] = [
     "1",
     "0x1Fu8",
     "1.5",
@@ -103,7 +103,7 @@ pub const EXPRS: [&str; 96] = [
 ];
 
 // Expressions that are printed otherwise.
-pub const PRINTED: [(&str, &str); 14] = [
+const PRINTED: [(&str, &str); 14] = [
     ("a<<b", "a << b"),
     ("a<b", "a < b"),
     ("a<=b", "a <= b"),

@@ -5,8 +5,6 @@
 #[cfg(test)]
 mod alike;
 #[cfg(test)]
-mod back;
-#[cfg(test)]
 mod deep;
 #[cfg(test)]
 mod exprs;
@@ -14,12 +12,6 @@ mod exprs;
 mod items;
 #[cfg(test)]
 mod lists;
-#[cfg(test)]
-mod nested;
-#[cfg(test)]
-mod nodes;
-#[cfg(test)]
-mod parts;
 #[cfg(test)]
 mod precedence;
 #[cfg(test)]

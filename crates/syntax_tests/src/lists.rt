@@ -50,7 +50,7 @@ fn what_is_no_list_is_refused(rt: HostRuntime) -> Tested<()> {
 }
 
 // Arguments of functions: the first is printed so.
-pub const FN_ARGS: [(&str, &str); 6] = [
+const FN_ARGS: [(&str, &str); 6] = [
     ("a: A", "a : A"),
     ("a: A,", "a : A"),
     ("_: A, b: B", "_ : A"),

@@ -5,7 +5,7 @@ use syn_core::{Parse, ParseFail, parse_ident, parse_path, parse_type};
 use tok_core::{Span, TokenStream};
 
 // Types that are printed as they stand.
-pub const TYPES: [&str; 56] = [
+const TYPES: [&str; 56] = [
     "()",
     "(A ,)",
     "(A , B)",
@@ -65,7 +65,7 @@ pub const TYPES: [&str; 56] = [
 ];
 
 // Types that are printed otherwise.
-pub const PRINTED: [(&str, &str); 12] = [
+const PRINTED: [(&str, &str); 12] = [
     ("A::<B>", "A < B >"),
     ("A<B<C>>", "A < B < C > >"),
     ("A<B<C<D>>>", "A < B < C < D > > >"),
@@ -164,11 +164,11 @@ fn what_is_no_type_is_refused(rt: HostRuntime) -> Tested<()> {
 }
 
 // Paths that are printed as they stand, and what is none.
-pub const PATHS: [&str; 5] = ["a", ":: a", "a :: b < C > :: d", "Fn (A) -> B", "Self"];
+const PATHS: [&str; 5] = ["a", ":: a", "a :: b < C > :: d", "Fn (A) -> B", "Self"];
 
 const NO_PATHS: [&str; 7] = ["", "a b", "a::", "<A>::b", "&a", "fn", "a."];
 
-pub const NAMES: [&str; 3] = ["a", "union", "r#fn"];
+const NAMES: [&str; 3] = ["a", "union", "r#fn"];
 
 const NO_NAMES: [&str; 6] = ["", "fn", "self", "_", "a b", "1"];
 
