@@ -123,9 +123,11 @@ begins_expr level trees =
     else (if level == constant_level then begins_constant trees
     else begins_operand trees))
 
--- and to the head of a closure it is the same body
-abbrev pub BeginsExpr : ℕ → Relation
-BeginsExpr level rest tail = (begins_expr level tail ≡ true) × AlikeBodies rest tail
+-- The source had an expression too, and both are the same body to the head of a closure.
+pub record BeginsExpr (level : ℕ) (rest tail : Trees) : Type 0 where
+  pub source : begins_expr level rest ≡ true
+  pub begins : begins_expr level tail ≡ true
+  pub bodies : AlikeBodies rest tail
 
 -- an operand that is an atom of this kind, with what stands behind it
 abbrev pub BeginsAtom : AtomStart → Relation
