@@ -7,6 +7,7 @@ use Rattle.token_core.specs.declared.tree.Delimiter.TheVariants as delimiter
 use Rattle.expr_core.specs.declared.expr.BinOp.{BinOp}
 use Rattle.expr_core.specs.declared.expr.BinOp.TheVariants as op
 use Rattle.grammar_core.specs.declared.look.Infix.{Infix}
+use Rattle.grammar_core.specs.Input.{is_end}
 use Rattle.grammar_core.specs.Look.{at_level, atom_start, before_equals, begins_operand, double_of, doubled, infix_of, is_there, level_of, operand_start, operator_of, or_single, postfix_start, single_of, with_width}
 use Rattle.grammar_core.specs.Readers.{constant_level, range_level}
 use Rattle.grammar_core.specs.Token.{after_one, is_colons, is_dots, is_group, is_joint, is_pair, is_turbofish, mark_of}
@@ -75,6 +76,10 @@ sign op.Rem = record { ch = 37; more = []; is = λ span. refl; width = refl; rea
 pub operator-length : (it : BinOp) (span : Span) → length (bin_op_tokens it span) ≡ width_of it
 operator-length it span = let s = sign it in rw (s.is span, mark-length (s.ch ∷ s.more) span) s.width
 
+pub operator-some : (it : BinOp) (span : Span) (tail : Trees) → is_end (bin_op_tokens it span ++ tail) ≡ false
+unfolding mark
+operator-some it span tail = let s = sign it in rw (s.is span) refl
+
 -- a printed operator is read as itself, whatever follows
 pub operator_of-printed : (it : BinOp) (span : Span) (tail : Trees) → operator_of (bin_op_tokens it span ++ tail) ≡ Some (infix_of (width_of it) it)
 operator_of-printed it span tail = let s = sign it in rw (s.is span, operator_of-mark s.ch s.more span tail) s.reads
@@ -130,6 +135,18 @@ operator_of-read trees found e = pair (if is_joint trees then double_of (mark_of
     pair : (o : Option BinOp) → ((it : BinOp) → o ≡ Some it → Wide 2 it) → or_single (mark_of trees) o ≡ Some found → found ≡ infix_of (width_of found.op) found.op
     pair None fits e = one (single_of (mark_of trees)) (single_of-wide (mark_of trees)) e
     pair (Some it) fits e = made 2 it (fits it refl) (same_Some (infix_of 2 it) found e)
+
+-- the same of an operator of one level
+pub at_level-read : (level : ℕ) (trees : Trees) (found : Infix) → at_level level (operator_of trees) ≡ Some found → (found ≡ infix_of (width_of found.op) found.op) × (level_of found.op ≡ level)
+at_level-read level trees found e = by (operator_of trees) (operator_of-read trees) e
+  where
+    made : (it : Infix) (b : Bool) → (it.level == level) ≡ b → it ≡ infix_of (width_of it.op) it.op → (if b then Some it else None) ≡ Some found → (found ≡ infix_of (width_of found.op) found.op) × (level_of found.op ≡ level)
+    made it false is read e = absurd cc
+    made it true is read e = rw (← same_Some it found e) (read, sym (ap (λ (it : Infix). it.level) read) ∙ eqb-true it.level level is)
+
+    by : (o : Option Infix) → ((it : Infix) → o ≡ Some it → it ≡ infix_of (width_of it.op) it.op) → at_level level o ≡ Some found → (found ≡ infix_of (width_of found.op) found.op) × (level_of found.op ≡ level)
+    by None reads e = absurd cc
+    by (Some it) reads e = made it (it.level == level) refl (reads it refl) e
 
 -- ---- what an expression does not go on with
 

@@ -16,4 +16,5 @@ pub mod Loops
 pub mod Infix
 pub mod Starts
 pub mod Operands
+pub mod Chains
 pub mod Within
