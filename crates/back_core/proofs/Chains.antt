@@ -1,8 +1,7 @@
 -- The law of printing for operators between operands, level by level.
-use Rattle.std.proofs.Common.{◌≡◌, ℕ, zero, suc, ◌≤◌, Bool, true, false, ◌==◌, if◌then◌else◌, [], ◌++◌, length, Option, Some, None, refl, arith, ap, sym, ◌∙◌, append_assoc, append-nil}
+use Rattle.std.proofs.Common.{◌≡◌, ℕ, zero, suc, Bool, true, false, ◌==◌, if◌then◌else◌, [], ◌++◌, Option, Some, None, refl, arith, ap, sym, ◌∙◌, append_assoc, append-nil}
 use Rattle.std.proofs.lemmas.Bool.{eq-eqb}
 use Rattle.token_core.specs.declared.span.Span.{Span}
-use Rattle.expr_core.specs.declared.expr.BinOp.{BinOp}
 use Rattle.expr_core.specs.declared.expr.Expr.{Expr}
 use Rattle.expr_core.specs.declared.expr.Expr.TheVariants as expr
 use Rattle.grammar_core.specs.declared.look.AtomStart.{AtomStart}

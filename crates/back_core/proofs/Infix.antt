@@ -1,5 +1,5 @@
 -- How printed operators are seen, and what an expression does not go on with.
-use Rattle.std.proofs.Common.{◌≡◌, ℕ, zero, suc, ◌≤◌, Bool, true, false, ◌&&◌, ◌==◌, if◌then◌else◌, List, [], ◌∷◌, ◌++◌, length, Option, Some, None, refl, arith, ap, sym, subst, ◌∙◌}
+use Rattle.std.proofs.Common.{◌≡◌, ℕ, suc, ◌≤◌, Bool, true, false, ◌&&◌, ◌==◌, if◌then◌else◌, List, [], ◌∷◌, ◌++◌, length, Option, Some, None, refl, arith, ap, sym, subst, ◌∙◌}
 use Rattle.std.proofs.lemmas.Bool.{eqb-true}
 use Rattle.std.proofs.lemmas.Option.{same_Some}
 use Rattle.token_core.specs.declared.span.Span.{Span}
@@ -9,7 +9,7 @@ use Rattle.expr_core.specs.declared.expr.BinOp.TheVariants as op
 use Rattle.grammar_core.specs.declared.look.Infix.{Infix}
 use Rattle.grammar_core.specs.Input.{is_end}
 use Rattle.grammar_core.specs.Look.{at_level, atom_start, before_equals, begins_operand, double_of, doubled, infix_of, is_there, level_of, operand_start, operator_of, or_single, postfix_start, single_of, with_width}
-use Rattle.grammar_core.specs.Readers.{constant_level, range_level}
+use Rattle.grammar_core.specs.Readers.{range_level}
 use Rattle.grammar_core.specs.Token.{after_one, is_colons, is_dots, is_group, is_joint, is_pair, is_turbofish, mark_of}
 use Rattle.print_core.specs.Exprs.{bin_op_tokens}
 use Rattle.print_core.specs.Marks.{Trees, comma, is_some, mark}
@@ -36,7 +36,7 @@ abbrev pair_of : ℕ → List ℕ → Option BinOp
 pair_of ch [] = None
 pair_of ch (second ∷ more) = double_of ch second
 
-operator_of-mark : (ch : ℕ) (more : List ℕ) (span : Span) (tail : Trees) → operator_of (mark (ch ∷ more) span ++ tail) ≡ or_single ch (pair_of ch more)
+pub operator_of-mark : (ch : ℕ) (more : List ℕ) (span : Span) (tail : Trees) → operator_of (mark (ch ∷ more) span ++ tail) ≡ or_single ch (pair_of ch more)
 unfolding operator_of
 operator_of-mark ch [] span tail = rw (is_joint-mark ch [] span tail, mark_of-mark ch [] span tail) refl
 operator_of-mark ch (second ∷ more) span tail = rw (is_joint-mark ch (second ∷ more) span tail, mark_of-mark ch (second ∷ more) span tail, after_one-mark ch (second ∷ more) span tail, mark_of-mark second more span tail) refl
@@ -154,21 +154,21 @@ pub and-false : (b : Bool) → (b && false) ≡ false
 and-false true = refl
 and-false false = refl
 
-module _ (ch : ℕ) (more : List ℕ) (colon : (ch == 58) ≡ false) (dot : (ch == 46) ≡ false) (question : (ch == 63) ≡ false) (span : Span) (rest tail : Trees) where
-  pair-apart : (first second : ℕ) → (ch == first) ≡ false → is_pair first second (mark (ch ∷ more) span ++ tail) ≡ false
-  unfolding is_pair
-  pair-apart first second apart = rw (is_joint-mark ch more span tail, mark_of-mark ch more span tail, apart) (and-false (is_some more))
+pub pair-apart : (ch : ℕ) (more : List ℕ) (span : Span) (tail : Trees) (first second : ℕ) → (ch == first) ≡ false → is_pair first second (mark (ch ∷ more) span ++ tail) ≡ false
+unfolding is_pair
+pair-apart ch more span tail first second apart = rw (is_joint-mark ch more span tail, mark_of-mark ch more span tail, apart) (and-false (is_some more))
 
+module _ (ch : ℕ) (more : List ℕ) (colon : (ch == 58) ≡ false) (dot : (ch == 46) ≡ false) (question : (ch == 63) ≡ false) (span : Span) (rest tail : Trees) where
   -- a mark that begins nothing behind an operand
   looser-mark : (level : ℕ) → ((tighter : ℕ) → tighter ≤ level → operates tighter (mark (ch ∷ more) span ++ tail) ≡ false) → (range_level ≤ level → begins_operand (mark (ch ∷ more) span ++ tail) ≡ false) → Looser level rest (mark (ch ∷ more) span ++ tail)
   unfolding postfix_start
   looser-mark level operator operand = record {
-    colons = never is_colons rest _ (pair-apart 58 58 colon);
-    turbofish = never is_turbofish rest _ (rw (pair-apart 58 58 colon) refl);
+    colons = never is_colons rest _ (pair-apart ch more span tail 58 58 colon);
+    turbofish = never is_turbofish rest _ (rw (pair-apart ch more span tail 58 58 colon) refl);
     called = never (is_group delimiter.Parenthesis) rest _ (is_group-mark ch more span tail delimiter.Parenthesis);
     postfix = never (λ trees. goes_on (postfix_start trees)) rest _ (rw (is_group-mark ch more span tail delimiter.Parenthesis, is_group-mark ch more span tail delimiter.Bracket, mark_of-mark ch more span tail, dot, question) refl);
     operator = λ tighter within. never (operates tighter) rest _ (operator tighter within);
-    dots = λ within. never is_dots rest _ (pair-apart 46 46 dot);
+    dots = λ within. never is_dots rest _ (pair-apart ch more span tail 46 46 dot);
     operand = λ within. never begins_operand rest _ (operand within);
   }
 

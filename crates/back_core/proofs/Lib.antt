@@ -17,4 +17,5 @@ pub mod Infix
 pub mod Starts
 pub mod Operands
 pub mod Chains
+pub mod Ranges
 pub mod Within
