@@ -1,5 +1,6 @@
 -- What the beginnings of expressions tell.
 use Rattle.std.proofs.Common.{◌≡◌, ℕ, suc, Bool, true, false, ◌&&◌, ◌||◌, ◌==◌, if◌then◌else◌, [], ◌∷◌, refl, sym, ◌∙◌}
+use Rattle.std.proofs.Math.Bool.{and-false}
 use Rattle.std.proofs.lemmas.Bool.{and_parts, eqb-true}
 use Rattle.token_core.specs.declared.tree.Delimiter.{Delimiter}
 use Rattle.token_core.specs.declared.tree.Delimiter.TheVariants as delimiter
@@ -18,7 +19,6 @@ use Rattle.grammar_core.specs.Words.{is_word, next_word, sees, word_of}
 use Rattle.print_core.specs.Marks.{Trees}
 use Rattle.front_core.specs.Closures.{AlikeBodies}
 use Rattle.back_core.specs.Follow.{begins_range}
-use Rattle.back_core.proofs.Infix.{and-false}
 
 -- what begins an operand is no end, no `|`, no `..`, no `>`, no closure and no `mut`
 pub record OperandSeen (trees : Trees) : Type 0 where
