@@ -1,0 +1,239 @@
+-- The law of printing for atoms.
+use Rattle.std.proofs.Common.{◌≡◌, ◌⊎◌, inl, inr, ℕ, Bool, true, false, if◌then◌else◌, List, [], ◌∷◌, ◌++◌, map, length, Some, None, refl, arith, ap, sym, subst, ◌∙◌, append_assoc, append-nil, length-append, codes}
+use Rattle.std.proofs.lemmas.Option.{some_pair_parts}
+use Rattle.token_core.specs.declared.span.Span.{Span}
+use Rattle.token_core.specs.declared.tree.Delimiter.TheVariants as delimiter
+use Rattle.token_core.specs.declared.tree.TokenTree.TheVariants as tree
+use Rattle.expr_core.specs.declared.expr.Expr.{Expr}
+use Rattle.expr_core.specs.declared.expr.Expr.TheVariants as expr
+use Rattle.expr_core.specs.declared.lit.Lit.TheVariants as lit
+use Rattle.grammar_core.specs.declared.look.AtomStart.{AtomStart}
+use Rattle.grammar_core.specs.declared.look.AtomStart.TheVariants as atom
+use Rattle.grammar_core.specs.declared.word.Word.{Word}
+use Rattle.grammar_core.specs.declared.word.Word.TheVariants as word
+use Rattle.grammar_core.specs.Expressions.{lit_bool, expr_bool, literal, expr_group, expr_elements, expr_bracket, expr_in_parentheses, expr_in_brackets, expr_path, expr_qualified, invisible}
+use Rattle.grammar_core.specs.Input.{Input, Parser, ◌>>=◌, ◌>>◌, ◌<$>◌, pure, next, first_span, here, skip, after_eat, eat, is_end, items_after}
+use Rattle.grammar_core.specs.Literals.{lit_of}
+use Rattle.grammar_core.specs.Look.{atom_start}
+use Rattle.grammar_core.specs.Make as make
+use Rattle.grammar_core.specs.Readers.{Readers, any_level}
+use Rattle.grammar_core.specs.Token.{ident_of, is_comma, is_semicolon, literal_of, mark_of}
+use Rattle.grammar_core.specs.Words.{named_words, next_word, other_keywords, word_of}
+use Rattle.print_core.specs.Marks.{Trees, comma, group, joined, mark, word as printed_word}
+use Rattle.print_core.specs.Nodes.{expr_tokens}
+use Rattle.bare_core.specs.Bare.{bare_expr}
+use Rattle.bare_core.proofs.Made.{bare_expr-Array, bare_expr-Group, bare_expr-Infer, bare_expr-Lit, bare_expr-Paren, bare_expr-Path, bare_expr-Repeat, bare_expr-Tuple, bare_expr_path-make}
+use Rattle.front_core.specs.Alike.{Relation, Any}
+use Rattle.front_core.specs.Front.{at}
+use Rattle.back_core.specs.Follow.{AfterExpr, AfterPath}
+use Rattle.back_core.specs.Parts.{AllBacks}
+use Rattle.back_core.specs.Printed.{Reads, Back}
+use Rattle.back_core.proofs.Exprs.{print-Array, print-bool, print-expr_path, print-expr_qualified, print-Group, print-Infer, print-literal, print-Paren, print-Repeat, print-Tuple}
+use Rattle.back_core.proofs.Follows.{expr-end, expr-some, expr_before-mark, no-semicolon}
+use Rattle.back_core.proofs.Groups.{inner-rest}
+use Rattle.back_core.proofs.Lists.{ItemsMore, comma-length, items_from-more}
+use Rattle.back_core.proofs.Marks.{is_comma-comma, literal_of-Literal, mark-length, mark_of-mark, out-Ident, word-length}
+use Rattle.back_core.proofs.Paths.{path-back}
+use Rattle.back_core.proofs.Qualified.{Pair, qualified-back}
+use Rattle.back_core.proofs.Starts.{group-atom, literal-atom, path-atom, qualified-atom, word-atom}
+use Rattle.back_core.proofs.Steps.{Gives, Rest, bind-at, whole, shown-rest, pure-rest, here-rest, test-rest, then-rest, close-rest}
+use Rattle.back_core.proofs.Takes.{AtEnd, eat_or-rest, inside-rest, skip-rest, skipped-over, take_as-rest}
+
+-- an atom that begins so
+abbrev pub Atom : AtomStart → Relation
+Atom begins rest tail = atom_start tail ≡ begins
+
+-- ---- literals, and single words
+
+pub literal-back : Back bare_expr expr_tokens (Atom atom.Literal) Any literal
+unfolding literal
+literal-back = whole {P = Unit {0}} (take_as-rest {Second = Any} literal_of tree.Literal (λ rest tail it is. literal_of-Literal it tail)
+    (λ it. pure-rest tt (expr.Lit (lit_of it)) (λ q. expr.Lit (lit_of it)) (print-literal it) (λ q ok. refl)) (λ input tail it is f. literal-atom it tail))
+
+abbrev is_true : Word → Bool
+is_true word.True = true
+is_true _ = false
+
+abbrev truth : Bool → Span → Expr
+truth value span = expr.Lit (lit.Bool (record { value = value; span = span }))
+
+lit_bool-is : (it : Word) (span : Span) → lit_bool it span ≡ truth (is_true it) span
+lit_bool-is word.True span = refl
+lit_bool-is _ span = refl
+
+-- `true` or `false` as it is printed
+truth-seen : (value : Bool) (span : Span) (tail : Trees) → (atom_start (printed_word (if value then codes "true" else codes "false") span ++ tail) ≡ atom.Bool) × (is_true (next_word (printed_word (if value then codes "true" else codes "false") span ++ tail)) ≡ value)
+unfolding word_of named_words other_keywords
+truth-seen true span tail = (word-atom (codes "true") span tail, seen)
+  where
+    seen : is_true (next_word (printed_word (codes "true") span ++ tail)) ≡ true
+    unfolding printed_word next_word ident_of word_of named_words other_keywords
+    seen = rw (out-Ident (record { text = codes "true"; raw = false; span = span })) refl
+truth-seen false span tail = (word-atom (codes "false") span tail, seen)
+  where
+    seen : is_true (next_word (printed_word (codes "false") span ++ tail)) ≡ false
+    unfolding printed_word next_word ident_of word_of named_words other_keywords
+    seen = rw (out-Ident (record { text = codes "false"; raw = false; span = span })) refl
+
+pub expr_bool-back : Back bare_expr expr_tokens (Atom atom.Bool) Any expr_bool
+unfolding expr_bool next
+expr_bool-back = record { of = λ input after found e.
+    let both = some_pair_parts (lit_bool (next_word input.rest) (first_span input.rest)) found (next input) after e in
+    subst (λ found. Reads bare_expr (λ tail. atom_start tail ≡ atom.Bool) (λ tail. Unit {0}) expr_bool (expr_tokens found) found) (sym (lit_bool-is (next_word input.rest) (first_span input.rest)) ∙ both.0) (read (is_true (next_word input.rest)) (first_span input.rest)) }
+  where
+    read : (value : Bool) (span : Span) → Reads bare_expr (λ tail. atom_start tail ≡ atom.Bool) (λ tail. Unit {0}) expr_bool (expr_tokens (truth value span)) (truth value span)
+    read value span = rw (print-bool value span) (record {
+      again = λ tail last f.
+          let tokens = printed_word (if value then codes "true" else codes "false") span in
+          let stands = skipped-over 1 tokens tail last (word-length (if value then codes "true" else codes "false") span) in
+          record {
+            value = lit_bool (next_word (tokens ++ tail)) (first_span (tokens ++ tail));
+            new = stands.0;
+            is = ap (λ input. Some (lit_bool (next_word (tokens ++ tail)) (first_span (tokens ++ tail)), input)) stands.1;
+            same = rw (lit_bool-is (next_word (tokens ++ tail)) (first_span (tokens ++ tail)), (truth-seen value span tail).1, bare_expr-Lit, bare_expr-Lit) refl;
+          };
+      first = λ tail f. (truth-seen value span tail).0;
+    })
+
+-- `_`
+pub infer-back : Back bare_expr expr_tokens (Atom atom.Infer) Any (here >>= (λ span. skip >> pure (expr.Infer span)))
+infer-back = whole (here-rest (λ span. skip-rest {Second = Any} (λ (place : Unit {0}). printed_word (codes "_") span) (λ place. word-length (codes "_") span)
+    (pure-rest tt (expr.Infer span) (λ q. expr.Infer q.1) (rw (print-Infer, append-nil) refl) (λ q ok. rw (bare_expr-Infer, bare_expr-Infer) refl)) (λ input tail place f. begins span tail)))
+  where
+    begins : (span : Span) (tail : Trees) → atom_start (printed_word (codes "_") span ++ tail) ≡ atom.Infer
+    unfolding word_of named_words other_keywords
+    begins span tail = word-atom (codes "_") span tail
+
+module _ (readers : Readers) (parts : AllBacks readers) where
+  -- ---- paths
+
+  pub expr_path-back : Back bare_expr expr_tokens (Atom atom.Path) (AfterPath false) (expr_path readers)
+  unfolding expr_path
+  expr_path-back = whole (here-rest (λ start.
+      then-rest {Second = AfterPath false} (λ (place : Span). path-back readers parts false) (λ found. close-rest start (λ q. q.0.1) (make.expr_path None found) (λ q. make.expr_path None q.1)
+      (λ span. rw (print-expr_path, append-nil) refl) (λ span other q ok. rw (bare_expr-Path, bare_expr-Path, bare_expr_path-make, bare_expr_path-make, ok.1) refl))
+      (λ rest tail f. f) (λ rest tail f. path-atom tail f.0)))
+
+  pub expr_qualified-back : Back bare_expr expr_tokens (Atom atom.Qualified) (AfterPath false) (expr_qualified readers)
+  unfolding expr_qualified
+  expr_qualified-back = whole (here-rest (λ start.
+      then-rest {Second = AfterPath false} (λ (place : Span). qualified-back readers parts false) (λ found. close-rest start (λ q. q.0.1) (make.expr_path (Some found.0) found.1) (λ q. make.expr_path (Some q.1.0) q.1.1)
+      (λ span. rw (print-expr_qualified, append-nil) refl)
+      (λ span other q ok. rw (bare_expr-Path, bare_expr-Path, bare_expr_path-make, bare_expr_path-make, ap (λ (it : Pair). it.0) ok.1, ap (λ (it : Pair). it.1) ok.1) refl))
+      (λ rest tail f. f) (λ rest tail f. qualified-atom tail f.0)))
+
+  -- ---- groups
+
+  pub parentheses-back : Back bare_expr expr_tokens (Atom atom.Parenthesis) Any (expr_in_parentheses readers)
+  unfolding expr_in_parentheses expr_group
+  parentheses-back = whole (here-rest (λ span. inside-rest {Inner = Any} delimiter.Parenthesis (λ (place : Unit {0}). span)
+      (inner-rest bare_expr expr_tokens (readers.expr any_level) (parts.expr any_level) (λ rest tail f. expr-some any_level rest tail f) (λ rest. expr-end any_level rest) (λ rest tail span. expr_before-mark 44 refl span rest tail any_level)
+      expr.Tuple expr.Paren print-Tuple print-Paren
+      (λ one two span other same. rw (bare_expr-Tuple, bare_expr-Tuple, same) refl) (λ one two span other same. rw (bare_expr-Paren, bare_expr-Paren, same) refl) span)
+      (λ rest inner tail span' seen f. group-atom delimiter.Parenthesis inner tail span')))
+
+  pub invisible-back : Back bare_expr expr_tokens (Atom atom.Invisible) Any (invisible readers)
+  unfolding invisible
+  invisible-back = whole (here-rest (λ span. inside-rest {Inner = Any} delimiter.None (λ (place : Unit {0}). span)
+      (then-rest {Second = AtEnd} (λ place. parts.expr any_level) (λ found. pure-rest tt (expr.Group found span) (λ q. expr.Group q.1 q.0.1) (rw (print-Group, append-nil) refl) (λ q ok. rw (bare_expr-Group, bare_expr-Group, ok.1) refl))
+      (λ rest tail f. rw f (expr-end any_level rest)) (λ rest tail f. tt))
+      (λ rest inner tail span' seen f. group-atom delimiter.None inner tail span')))
+
+  -- ---- brackets
+
+  module _ (span : Span) (first : Expr) where
+    -- the first element is there already
+    abbrev Env : Type 0
+    Env = (Unit {0} × Span) × Expr
+
+    abbrev Fine : Env → Type 0
+    Fine q = Unit {0} × (bare_expr q.1 ≡ bare_expr first)
+
+    abbrev elements : Span → Expr → Parser Expr
+    elements span first = eat 1 is_comma >>= (λ more. if more then (λ elems. make.expr_array elems span) <$> items_after (readers.expr any_level) (first ∷ []) else pure (make.expr_array (first ∷ []) span))
+
+    -- no `;`, and what may follow an element
+    abbrev NoLength : Relation
+    NoLength rest tail = (is_semicolon tail ≡ false) × AfterExpr any_level rest tail
+
+    abbrev ElementsGive : Trees → Expr → Type 0
+    ElementsGive rest found = Gives {P = Unit {0}} {Q = Env} Fine bare_expr expr_tokens (λ place tokens. group delimiter.Bracket (expr_tokens first ++ tokens) span) (NoLength rest) (λ tail. tail ≡ []) (λ q. elements q.0.1 q.1) found
+
+    one-element : (rest : Trees) → ElementsGive rest (make.expr_array (first ∷ []) span)
+    unfolding after_eat mark_of
+    one-element rest = record {
+      place = tt;
+      tokens = [];
+      is = print-Array (first ∷ []) span;
+      again = λ q ok tail last f. rw f (record { value = make.expr_array (q.1 ∷ []) q.0.1; new = last; is = refl; same = rw (bare_expr-Array, bare_expr-Array, ok.1) refl });
+      first = λ tail f. rw f (no-semicolon, expr-end any_level rest);
+    }
+
+    abbrev More : List Expr → Type 0
+    More items = ItemsMore bare_expr expr_tokens (readers.expr any_level) (readers.expr any_level) (parts.expr any_level) (λ rest tail f. expr-some any_level rest tail f) (λ rest. expr-end any_level rest) (λ rest tail span. expr_before-mark 44 refl span rest tail any_level) span (first ∷ []) items
+
+    no-length : (tail : Trees) → is_semicolon (comma span ++ tail) ≡ false
+    no-length tail = rw (mark_of-mark 44 [] span tail) refl
+
+    more-elements : (rest : Trees) (items : List Expr) → More items → ElementsGive rest (make.expr_array items span)
+    unfolding after_eat
+    more-elements rest items two = record {
+      place = tt;
+      tokens = comma span ++ two.tokens;
+      is = rw (print-Array items span, two.is, append-nil, append_assoc) refl;
+      again = λ q ok tail last f. rw f (
+          let stands = skipped-over 1 (comma span) (two.tokens ++ []) last (comma-length span) in
+          let more = two.again (length (two.tokens ++ [])) (q.1 ∷ []) (rw (ok.1) refl) [] stands.0 (omega (arith, length-append two.tokens [])) refl in
+          record {
+            value = make.expr_array more.value q.0.1;
+            new = more.new;
+            is = rw (append_assoc (comma span) two.tokens [], is_comma-comma (two.tokens ++ []) span, stands.1, more.is) refl;
+            same = rw (bare_expr-Array, bare_expr-Array, more.same) refl;
+          });
+      first = λ tail f. rw (append_assoc (comma span) two.tokens tail) (no-length (two.tokens ++ tail), expr_before-mark 44 refl span rest (two.tokens ++ tail) any_level);
+    }
+
+    elements-rest : Rest {P = Unit {0}} {Q = Env} Fine bare_expr expr_tokens (λ place tokens. group delimiter.Bracket (expr_tokens first ++ tokens) span) NoLength AtEnd (elements span first) (λ q. elements q.0.1 q.1)
+    elements-rest = record { of = λ input after found e. by input after found (is_comma input.rest) e }
+      where
+        choose : (rest : Trees) (items : List Expr) → (items ≡ first ∷ []) ⊎ More items → ElementsGive rest (make.expr_array items span)
+        choose rest items (inl same) = rw same (one-element rest)
+        choose rest items (inr two) = more-elements rest items two
+
+        by : (input after : Input) (found : Expr) (b : Bool) → (if b then (λ elems. make.expr_array elems span) <$> items_after (readers.expr any_level) (first ∷ []) else pure (make.expr_array (first ∷ []) span)) (after_eat 1 b input) ≡ Some (found, after) → ElementsGive input.rest found
+        by input after found false e = subst (ElementsGive input.rest) (some_pair_parts (make.expr_array (first ∷ []) span) found (after_eat 1 false input) after e).0 (one-element input.rest)
+        by input after found true e =
+            let behind = after_eat 1 true input in
+            let split = bind-at (items_after (readers.expr any_level) (first ∷ []) behind) (λ elems. pure (make.expr_array elems span)) found after e in
+            subst (ElementsGive input.rest) (some_pair_parts (make.expr_array split.0 span) found split.1 after split.3).0 (choose input.rest split.0
+            (items_from-more bare_expr expr_tokens (readers.expr any_level) (readers.expr any_level) (parts.expr any_level) (λ rest tail f. expr-some any_level rest tail f) (λ rest. expr-end any_level rest) (λ rest tail span. expr_before-mark 44 refl span rest tail any_level) span (length behind.rest) (first ∷ []) behind split.1 split.0 split.2))
+
+  -- nothing, or an element
+  abbrev Bracketed : Bool → Relation
+  Bracketed true = AtEnd
+  Bracketed false rest tail = is_end tail ≡ false
+
+  bracket_by : (span : Span) (done : Bool) → Rest {P = Unit {0}} {Q = Unit {0} × Span} (λ q. Unit {0}) bare_expr expr_tokens (λ place tokens. group delimiter.Bracket tokens span) (Bracketed done) AtEnd
+      (if done then pure (make.expr_array [] span) else readers.expr any_level >>= expr_elements readers span) (λ q. if done then pure (make.expr_array [] q.1) else readers.expr any_level >>= expr_elements readers q.1)
+  unfolding expr_elements
+  bracket_by span true = pure-rest tt (make.expr_array [] span) (λ q. make.expr_array [] q.1) (print-Array [] span) (λ q ok. rw (bare_expr-Array, bare_expr-Array) refl)
+  bracket_by span false =
+      then-rest {Second = AfterExpr any_level} (λ place. parts.expr any_level) (λ first.
+      eat_or-rest {Yes = Any} {No = NoLength span first} 1 is_semicolon (λ place. mark (codes ";") span) (λ place. mark-length (codes ";") span) (λ place tail. rw (mark_of-mark 59 [] span tail) refl)
+      (then-rest {Second = AtEnd} (λ place. parts.expr any_level) (λ len. pure-rest tt (expr.Repeat first len span) (λ q. expr.Repeat q.0.1 q.1 q.0.0.1)
+      (rw (print-Repeat, append-nil, append_assoc) refl) (λ q ok. rw (bare_expr-Repeat, bare_expr-Repeat, ok.0.1, ok.1) refl))
+      (λ rest tail f. rw f (expr-end any_level rest)) (λ rest tail f. tt))
+      (elements-rest span first)
+      (λ input tail place seen f. expr_before-mark 59 refl span input.rest tail any_level)
+      (λ rest tail seen f. f))
+      (λ rest tail f. f) (λ rest tail f. expr-some any_level rest tail f)
+
+  pub brackets-back : Back bare_expr expr_tokens (Atom atom.Bracket) Any (expr_in_brackets readers)
+  unfolding expr_in_brackets expr_bracket
+  brackets-back = whole (here-rest (λ span. inside-rest {Inner = Any} delimiter.Bracket (λ (place : Unit {0}). span)
+      (test-rest {by = Bracketed} is_end (bracket_by span) (λ b rest tail seen f. (bracketed b tail f, tt)))
+      (λ rest inner tail span' seen f. group-atom delimiter.Bracket inner tail span')))
+    where
+      bracketed : (b : Bool) {rest : Trees} (tail : Trees) → Bracketed b rest tail → is_end tail ≡ b
+      bracketed true tail f = rw f refl
+      bracketed false tail f = f
