@@ -12,7 +12,7 @@ use Rattle.grammar_core.specs.declared.look.AtomStart.TheVariants as atom
 use Rattle.grammar_core.specs.declared.word.Word.{Word}
 use Rattle.grammar_core.specs.declared.word.Word.TheVariants as word
 use Rattle.grammar_core.specs.Expressions.{lit_bool, expr_bool, literal, expr_group, expr_elements, expr_bracket, expr_in_parentheses, expr_in_brackets, expr_path, expr_qualified, invisible}
-use Rattle.grammar_core.specs.Input.{Input, Parser, ◌>>=◌, ◌>>◌, ◌<$>◌, pure, next, first_span, here, skip, after_eat, eat, is_end, items_after}
+use Rattle.grammar_core.specs.Input.{Input, Parser, ◌>>=◌, ◌>>◌, ◌<$>◌, pure, next, first_span, here, skip, skipped, after_eat, eat, is_end, items_after}
 use Rattle.grammar_core.specs.Literals.{lit_of}
 use Rattle.grammar_core.specs.Look.{atom_start}
 use Rattle.grammar_core.specs.Make as make
@@ -29,13 +29,14 @@ use Rattle.back_core.specs.Follow.{AfterExpr, AfterPath}
 use Rattle.back_core.specs.Parts.{AllBacks}
 use Rattle.back_core.specs.Printed.{Reads, Back}
 use Rattle.back_core.proofs.Exprs.{print-Array, print-bool, print-expr_path, print-expr_qualified, print-Group, print-Infer, print-literal, print-Paren, print-Repeat, print-Tuple}
-use Rattle.back_core.proofs.Follows.{expr-end, expr-some, expr_before-mark, no-semicolon}
+use Rattle.back_core.proofs.Follows.{no-semicolon}
 use Rattle.back_core.proofs.Groups.{inner-rest}
+use Rattle.back_core.proofs.Infix.{expr-end, expr_before-comma, expr_before-semicolon}
 use Rattle.back_core.proofs.Lists.{ItemsMore, comma-length, items_from-more}
-use Rattle.back_core.proofs.Marks.{is_comma-comma, literal_of-Literal, mark-length, mark_of-mark, out-Ident, word-length}
+use Rattle.back_core.proofs.Marks.{is_comma-comma, mark-length, mark_of-mark, out-Ident, word-length}
 use Rattle.back_core.proofs.Paths.{path-back}
 use Rattle.back_core.proofs.Qualified.{Pair, qualified-back}
-use Rattle.back_core.proofs.Starts.{group-atom, literal-atom, path-atom, qualified-atom, word-atom}
+use Rattle.back_core.proofs.Beginnings.{expr-some, group-atom, literal-atom, literal_of-Literal, path-atom, qualified-atom, word-atom}
 use Rattle.back_core.proofs.Steps.{Gives, Rest, bind-at, whole, shown-rest, pure-rest, here-rest, test-rest, then-rest, close-rest}
 use Rattle.back_core.proofs.Takes.{AtEnd, eat_or-rest, inside-rest, skip-rest, skipped-over, take_as-rest}
 
@@ -62,21 +63,21 @@ lit_bool-is word.True span = refl
 lit_bool-is _ span = refl
 
 -- `true` or `false` as it is printed
-truth-seen : (value : Bool) (span : Span) (tail : Trees) → (atom_start (printed_word (if value then codes "true" else codes "false") span ++ tail) ≡ atom.Bool) × (is_true (next_word (printed_word (if value then codes "true" else codes "false") span ++ tail)) ≡ value)
+abbrev truth_tokens : Bool → Span → Trees
+truth_tokens value span = printed_word (if value then codes "true" else codes "false") span
+
+sees-truth : (value : Bool) (span : Span) (tail : Trees) → is_true (next_word (truth_tokens value span ++ tail)) ≡ value
+unfolding printed_word next_word ident_of word_of named_words other_keywords
+sees-truth true span tail = rw (out-Ident (record { text = codes "true"; raw = false; span = span })) refl
+sees-truth false span tail = rw (out-Ident (record { text = codes "false"; raw = false; span = span })) refl
+
+truth-atom : (value : Bool) (span : Span) (tail : Trees) → atom_start (truth_tokens value span ++ tail) ≡ atom.Bool
 unfolding word_of named_words other_keywords
-truth-seen true span tail = (word-atom (codes "true") span tail, seen)
-  where
-    seen : is_true (next_word (printed_word (codes "true") span ++ tail)) ≡ true
-    unfolding printed_word next_word ident_of word_of named_words other_keywords
-    seen = rw (out-Ident (record { text = codes "true"; raw = false; span = span })) refl
-truth-seen false span tail = (word-atom (codes "false") span tail, seen)
-  where
-    seen : is_true (next_word (printed_word (codes "false") span ++ tail)) ≡ false
-    unfolding printed_word next_word ident_of word_of named_words other_keywords
-    seen = rw (out-Ident (record { text = codes "false"; raw = false; span = span })) refl
+truth-atom true span tail = word-atom (codes "true") span tail
+truth-atom false span tail = word-atom (codes "false") span tail
 
 pub expr_bool-back : Back bare_expr expr_tokens (Atom atom.Bool) Any expr_bool
-unfolding expr_bool next
+unfolding expr_bool next skipped
 expr_bool-back = record { of = λ input after found e.
     let both = some_pair_parts (lit_bool (next_word input.rest) (first_span input.rest)) found (next input) after e in
     subst (λ found. Reads bare_expr (λ tail. atom_start tail ≡ atom.Bool) (λ tail. Unit {0}) expr_bool (expr_tokens found) found) (sym (lit_bool-is (next_word input.rest) (first_span input.rest)) ∙ both.0) (read (is_true (next_word input.rest)) (first_span input.rest)) }
@@ -84,25 +85,25 @@ expr_bool-back = record { of = λ input after found e.
     read : (value : Bool) (span : Span) → Reads bare_expr (λ tail. atom_start tail ≡ atom.Bool) (λ tail. Unit {0}) expr_bool (expr_tokens (truth value span)) (truth value span)
     read value span = rw (print-bool value span) (record {
       again = λ tail last f.
-          let tokens = printed_word (if value then codes "true" else codes "false") span in
+          let tokens = truth_tokens value span in
           let stands = skipped-over 1 tokens tail last (word-length (if value then codes "true" else codes "false") span) in
           record {
             value = lit_bool (next_word (tokens ++ tail)) (first_span (tokens ++ tail));
             new = stands.0;
             is = ap (λ input. Some (lit_bool (next_word (tokens ++ tail)) (first_span (tokens ++ tail)), input)) stands.1;
-            same = rw (lit_bool-is (next_word (tokens ++ tail)) (first_span (tokens ++ tail)), (truth-seen value span tail).1, bare_expr-Lit, bare_expr-Lit) refl;
+            same = rw (lit_bool-is (next_word (tokens ++ tail)) (first_span (tokens ++ tail)), sees-truth value span tail, bare_expr-Lit, bare_expr-Lit) refl;
           };
-      first = λ tail f. (truth-seen value span tail).0;
+      first = λ tail f. truth-atom value span tail;
     })
 
 -- `_`
+infer-atom : (span : Span) (tail : Trees) → atom_start (printed_word (codes "_") span ++ tail) ≡ atom.Infer
+unfolding word_of named_words other_keywords
+infer-atom span tail = word-atom (codes "_") span tail
+
 pub infer-back : Back bare_expr expr_tokens (Atom atom.Infer) Any (here >>= (λ span. skip >> pure (expr.Infer span)))
 infer-back = whole (here-rest (λ span. skip-rest {Second = Any} (λ (place : Unit {0}). printed_word (codes "_") span) (λ place. word-length (codes "_") span)
-    (pure-rest tt (expr.Infer span) (λ q. expr.Infer q.1) (rw (print-Infer, append-nil) refl) (λ q ok. rw (bare_expr-Infer, bare_expr-Infer) refl)) (λ input tail place f. begins span tail)))
-  where
-    begins : (span : Span) (tail : Trees) → atom_start (printed_word (codes "_") span ++ tail) ≡ atom.Infer
-    unfolding word_of named_words other_keywords
-    begins span tail = word-atom (codes "_") span tail
+    (pure-rest tt (expr.Infer span) (λ q. expr.Infer q.1) (rw (print-Infer, append-nil) refl) (λ q ok. rw (bare_expr-Infer, bare_expr-Infer) refl)) (λ input tail place f. infer-atom span tail)))
 
 module _ (readers : Readers) (parts : AllBacks readers) where
   -- ---- paths
@@ -127,7 +128,7 @@ module _ (readers : Readers) (parts : AllBacks readers) where
   pub parentheses-back : Back bare_expr expr_tokens (Atom atom.Parenthesis) Any (expr_in_parentheses readers)
   unfolding expr_in_parentheses expr_group
   parentheses-back = whole (here-rest (λ span. inside-rest {Inner = Any} delimiter.Parenthesis (λ (place : Unit {0}). span)
-      (inner-rest bare_expr expr_tokens (readers.expr any_level) (parts.expr any_level) (λ rest tail f. expr-some any_level rest tail f) (λ rest. expr-end any_level rest) (λ rest tail span. expr_before-mark 44 refl span rest tail any_level)
+      (inner-rest bare_expr expr_tokens (readers.expr any_level) (parts.expr any_level) (λ rest tail f. expr-some any_level tail f.begins) (λ rest. expr-end any_level rest) (λ rest tail span. expr_before-comma any_level rest tail span)
       expr.Tuple expr.Paren print-Tuple print-Paren
       (λ one two span other same. rw (bare_expr-Tuple, bare_expr-Tuple, same) refl) (λ one two span other same. rw (bare_expr-Paren, bare_expr-Paren, same) refl) span)
       (λ rest inner tail span' seen f. group-atom delimiter.Parenthesis inner tail span')))
@@ -170,7 +171,7 @@ module _ (readers : Readers) (parts : AllBacks readers) where
     }
 
     abbrev More : List Expr → Type 0
-    More items = ItemsMore bare_expr expr_tokens (readers.expr any_level) (readers.expr any_level) (parts.expr any_level) (λ rest tail f. expr-some any_level rest tail f) (λ rest. expr-end any_level rest) (λ rest tail span. expr_before-mark 44 refl span rest tail any_level) span (first ∷ []) items
+    More items = ItemsMore bare_expr expr_tokens (readers.expr any_level) (readers.expr any_level) (parts.expr any_level) (λ rest tail f. expr-some any_level tail f.begins) (λ rest. expr-end any_level rest) (λ rest tail span. expr_before-comma any_level rest tail span) span (first ∷ []) items
 
     no-length : (tail : Trees) → is_semicolon (comma span ++ tail) ≡ false
     no-length tail = rw (mark_of-mark 44 [] span tail) refl
@@ -190,7 +191,7 @@ module _ (readers : Readers) (parts : AllBacks readers) where
             is = rw (append_assoc (comma span) two.tokens [], is_comma-comma (two.tokens ++ []) span, stands.1, more.is) refl;
             same = rw (bare_expr-Array, bare_expr-Array, more.same) refl;
           });
-      first = λ tail f. rw (append_assoc (comma span) two.tokens tail) (no-length (two.tokens ++ tail), expr_before-mark 44 refl span rest (two.tokens ++ tail) any_level);
+      first = λ tail f. rw (append_assoc (comma span) two.tokens tail) (no-length (two.tokens ++ tail), expr_before-comma any_level rest (two.tokens ++ tail) span);
     }
 
     elements-rest : Rest {P = Unit {0}} {Q = Env} Fine bare_expr expr_tokens (λ place tokens. group delimiter.Bracket (expr_tokens first ++ tokens) span) NoLength AtEnd (elements span first) (λ q. elements q.0.1 q.1)
@@ -206,12 +207,12 @@ module _ (readers : Readers) (parts : AllBacks readers) where
             let behind = after_eat 1 true input in
             let split = bind-at (items_after (readers.expr any_level) (first ∷ []) behind) (λ elems. pure (make.expr_array elems span)) found after e in
             subst (ElementsGive input.rest) (some_pair_parts (make.expr_array split.0 span) found split.1 after split.3).0 (choose input.rest split.0
-            (items_from-more bare_expr expr_tokens (readers.expr any_level) (readers.expr any_level) (parts.expr any_level) (λ rest tail f. expr-some any_level rest tail f) (λ rest. expr-end any_level rest) (λ rest tail span. expr_before-mark 44 refl span rest tail any_level) span (length behind.rest) (first ∷ []) behind split.1 split.0 split.2))
+            (items_from-more bare_expr expr_tokens (readers.expr any_level) (readers.expr any_level) (parts.expr any_level) (λ rest tail f. expr-some any_level tail f.begins) (λ rest. expr-end any_level rest) (λ rest tail span. expr_before-comma any_level rest tail span) span (length behind.rest) (first ∷ []) behind split.1 split.0 split.2))
 
   -- nothing, or an element
   abbrev Bracketed : Bool → Relation
   Bracketed true = AtEnd
-  Bracketed false rest tail = is_end tail ≡ false
+  Bracketed false = λ rest tail. is_end tail ≡ false
 
   bracket_by : (span : Span) (done : Bool) → Rest {P = Unit {0}} {Q = Unit {0} × Span} (λ q. Unit {0}) bare_expr expr_tokens (λ place tokens. group delimiter.Bracket tokens span) (Bracketed done) AtEnd
       (if done then pure (make.expr_array [] span) else readers.expr any_level >>= expr_elements readers span) (λ q. if done then pure (make.expr_array [] q.1) else readers.expr any_level >>= expr_elements readers q.1)
@@ -224,16 +225,16 @@ module _ (readers : Readers) (parts : AllBacks readers) where
       (rw (print-Repeat, append-nil, append_assoc) refl) (λ q ok. rw (bare_expr-Repeat, bare_expr-Repeat, ok.0.1, ok.1) refl))
       (λ rest tail f. rw f (expr-end any_level rest)) (λ rest tail f. tt))
       (elements-rest span first)
-      (λ input tail place seen f. expr_before-mark 59 refl span input.rest tail any_level)
+      (λ input tail place seen f. expr_before-semicolon any_level input.rest tail span)
       (λ rest tail seen f. f))
-      (λ rest tail f. f) (λ rest tail f. expr-some any_level rest tail f)
+      (λ rest tail f. f) (λ rest tail f. expr-some any_level tail f.begins)
 
   pub brackets-back : Back bare_expr expr_tokens (Atom atom.Bracket) Any (expr_in_brackets readers)
   unfolding expr_in_brackets expr_bracket
   brackets-back = whole (here-rest (λ span. inside-rest {Inner = Any} delimiter.Bracket (λ (place : Unit {0}). span)
-      (test-rest {by = Bracketed} is_end (bracket_by span) (λ b rest tail seen f. (bracketed b tail f, tt)))
+      (test-rest {by = Bracketed} is_end (bracket_by span) (λ b rest tail seen f. (bracketed b rest tail f, tt)))
       (λ rest inner tail span' seen f. group-atom delimiter.Bracket inner tail span')))
     where
-      bracketed : (b : Bool) {rest : Trees} (tail : Trees) → Bracketed b rest tail → is_end tail ≡ b
-      bracketed true tail f = rw f refl
-      bracketed false tail f = f
+      bracketed : (b : Bool) (rest tail : Trees) → Bracketed b rest tail → is_end tail ≡ b
+      bracketed true rest tail f = rw f refl
+      bracketed false rest tail f = f

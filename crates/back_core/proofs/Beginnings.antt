@@ -1,5 +1,5 @@
 -- How the beginning of an atom is seen, in the source and in its printing.
-use Rattle.std.proofs.Common.{◌≡◌, ℕ, Bool, true, false, ◌&&◌, ◌==◌, if◌then◌else◌, List, [], ◌∷◌, ◌++◌, refl, codes}
+use Rattle.std.proofs.Common.{◌≡◌, ℕ, Bool, true, false, ◌&&◌, ◌||◌, ◌==◌, if◌then◌else◌, List, [], ◌∷◌, ◌++◌, Some, refl, codes}
 use Rattle.std.proofs.lemmas.Bool.{and_parts, both_ways, eqb-true}
 use Rattle.token_core.specs.declared.ident.Ident.{Ident}
 use Rattle.token_core.specs.declared.span.Span.{Span}
@@ -16,12 +16,14 @@ use Rattle.grammar_core.specs.declared.look.OperandStart.TheVariants as operand
 use Rattle.grammar_core.specs.declared.look.TypeStart.TheVariants as begin
 use Rattle.grammar_core.specs.declared.word.Word.{Word}
 use Rattle.grammar_core.specs.declared.word.Word.TheVariants as word
-use Rattle.grammar_core.specs.Look.{atom_start, atom_word, begins_constant, is_atom, is_bool, operand_start, type_start, type_word}
+use Rattle.grammar_core.specs.Input.{is_end}
+use Rattle.grammar_core.specs.Look.{atom_start, atom_word, begins_closure, begins_constant, begins_operand, is_atom, is_bool, operand_start, type_start, type_word}
+use Rattle.grammar_core.specs.Readers.{any_level, constant_level, range_level}
 use Rattle.grammar_core.specs.Token.{Layer, same_delimiter, is_arrow, is_bar, is_colons, is_group, is_joint, is_less, is_pair, ident_of, literal_of, mark_of}
 use Rattle.grammar_core.specs.Words.{begins_segment, next_word, word_of}
 use Rattle.print_core.specs.Marks.{Trees, group, word as printed_word}
 use Rattle.front_core.specs.Closures.{AlikeBodies}
-use Rattle.back_core.specs.Follow.{BeginsExpr, is_path}
+use Rattle.back_core.specs.Follow.{BeginsExpr, begins_expr, begins_range, is_path}
 use Rattle.back_core.proofs.Marks.{mark_of-mark, out-Ident, out-Literal, next_word-group, no-group}
 use Rattle.back_core.proofs.Takes.{is_group-group}
 
@@ -38,11 +40,11 @@ atom-mark ch joint second h = by (ch == 60) refl h
     pair : (b : Bool) → (joint && (ch == 58 && second)) ≡ b → is_atom (if b then atom.Path else atom.Nothing) ≡ true → Apart
     pair true is h =
         let marks = and_parts (ch == 58) second (and_parts joint (ch == 58 && second) is).1 in
-        rw (eqb-true ch 58 marks.0) (refl, (refl, (refl, refl)))
+        rw (eqb-true ch 58 marks.0) (refl, refl, refl, refl)
     pair false is h = absurd cc
 
     by : (b : Bool) → (ch == 60) ≡ b → is_atom (if b then atom.Qualified else (if joint && (ch == 58 && second) then atom.Path else atom.Nothing)) ≡ true → Apart
-    by true is h = rw (eqb-true ch 60 is) (refl, (refl, (refl, refl)))
+    by true is h = rw (eqb-true ch 60 is) (refl, refl, refl, refl)
     by false is h = pair (joint && (ch == 58 && second)) refl h
 
 atom-operand : (trees : Trees) → is_atom (atom_start trees) ≡ true → operand_start trees ≡ operand.Atom (atom_start trees)
@@ -57,7 +59,7 @@ atom-operand (tree ∷ trees) h = by (out-TokenTree tree) refl
     by (TokenTree-F.Group group) is = rw is refl
     by (TokenTree-F.Punct punct) is =
         let apart = atom-mark punct.ch punct.joint (mark_of trees == 58) (rw is at h) in
-        rw (is, apart.0, apart.1.0, apart.1.1.0, apart.1.1.1) refl
+        rw (is, apart.0, apart.1, apart.2, apart.3) refl
 
 pub atom-begins : (begins : AtomStart) (trees : Trees) → is_atom begins ≡ true → atom_start trees ≡ begins → operand_start trees ≡ operand.Atom begins
 atom-begins begins trees h is = rw (← is) (atom-operand trees (rw is h))
@@ -78,6 +80,10 @@ pub literal-atom : (it : Literal) (tail : Trees) → atom_start (tree.Literal it
 unfolding atom_start is_group literal_of
 literal-atom it tail = rw (out-Literal it) refl
 
+pub literal_of-Literal : (it : Literal) (tail : Trees) → literal_of (tree.Literal it ∷ tail) ≡ Some it
+unfolding literal_of
+literal_of-Literal it tail = rw (out-Literal it) refl
+
 ident-atom : (it : Ident) (tail : Trees) → atom_start (tree.Ident it ∷ tail) ≡ atom_word (word_of it)
 unfolding atom_start is_group mark_of is_pair is_joint next_word ident_of literal_of
 ident-atom it tail = rw (out-Ident it) refl
@@ -91,16 +97,12 @@ segment-atom word.Name h = refl
 segment-atom word.PathStart h = refl
 segment-atom _ h = absurd cc
 
-or-left : (b : Bool) → (if b then true else false) ≡ true → b ≡ true
-or-left true h = refl
-or-left false h = absurd cc
-
 pub path-atom : (trees : Trees) → is_path trees ≡ true → atom_start trees ≡ atom.Path
 unfolding atom_start is_pair is_joint is_group mark_of next_word ident_of literal_of
 path-atom [] h = absurd cc
 path-atom (tree ∷ trees) h = by (out-TokenTree tree) refl
   where
-    pair : (ch : ℕ) (joint second b : Bool) → (joint && (ch == 58 && second)) ≡ b → (if b then true else false) ≡ true → (if ch == 60 then atom.Qualified else (if joint && (ch == 58 && second) then atom.Path else atom.Nothing)) ≡ atom.Path
+    pair : (ch : ℕ) (joint second b : Bool) → (joint && (ch == 58 && second)) ≡ b → (b || false) ≡ true → (if ch == 60 then atom.Qualified else (if joint && (ch == 58 && second) then atom.Path else atom.Nothing)) ≡ atom.Path
     pair ch joint second false is h = absurd cc
     pair ch joint second true is h =
         let marks = and_parts (ch == 58) second (and_parts joint (ch == 58 && second) is).1 in
@@ -126,6 +128,7 @@ less-atom (tree ∷ trees) h = by (out-TokenTree tree) refl
     by (TokenTree-F.Punct punct) is = let less = rw is at h in rw (is, less) refl
 
 qualified-word : (it : Word) → type_word it ≡ begin.Qualified → ⊥
+qualified-word word.Name h = absurd cc
 qualified-word _ h = absurd cc
 
 pub qualified-atom : (trees : Trees) → type_start trees ≡ begin.Qualified → atom_start trees ≡ atom.Qualified
@@ -158,7 +161,7 @@ is_brace _ = false
 
 -- what an atom that begins so tells, where it is a literal or a block
 record ConstantLook (begins : AtomStart) (trees : Trees) : Type 0 where
-  begins : begins_constant trees ≡ true
+  constant : begins_constant trees ≡ true
   bar : is_bar trees ≡ false
   arrow : is_arrow trees ≡ false
   block : is_group delimiter.Brace trees ≡ is_brace begins
@@ -189,21 +192,35 @@ constant-look (tree ∷ trees) h = by (out-TokenTree tree) refl
     groups delimiter.None h = absurd cc
 
     by : (layer : Layer) → out-TokenTree tree ≡ layer → ConstantLook (atom_start (tree ∷ trees)) (tree ∷ trees)
-    by (TokenTree-F.Ident ident) is = let seen = constant-word (word_of ident) (rw is at h) in record { begins = rw (is, seen.0) refl; bar = rw is refl; arrow = rw is refl; block = rw (is, seen.1) refl }
+    by (TokenTree-F.Ident ident) is = let seen = constant-word (word_of ident) (rw is at h) in record { constant = rw (is, seen.0) refl; bar = rw is refl; arrow = rw is refl; block = rw (is, seen.1) refl }
     by (TokenTree-F.Lifetime lifetime) is = let none = rw is at h in absurd cc
-    by (TokenTree-F.Literal literal) is = record { begins = rw is refl; bar = rw is refl; arrow = rw is refl; block = rw is refl }
+    by (TokenTree-F.Literal literal) is = record { constant = rw is refl; bar = rw is refl; arrow = rw is refl; block = rw is refl }
     by (TokenTree-F.Group group) is =
         let brace = groups (out-Group group).delimiter (rw is at h) in
-        record { begins = rw (is, brace) refl; bar = rw is refl; arrow = rw is refl; block = rw (is, brace) refl }
+        record { constant = rw (is, brace) refl; bar = rw is refl; arrow = rw is refl; block = rw (is, brace) refl }
     by (TokenTree-F.Punct punct) is = absurd (mark-constant punct.ch punct.joint (mark_of trees == 58) (rw is at h))
 
 -- a literal or a block, of one kind in the source and in the printing
-pub constants-begin : (begins : AtomStart) (rest tail : Trees) → is_constant begins ≡ true → atom_start rest ≡ begins → atom_start tail ≡ begins → BeginsExpr 12 rest tail
+pub constants-begin : (begins : AtomStart) (rest tail : Trees) → is_constant begins ≡ true → atom_start rest ≡ begins → atom_start tail ≡ begins → BeginsExpr constant_level rest tail
 constants-begin begins rest tail h source printed =
     let one = constant-look rest (rw source h) in
     let two = constant-look tail (rw printed h) in
     record {
-      source = one.begins;
-      begins = two.begins;
+      source = one.constant;
+      begins = two.constant;
       bodies = record { bar = rw (one.bar, two.bar) refl; arrow = rw (one.arrow, two.arrow) refl; block = rw (one.block, two.block, source, printed) refl };
     }
+
+-- ---- any expression
+
+-- an expression begins with some token
+pub expr-some : (level : ℕ) (trees : Trees) → begins_expr level trees ≡ true → is_end trees ≡ false
+unfolding begins_closure begins_constant begins_operand operand_start atom_start is_group mark_of is_pair is_joint next_word ident_of literal_of
+expr-some level (tree ∷ trees) h = refl
+expr-some level [] h = by (level == any_level) (level == range_level) (level == constant_level) h
+  where
+    by : (any range constant : Bool) → (if any then begins_closure [] || begins_range [] else (if range then begins_range [] else (if constant then begins_constant [] else begins_operand []))) ≡ true → is_end [] ≡ false
+    by true range constant h = absurd cc
+    by false true constant h = absurd cc
+    by false false true h = absurd cc
+    by false false false h = absurd cc
