@@ -12,4 +12,8 @@ pub mod Functions
 pub mod Groups
 pub mod Qualified
 pub mod Types
+pub mod Loops
+pub mod Infix
+pub mod Starts
+pub mod Operands
 pub mod Within
