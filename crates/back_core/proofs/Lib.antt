@@ -16,4 +16,8 @@ pub mod Loops
 pub mod Infix
 pub mod Starts
 pub mod Operands
+pub mod Beginnings
+pub mod Exprs
+pub mod Atoms
+pub mod Blocks
 pub mod Within
