@@ -1,6 +1,8 @@
 -- How the beginning of an atom is seen, in the source and in its printing.
-use Rattle.std.proofs.Common.{◌≡◌, ℕ, Bool, true, false, ◌&&◌, ◌||◌, ◌==◌, if◌then◌else◌, List, [], ◌∷◌, ◌++◌, Some, refl, codes}
+use Rattle.std.proofs.Common.{◌≡◌, ℕ, Bool, true, false, ◌&&◌, ◌||◌, ◌==◌, if◌then◌else◌, List, [], ◌∷◌, ◌++◌, Option, Some, None, refl, sym, subst, codes}
 use Rattle.std.proofs.lemmas.Bool.{and_parts, both_ways, eqb-true}
+use Rattle.std.proofs.lemmas.Option.{same_Some}
+use Rattle.std.specs.Str.{chars}
 use Rattle.token_core.specs.declared.ident.Ident.{Ident}
 use Rattle.token_core.specs.declared.span.Span.{Span}
 use Rattle.token_core.specs.declared.tree.Delimiter.{Delimiter}
@@ -10,6 +12,9 @@ use Rattle.token_core.specs.declared.tree.Literal.{Literal}
 use Rattle.token_core.specs.declared.tree.TokenTree.{out-TokenTree}
 use Rattle.token_core.specs.declared.tree.TokenTree.TheOpen.{TokenTree-F}
 use Rattle.token_core.specs.declared.tree.TokenTree.TheVariants as tree
+use Rattle.expr_core.specs.declared.lit.LitInt.{LitInt}
+use Rattle.lit_core.specs.declared.value.Value.{Value}
+use Rattle.lit_core.specs.declared.value.Value.TheVariants as value
 use Rattle.grammar_core.specs.declared.look.AtomStart.{AtomStart}
 use Rattle.grammar_core.specs.declared.look.AtomStart.TheVariants as atom
 use Rattle.grammar_core.specs.declared.look.OperandStart.TheVariants as operand
@@ -17,10 +22,11 @@ use Rattle.grammar_core.specs.declared.look.TypeStart.TheVariants as begin
 use Rattle.grammar_core.specs.declared.word.Word.{Word}
 use Rattle.grammar_core.specs.declared.word.Word.TheVariants as word
 use Rattle.grammar_core.specs.Input.{is_end}
-use Rattle.grammar_core.specs.Look.{atom_start, atom_word, begins_closure, begins_constant, begins_operand, is_atom, is_bool, operand_start, type_start, type_word}
+use Rattle.grammar_core.specs.Literals.{index_by, index_in, index_of, is_plain, value_of}
+use Rattle.grammar_core.specs.Look.{atom_start, atom_word, begins_closure, begins_constant, begins_operand, is_atom, is_bool, is_there, operand_start, type_start, type_word}
 use Rattle.grammar_core.specs.Readers.{any_level, constant_level, range_level}
 use Rattle.grammar_core.specs.Token.{Layer, same_delimiter, is_arrow, is_bar, is_colons, is_group, is_joint, is_less, is_pair, ident_of, literal_of, mark_of}
-use Rattle.grammar_core.specs.Words.{begins_segment, next_word, word_of}
+use Rattle.grammar_core.specs.Words.{begins_segment, name_of, next_word, word_of}
 use Rattle.print_core.specs.Marks.{Trees, group, word as printed_word}
 use Rattle.front_core.specs.Closures.{AlikeBodies}
 use Rattle.back_core.specs.Follow.{BeginsExpr, begins_expr, begins_range, is_path}
@@ -56,7 +62,7 @@ atom-operand (tree ∷ trees) h = by (out-TokenTree tree) refl
     by (TokenTree-F.Ident ident) is = rw is refl
     by (TokenTree-F.Lifetime lifetime) is = rw is refl
     by (TokenTree-F.Literal literal) is = rw is refl
-    by (TokenTree-F.Group group) is = rw is refl
+    by (TokenTree-F.Group it) is = rw is refl
     by (TokenTree-F.Punct punct) is =
         let apart = atom-mark punct.ch punct.joint (mark_of trees == 58) (rw is at h) in
         rw (is, apart.0, apart.1, apart.2, apart.3) refl
@@ -112,7 +118,7 @@ path-atom (tree ∷ trees) h = by (out-TokenTree tree) refl
     by (TokenTree-F.Ident ident) is = rw is (segment-atom (word_of ident) (rw is at h))
     by (TokenTree-F.Lifetime lifetime) is = let none = rw is at h in absurd cc
     by (TokenTree-F.Literal literal) is = let none = rw is at h in absurd cc
-    by (TokenTree-F.Group group) is = let none = rw is at h in absurd cc
+    by (TokenTree-F.Group it) is = let none = rw is at h in absurd cc
     by (TokenTree-F.Punct punct) is = rw is (pair punct.ch punct.joint (mark_of trees == 58) (punct.joint && (punct.ch == 58 && mark_of trees == 58)) refl (rw is at h))
 
 less-atom : (trees : Trees) → is_less trees ≡ true → atom_start trees ≡ atom.Qualified
@@ -124,7 +130,7 @@ less-atom (tree ∷ trees) h = by (out-TokenTree tree) refl
     by (TokenTree-F.Ident ident) is = let none = rw is at h in absurd cc
     by (TokenTree-F.Lifetime lifetime) is = let none = rw is at h in absurd cc
     by (TokenTree-F.Literal literal) is = let none = rw is at h in absurd cc
-    by (TokenTree-F.Group group) is = let none = rw is at h in absurd cc
+    by (TokenTree-F.Group it) is = let none = rw is at h in absurd cc
     by (TokenTree-F.Punct punct) is = let less = rw is at h in rw (is, less) refl
 
 qualified-word : (it : Word) → type_word it ≡ begin.Qualified → ⊥
@@ -195,8 +201,8 @@ constant-look (tree ∷ trees) h = by (out-TokenTree tree) refl
     by (TokenTree-F.Ident ident) is = let seen = constant-word (word_of ident) (rw is at h) in record { constant = rw (is, seen.0) refl; bar = rw is refl; arrow = rw is refl; block = rw (is, seen.1) refl }
     by (TokenTree-F.Lifetime lifetime) is = let none = rw is at h in absurd cc
     by (TokenTree-F.Literal literal) is = record { constant = rw is refl; bar = rw is refl; arrow = rw is refl; block = rw is refl }
-    by (TokenTree-F.Group group) is =
-        let brace = groups (out-Group group).delimiter (rw is at h) in
+    by (TokenTree-F.Group it) is =
+        let brace = groups (out-Group it).delimiter (rw is at h) in
         record { constant = rw (is, brace) refl; bar = rw is refl; arrow = rw is refl; block = rw (is, brace) refl }
     by (TokenTree-F.Punct punct) is = absurd (mark-constant punct.ch punct.joint (mark_of trees == 58) (rw is at h))
 
@@ -224,3 +230,28 @@ expr-some level [] h = by (level == any_level) (level == range_level) (level == 
     by false true constant h = absurd cc
     by false false true h = absurd cc
     by false false false h = absurd cc
+
+-- ---- the index of a field
+
+pub no-name : (it : Literal) (tail : Trees) → is_there (name_of (tree.Literal it ∷ tail)) ≡ false
+unfolding name_of next_word ident_of
+no-name it tail = rw (out-Literal it) refl
+
+index-by : (token : Literal) (found : Option Value) (it : LitInt) → index_by token found ≡ Some it → (it.negative ≡ false) × (it.token ≡ token)
+index-by token (Some (value.Int digits)) it e = plain (is_plain (chars token.text)) e
+  where
+    plain : (b : Bool) → (if b then Some (record { negative = false; digits = digits; token = token; span = token.span }) else None) ≡ Some it → (it.negative ≡ false) × (it.token ≡ token)
+    plain true e = let same = same_Some (record { negative = false; digits = digits; token = token; span = token.span }) it e in (rw (← same) refl, rw (← same) refl)
+    plain false e = absurd cc
+index-by token _ it e = absurd cc
+
+-- an index is read from its token, without a sign
+pub index-token : (rest : Trees) (it : LitInt) → index_of rest ≡ Some it → (it.negative ≡ false) × ((tail : Trees) → index_of (tree.Literal it.token ∷ tail) ≡ Some it)
+unfolding index_of literal_of
+index-token rest it e = by (literal_of rest) e
+  where
+    by : (found : Option Literal) → index_in found ≡ Some it → (it.negative ≡ false) × ((tail : Trees) → index_in (literal_of (tree.Literal it.token ∷ tail)) ≡ Some it)
+    by None e = absurd cc
+    by (Some token) e =
+        let both = index-by token (value_of (chars token.text)) it e in
+        (both.0, λ tail. rw (out-Literal it.token) (subst (λ token. index_by token (value_of (chars token.text)) ≡ Some it) (sym both.1) e))

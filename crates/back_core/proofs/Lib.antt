@@ -20,4 +20,5 @@ pub mod Beginnings
 pub mod Exprs
 pub mod Atoms
 pub mod Blocks
+pub mod Postfixes
 pub mod Within
