@@ -21,4 +21,6 @@ pub mod Exprs
 pub mod Atoms
 pub mod Blocks
 pub mod Postfixes
+pub mod Chains
+pub mod Ranges
 pub mod Within
