@@ -23,4 +23,5 @@ pub mod Blocks
 pub mod Postfixes
 pub mod Chains
 pub mod Ranges
+pub mod Closures
 pub mod Within
