@@ -13,3 +13,7 @@ pub mod Groups
 pub mod Qualified
 pub mod Types
 pub mod Within
+pub mod Patterns
+pub mod FnArgs
+pub mod Wholes
+pub mod Kinds
