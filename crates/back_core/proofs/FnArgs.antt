@@ -1,19 +1,18 @@
 -- The law of printing for arguments of functions, whose patterns are kept as tokens.
-use Rattle.std.proofs.Common.{◌≡◌, ◌-◌, true, [], ◌++◌, length, take, Some, refl, arith, rules, ap, sym, append_assoc, append-nil, length-append, codes}
+use Rattle.std.proofs.Common.{◌≡◌, ◌-◌, ◌≤◌, true, false, [], ◌∷◌, ◌++◌, length, take, Some, refl, arith, rules, ap, subst, ◌∙◌, append_assoc, append-nil, length-append, codes}
 use Rattle.std.proofs.lemmas.List.{take_at}
 use Rattle.token_core.specs.declared.span.Span.{Span}
 use Rattle.token_core.specs.declared.tree.TokenStream.{roll-TokenStream, the_lemmas}
-use Rattle.expr_core.specs.declared.ty.FnArg.{FnArg}
 use Rattle.grammar_core.specs.Arguments.{fn_arg}
-use Rattle.grammar_core.specs.Input.{Input, Parser, ◌>>=◌, pure, here, upto, state, read_since, expect, first_span, is_end}
-use Rattle.grammar_core.specs.Patterns.{pattern, max_pattern}
+use Rattle.grammar_core.specs.Input.{Parser, ◌>>=◌, here, state, read_since, first_span, is_end}
+use Rattle.grammar_core.specs.Patterns.{max_pattern}
 use Rattle.grammar_core.specs.Readers.{Readers}
-use Rattle.grammar_core.specs.Token.{is_colon, is_pair, mark_of}
+use Rattle.grammar_core.specs.Token.{is_colon, is_pair}
 use Rattle.print_core.specs.Items.{fn_arg_tokens}
 use Rattle.print_core.specs.Marks.{Trees, contents, mark}
 use Rattle.bare_core.specs.Bare.{bare_fn_arg}
 use Rattle.front_core.specs.Alike.{Relation, Any}
-use Rattle.front_core.specs.Front.{at, Front}
+use Rattle.front_core.specs.Front.{Front}
 use Rattle.back_core.specs.Follow.{AfterType, Some'}
 use Rattle.back_core.specs.Parts.{AllBacks}
 use Rattle.back_core.specs.Printed.{Back, stream}
@@ -41,8 +40,8 @@ module _ {A B D P Q : Type 0} {Ok : Q → Type 0} {bare : B → D} {print : B �
     of = λ input after found e.
         let parts = bind-at (front input) (λ found. read_since input.rest >>= f (first_span input.rest)) found after e in
         let took = again.of input parts.1 parts.0 parts.2 in
-        let kept : take (length input.rest - length parts.1.rest) input.rest ≡ took.read = rw (took.is) (read-take took.read parts.1.rest) in
-        let two = (h (first_span input.rest) took.read).of parts.1 after found (rw kept at parts.3) in
+        let kept : take (length input.rest - length parts.1.rest) input.rest ≡ took.read = ap (λ trees. take (length trees - length parts.1.rest) trees) took.is ∙ read-take took.read parts.1.rest in
+        let two = (h (first_span input.rest) took.read).of parts.1 after found (subst (λ kept. f (first_span input.rest) kept parts.1 ≡ Some (found, after)) kept parts.3) in
         record {
           place = two.place;
           tokens = took.read ++ two.tokens;
@@ -65,6 +64,6 @@ module _ (readers : Readers) (parts : AllBacks readers) where
   fn_arg-back = whole {P = Span} (kept-rest {Second = Any} (pattern-front max_pattern) (λ start kept.
       expect-rest {Second = Any} 1 is_colon (λ place. mark (codes ":") place) (mark-length (codes ":")) (λ place tail. colon-mark tail place)
       (then-rest {Second = AfterType true} (λ place. parts.ty true) (λ it. close-rest start (λ q. q.0.1) (λ span. record { pat = roll-TokenStream (record { trees = kept }); ty = it; span = span }) (λ q span. record { pat = roll-TokenStream (record { trees = kept }); ty = q.1; span = span })
-      (λ span. rw (contents-stream kept, append-nil) refl) (λ span other q ok. rw (ok.1) refl))
+      (λ span. rw (contents-stream kept, append-nil, append_assoc) refl) (λ span other q ok. rw (ok.1) refl))
       (λ rest tail f. f) (λ rest tail f. tt))
       (λ input tail place seen f. tt)))

@@ -16,4 +16,4 @@ pub mod Within
 pub mod Patterns
 pub mod FnArgs
 pub mod Wholes
-pub mod Kinds
+pub mod OneKind

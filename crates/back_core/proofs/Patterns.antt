@@ -10,13 +10,13 @@ use Rattle.token_core.specs.declared.tree.TokenTree.{TokenTree, out-TokenTree}
 use Rattle.token_core.specs.declared.tree.TokenTree.TheOpen.{TokenTree-F}
 use Rattle.grammar_core.specs.declared.word.Word.{Word}
 use Rattle.grammar_core.specs.declared.word.Word.TheVariants as word
-use Rattle.grammar_core.specs.Input.{Input, Outcome, Parser, and_then, ◌>>=◌, ◌>>◌, after_eat, skipped, next, taken, finished, inside, is_end, start_of, test}
+use Rattle.grammar_core.specs.Input.{Input, Outcome, Parser, and_then, ◌>>=◌, after_eat, skipped, next, taken, finished, inside, is_end, start_of, test}
 use Rattle.grammar_core.specs.Patterns.{ands_from, is_underscore, pattern, pattern_word, patterns_by, skip_ands}
 use Rattle.grammar_core.specs.Token.{Layer, contents_in, contents_of, ident_in, ident_of, is_and, is_group, mark_of, span_of}
 use Rattle.grammar_core.specs.Words.{name_of, next_word, is_word, sees, word_at}
 use Rattle.print_core.specs.Marks.{Trees}
 use Rattle.front_core.specs.Alike.{Any}
-use Rattle.front_core.specs.Front.{at, ReadAgain, Front}
+use Rattle.front_core.specs.Front.{at, Front}
 use Rattle.back_core.proofs.Steps.{bind-at}
 
 -- ---- the marks before it
@@ -38,6 +38,10 @@ ands-turn : (turns : ℕ) (tree : TokenTree) (trees : Trees) (last : Span) → i
 unfolding ands_from after_eat skipped next
 ands-turn turns tree trees last some = rw some refl
 
+ands-zero : (trees : Trees) (last : Span) → ands_from 0 (at trees last) ≡ Some (tt, at trees last)
+unfolding ands_from
+ands-zero trees last = refl
+
 -- Marks that were taken are taken again, where no further one follows and there are turns enough.
 record Marks (trees : Trees) (between : Input) : Type 0 where
   read : Trees
@@ -50,13 +54,13 @@ no-marks between = record { read = []; is = refl; again = λ turns tail last non
 ands-again : (turns : ℕ) (trees : Trees) (last : Span) (between : Input) (done : Unit {0}) → ands_from turns (at trees last) ≡ Some (done, between) → Marks trees between
 ands-again turns trees last between done e = by turns trees last (is_and trees) refl e
   where
-    stopped : (trees : Trees) (last : Span) → Some (tt {0}, at trees last) ≡ Some (done, between) → Marks trees between
+    stopped : (trees : Trees) (last : Span) → ◌≡◌ {A = Outcome (Unit {0})} (Some (tt, at trees last)) (Some (done, between)) → Marks trees between
     stopped trees last e = rw (ap (λ (input : Input). input.rest) (some_pair_parts tt done (at trees last) between e).1) (no-marks between)
 
     by : (turns : ℕ) (trees : Trees) (last : Span) (b : Bool) → is_and trees ≡ b → ands_from turns (at trees last) ≡ Some (done, between) → Marks trees between
     by turns trees last false is e = stopped trees last (sym (ands-stop turns trees last is) ∙ e)
     by turns [] last true is e = absurd (both_ways _ and-none is)
-    by zero (tree ∷ trees) last true is e = stopped (tree ∷ trees) last e
+    by zero (tree ∷ trees) last true is e = stopped (tree ∷ trees) last (sym (ands-zero (tree ∷ trees) last) ∙ e)
     by (suc turns) (tree ∷ trees) last true is e =
         let more = by turns trees (span_of tree) (is_and trees) refl (sym (ands-turn turns tree trees last is) ∙ e) in
         record { read = tree ∷ more.read; is = ap (λ trees. tree ∷ trees) more.is; again = go more }
@@ -155,7 +159,7 @@ module _ (after : Input) (done : Unit {0}) where
       → and_then (taken found (next (at trees (span_of tree)))) (λ name input. Some (tt, input)) ≡ Some (done, after) → Ends pattern_word (tree ∷ trees) after
   unfolding next
   mutable-ends tree trees None is wild mutable e = absurd cc
-  mutable-ends tree [] (Some it) is wild mutable e = absurd (rw no-name at is)
+  mutable-ends tree [] (Some it) is wild mutable e = let none = sym no-name ∙ is in absurd cc
   mutable-ends tree (second ∷ trees) (Some it) is wild mutable e = rw (← (some_pair_parts tt done (at trees (span_of second)) after e).1) (record {
     read = tree ∷ (second ∷ []);
     is = refl;
@@ -167,7 +171,7 @@ module _ (after : Input) (done : Unit {0}) where
   })
 
   word-ends : (trees : Trees) (last : Span) → pattern_word (at trees last) ≡ Some (done, after) → Ends pattern_word trees after
-  word-ends [] last e = absurd (rw (no-word last) at e)
+  word-ends [] last e = let none = sym (no-word last) ∙ e in absurd cc
   word-ends (tree ∷ trees) last e = by (is_underscore (next_word (tree ∷ trees))) refl (sees word.Mut (tree ∷ trees)) refl
     where
       by : (wild : Bool) → is_underscore (next_word (tree ∷ trees)) ≡ wild → (mutable : Bool) → sees word.Mut (tree ∷ trees) ≡ mutable → Ends pattern_word (tree ∷ trees) after
@@ -187,7 +191,7 @@ module _ (between : Delimiter) (parser : Parser (Unit {0})) where
   finished-again None one after done e = absurd cc
   finished-again (Some found) one after done e = by (is_end found.1.rest) refl e
     where
-      by : (b : Bool) → is_end found.1.rest ≡ b → (if b then Some (found.0, one) else None) ≡ Some (done, after) → (one ≡ after) × ((other : Input) → finished other (Some found) ≡ Some (tt, other))
+      by : (b : Bool) → is_end found.1.rest ≡ b → ◌≡◌ {A = Outcome (Unit {0})} (if b then Some (found.0, one) else None) (Some (done, after)) → (one ≡ after) × ((other : Input) → finished other (Some found) ≡ Some (tt, other))
       by true is e = ((some_pair_parts found.0 done one after e).1, λ other. rw is refl)
       by false is e = absurd cc
 
@@ -213,6 +217,10 @@ group-front : (between : Delimiter) (read rest tail : Trees) → is_end read ≡
 unfolding is_group
 group-front between [] rest tail some = absurd cc
 group-front between (tree ∷ read) rest tail some = refl
+
+no-group : is_group delimiter.Parenthesis [] ≡ false
+unfolding is_group
+no-group = refl
 
 some-length : (read more : Trees) → is_end more ≡ false → 1 ≤ length (read ++ more)
 some-length read [] some = absurd cc
@@ -259,8 +267,7 @@ pattern-front (suc below) = behind-ands parser ends
         }
 
         grouped : (trees : Trees) → is_group delimiter.Parenthesis trees ≡ true → inner (at trees last) ≡ Some (done, after) → Ends parser trees after
-        unfolding is_group
-        grouped [] is e = absurd cc
+        grouped [] is e = absurd (both_ways _ no-group is)
         grouped (tree ∷ trees) is e =
             let one = inside-ends delimiter.Parenthesis (patterns_by (pattern below)) tree trees last after done is e in
             record {

@@ -1,9 +1,9 @@
 -- The law of printing over whole lists of tokens, and for lists of trees.
-use Rattle.std.proofs.Common.{◌≡◌, Bool, true, false, if◌then◌else◌, [], map, Option, Some, None, refl, ap, append-nil}
+use Rattle.std.proofs.Common.{◌≡◌, Bool, true, false, if◌then◌else◌, [], ◌++◌, map, Option, Some, None, refl, ap, append-nil}
 use Rattle.std.proofs.lemmas.Option.{same_Some}
 use Rattle.token_core.specs.declared.span.Span.{Span}
 use Rattle.token_core.specs.declared.span.Span.TheVariants.{CallSite}
-use Rattle.token_core.specs.declared.tree.TokenStream.{TokenStream, out-TokenStream}
+use Rattle.token_core.specs.declared.tree.TokenStream.{out-TokenStream}
 use Rattle.token_core.specs.declared.tree.TokenTree.TheVariants as tree
 use Rattle.grammar_core.specs.Grammar.{within, max_depth}
 use Rattle.grammar_core.specs.Input.{Input, Outcome, Parser, is_end, start_of, take_as}
