@@ -12,6 +12,10 @@ pub mod Functions
 pub mod Groups
 pub mod Qualified
 pub mod Types
+pub mod Loops
+pub mod Infix
+pub mod Starts
+pub mod Operands
 pub mod Within
 pub mod Patterns
 pub mod FnArgs

@@ -56,7 +56,7 @@ styled [] style = refl
 styled (it ∷ items) style = ap (λ more. segment_tokens it style ∷ more) (styled items style)
 
 -- what stands behind the next token
-next-behind : (input : Input) → (next input).rest ≡ after_one input.rest
+pub next-behind : (input : Input) → (next input).rest ≡ after_one input.rest
 unfolding next
 next-behind input = by input.rest
   where
