@@ -1,5 +1,5 @@
 -- How printed operators are seen, and what an expression does not go on with.
-use Rattle.std.proofs.Common.{◌≡◌, ℕ, suc, ◌≤◌, Bool, true, false, ◌&&◌, ◌==◌, if◌then◌else◌, List, [], ◌∷◌, ◌++◌, length, Option, Some, None, refl, arith, sym, subst}
+use Rattle.std.proofs.Common.{◌≡◌, ℕ, zero, suc, ◌≤◌, Bool, true, false, ◌&&◌, ◌==◌, if◌then◌else◌, List, [], ◌∷◌, ◌++◌, length, Option, Some, None, refl, arith, ap, sym, subst, ◌∙◌}
 use Rattle.std.proofs.lemmas.Bool.{eqb-true}
 use Rattle.std.proofs.lemmas.Option.{same_Some}
 use Rattle.token_core.specs.declared.span.Span.{Span}
@@ -7,8 +7,8 @@ use Rattle.token_core.specs.declared.tree.Delimiter.TheVariants as delimiter
 use Rattle.expr_core.specs.declared.expr.BinOp.{BinOp}
 use Rattle.expr_core.specs.declared.expr.BinOp.TheVariants as op
 use Rattle.grammar_core.specs.declared.look.Infix.{Infix}
-use Rattle.grammar_core.specs.Look.{atom_start, before_equals, begins_operand, double_of, doubled, infix_of, is_there, level_of, operand_start, operator_of, or_single, postfix_start, single_of, with_width}
-use Rattle.grammar_core.specs.Readers.{range_level}
+use Rattle.grammar_core.specs.Look.{at_level, atom_start, before_equals, begins_operand, double_of, doubled, infix_of, is_there, level_of, operand_start, operator_of, or_single, postfix_start, single_of, with_width}
+use Rattle.grammar_core.specs.Readers.{constant_level, range_level}
 use Rattle.grammar_core.specs.Token.{after_one, is_colons, is_dots, is_group, is_joint, is_pair, is_turbofish, mark_of}
 use Rattle.print_core.specs.Exprs.{bin_op_tokens}
 use Rattle.print_core.specs.Marks.{Trees, comma, is_some, mark}

@@ -1,6 +1,7 @@
 -- The law of printing for operands: marks in front, and an atom with what stands behind it.
-use Rattle.std.proofs.Common.{◌≡◌, ℕ, Bool, true, false, [], ◌∷◌, ◌++◌, refl, sym, ◌∙◌, length, append_assoc, append-nil, codes}
+use Rattle.std.proofs.Common.{◌≡◌, ℕ, Bool, true, false, ◌&&◌, ◌==◌, if◌then◌else◌, List, [], ◌∷◌, ◌++◌, refl, sym, ◌∙◌, length, append_assoc, append-nil, codes}
 use Rattle.token_core.specs.declared.span.Span.{Span}
+use Rattle.expr_core.specs.declared.expr.Expr.{Expr}
 use Rattle.expr_core.specs.declared.expr.Expr.TheVariants as expr
 use Rattle.expr_core.specs.declared.expr.UnOp.{UnOp}
 use Rattle.expr_core.specs.declared.expr.UnOp.TheVariants as op
