@@ -25,3 +25,7 @@ pub mod Chains
 pub mod Ranges
 pub mod Closures
 pub mod Within
+pub mod Patterns
+pub mod FnArgs
+pub mod Wholes
+pub mod OneKind
