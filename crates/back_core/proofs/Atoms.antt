@@ -1,5 +1,5 @@
 -- The law of printing for atoms.
-use Rattle.std.proofs.Common.{◌≡◌, ◌⊎◌, inl, inr, ℕ, Bool, true, false, if◌then◌else◌, List, [], ◌∷◌, ◌++◌, map, length, Some, None, refl, arith, ap, sym, subst, ◌∙◌, append_assoc, append-nil, length-append, codes}
+use Rattle.std.proofs.Common.{◌≡◌, ◌⊎◌, inl, inr, Bool, true, false, if◌then◌else◌, List, [], ◌∷◌, ◌++◌, length, Some, None, refl, arith, ap, sym, subst, ◌∙◌, append_assoc, append-nil, length-append, codes}
 use Rattle.std.proofs.lemmas.Option.{some_pair_parts}
 use Rattle.token_core.specs.declared.span.Span.{Span}
 use Rattle.token_core.specs.declared.tree.Delimiter.TheVariants as delimiter
@@ -19,12 +19,11 @@ use Rattle.grammar_core.specs.Make as make
 use Rattle.grammar_core.specs.Readers.{Readers, any_level}
 use Rattle.grammar_core.specs.Token.{ident_of, is_comma, is_semicolon, literal_of, mark_of}
 use Rattle.grammar_core.specs.Words.{named_words, next_word, other_keywords, word_of}
-use Rattle.print_core.specs.Marks.{Trees, comma, group, joined, mark, word as printed_word}
+use Rattle.print_core.specs.Marks.{Trees, comma, group, mark, word as printed_word}
 use Rattle.print_core.specs.Nodes.{expr_tokens}
 use Rattle.bare_core.specs.Bare.{bare_expr}
 use Rattle.bare_core.proofs.Made.{bare_expr-Array, bare_expr-Group, bare_expr-Infer, bare_expr-Lit, bare_expr-Paren, bare_expr-Path, bare_expr-Repeat, bare_expr-Tuple, bare_expr_path-make}
 use Rattle.front_core.specs.Alike.{Relation, Any}
-use Rattle.front_core.specs.Front.{at}
 use Rattle.back_core.specs.Follow.{AfterExpr, AfterPath}
 use Rattle.back_core.specs.Parts.{AllBacks}
 use Rattle.back_core.specs.Printed.{Reads, Back}
@@ -36,8 +35,8 @@ use Rattle.back_core.proofs.Lists.{ItemsMore, comma-length, items_from-more}
 use Rattle.back_core.proofs.Marks.{is_comma-comma, mark-length, mark_of-mark, out-Ident, word-length}
 use Rattle.back_core.proofs.Paths.{path-back}
 use Rattle.back_core.proofs.Qualified.{Pair, qualified-back}
-use Rattle.back_core.proofs.Beginnings.{expr-some, group-atom, literal-atom, literal_of-Literal, path-atom, qualified-atom, word-atom}
-use Rattle.back_core.proofs.Steps.{Gives, Rest, bind-at, whole, shown-rest, pure-rest, here-rest, test-rest, then-rest, close-rest}
+use Rattle.back_core.proofs.AtomStarts.{expr-some, group-atom, literal-atom, literal_of-Literal, path-atom, qualified-atom, word-atom}
+use Rattle.back_core.proofs.Steps.{Gives, Rest, bind-at, whole, pure-rest, here-rest, test-rest, then-rest, close-rest}
 use Rattle.back_core.proofs.Takes.{AtEnd, eat_or-rest, inside-rest, skip-rest, skipped-over, take_as-rest}
 
 -- an atom that begins so
@@ -78,9 +77,11 @@ truth-atom false span tail = word-atom (codes "false") span tail
 
 pub expr_bool-back : Back bare_expr expr_tokens (Atom atom.Bool) Any expr_bool
 unfolding expr_bool next skipped
-expr_bool-back = record { of = λ input after found e.
-    let both = some_pair_parts (lit_bool (next_word input.rest) (first_span input.rest)) found (next input) after e in
-    subst (λ found. Reads bare_expr (λ tail. atom_start tail ≡ atom.Bool) (λ tail. Unit {0}) expr_bool (expr_tokens found) found) (sym (lit_bool-is (next_word input.rest) (first_span input.rest)) ∙ both.0) (read (is_true (next_word input.rest)) (first_span input.rest)) }
+expr_bool-back = record {
+  of = λ input after found e.
+      let both = some_pair_parts (lit_bool (next_word input.rest) (first_span input.rest)) found (next input) after e in
+      subst (λ found. Reads bare_expr (λ tail. atom_start tail ≡ atom.Bool) (λ tail. Unit {0}) expr_bool (expr_tokens found) found) (sym (lit_bool-is (next_word input.rest) (first_span input.rest)) ∙ both.0) (read (is_true (next_word input.rest)) (first_span input.rest));
+}
   where
     read : (value : Bool) (span : Span) → Reads bare_expr (λ tail. atom_start tail ≡ atom.Bool) (λ tail. Unit {0}) expr_bool (expr_tokens (truth value span)) (truth value span)
     read value span = rw (print-bool value span) (record {

@@ -1,5 +1,5 @@
 -- The law of printing for blocks, and for a literal or a block alone.
-use Rattle.std.proofs.Common.{◌≡◌, ℕ, zero, suc, ◌≤◌, Bool, true, false, if◌then◌else◌, List, [], ◌∷◌, ◌++◌, map, length, Some, None, refl, arith, sym, subst, ◌∙◌, append_assoc, append-nil, length-append, codes}
+use Rattle.std.proofs.Common.{◌≡◌, ℕ, zero, suc, ◌≤◌, Bool, true, false, if◌then◌else◌, List, [], ◌∷◌, ◌++◌, map, length, Some, None, refl, arith, subst, ◌∙◌, append_assoc, length-append, codes}
 use Rattle.std.proofs.lemmas.Option.{some_pair_parts}
 use Rattle.token_core.specs.declared.span.Span.{Span}
 use Rattle.token_core.specs.declared.tree.Delimiter.TheVariants as delimiter
@@ -8,7 +8,7 @@ use Rattle.expr_core.specs.declared.expr.Expr.TheVariants as expr
 use Rattle.grammar_core.specs.declared.look.AtomStart.{AtomStart}
 use Rattle.grammar_core.specs.declared.look.AtomStart.TheVariants as atom
 use Rattle.grammar_core.specs.Expressions.{statements_from, statements, block, constant_by, constant}
-use Rattle.grammar_core.specs.Input.{Input, Parser, ◌>>=◌, pure, refuse, after_eat, eat, is_end}
+use Rattle.grammar_core.specs.Input.{Input, ◌>>=◌, pure, refuse, after_eat, eat, is_end}
 use Rattle.grammar_core.specs.Look.{atom_start}
 use Rattle.grammar_core.specs.Readers.{Readers, any_level, constant_level}
 use Rattle.grammar_core.specs.Token.{is_semicolon, mark_of}
@@ -22,7 +22,7 @@ use Rattle.back_core.specs.Follow.{AfterExpr, BeginsExpr}
 use Rattle.back_core.specs.Parts.{AllBacks}
 use Rattle.back_core.specs.Printed.{Again, Reads, Back}
 use Rattle.back_core.proofs.Atoms.{Atom, expr_bool-back, literal-back}
-use Rattle.back_core.proofs.Beginnings.{constants-begin, expr-some, group-atom, is_constant}
+use Rattle.back_core.proofs.AtomStarts.{constants-begin, expr-some, group-atom, is_constant}
 use Rattle.back_core.proofs.Exprs.{print-Block}
 use Rattle.back_core.proofs.Infix.{expr-end, expr_before-semicolon}
 use Rattle.back_core.proofs.Lists.{ended-push, same-push, some-length}

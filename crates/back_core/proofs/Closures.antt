@@ -1,8 +1,7 @@
 -- The law of printing for closures: they print the tokens of their head as they kept them, and a body behind.
-use Rattle.std.proofs.Common.{◌≡◌, ℕ, ◌<◌, ◌≤◌, Bool, true, false, ◌&&◌, ◌||◌, ◌==◌, if◌then◌else◌, [], ◌∷◌, ◌++◌, length, Option, Some, None, refl, arith, ap, sym, subst, ◌∙◌, append_assoc}
+use Rattle.std.proofs.Common.{◌≡◌, ℕ, ◌<◌, ◌≤◌, Bool, true, false, ◌==◌, if◌then◌else◌, [], ◌∷◌, ◌++◌, length, Option, Some, None, refl, arith, ap, sym, subst, ◌∙◌, append_assoc}
 use Rattle.std.proofs.lemmas.Bool.{eqb-true}
 use Rattle.token_core.specs.Span.{joined}
-use Rattle.token_core.specs.declared.tree.Delimiter.TheVariants as delimiter
 use Rattle.token_core.specs.declared.tree.TokenTree.{TokenTree, out-TokenTree}
 use Rattle.token_core.specs.declared.tree.TokenTree.TheOpen.{TokenTree-F}
 use Rattle.expr_core.specs.declared.expr.BinOp.{BinOp}
@@ -11,11 +10,11 @@ use Rattle.expr_core.specs.declared.expr.Expr.{Expr}
 use Rattle.grammar_core.specs.declared.look.Infix.{Infix}
 use Rattle.grammar_core.specs.Expressions.{closure}
 use Rattle.grammar_core.specs.Input.{Input}
-use Rattle.grammar_core.specs.Look.{at_level, begins_closure, is_move, is_there, level_of, operator_of}
+use Rattle.grammar_core.specs.Look.{at_level, begins_closure, is_there, level_of, operator_of}
 use Rattle.grammar_core.specs.Make as make
 use Rattle.grammar_core.specs.Readers.{Readers, any_level}
 use Rattle.grammar_core.specs.Token.{Layer, ident_of, is_arrow, is_group, is_joint, is_pair, mark_of}
-use Rattle.grammar_core.specs.Words.{next_word, word_of}
+use Rattle.grammar_core.specs.Words.{next_word}
 use Rattle.print_core.specs.Marks.{Trees}
 use Rattle.print_core.specs.Nodes.{expr_tokens}
 use Rattle.bare_core.specs.Bare.{bare_expr}

@@ -22,7 +22,7 @@ use Rattle.grammar_core.specs.Make as make
 use Rattle.print_core.specs.declared.path.PathStyle.TheVariants.{Turbofish}
 use Rattle.print_core.specs.Exprs.{called_with, turbofish}
 use Rattle.print_core.specs.Literals.{lit_tokens, member_tokens}
-use Rattle.print_core.specs.Marks.{Trees, colons, comma, ended, group, ident, joined, mark, optional, tuple, word}
+use Rattle.print_core.specs.Marks.{comma, ended, group, ident, joined, mark, optional, tuple, word}
 use Rattle.print_core.specs.Nodes.{argument_tokens, expr_tokens, path_parts, path_tokens, type_tokens}
 use Rattle.print_core.specs.Paths.{after_type}
 

@@ -16,7 +16,7 @@ pub mod Loops
 pub mod Infix
 pub mod Starts
 pub mod Operands
-pub mod Beginnings
+pub mod AtomStarts
 pub mod Exprs
 pub mod Atoms
 pub mod Blocks

@@ -1,5 +1,5 @@
 -- The law of printing for what stands behind an operand.
-use Rattle.std.proofs.Common.{◌≡◌, ℕ, zero, suc, Bool, true, false, ◌&&◌, ◌==◌, not, if◌then◌else◌, List, [], ◌∷◌, ◌++◌, map, length, Option, Some, None, refl, ap, sym, ◌∙◌, append_assoc, append-nil, length-append, codes}
+use Rattle.std.proofs.Common.{◌≡◌, ℕ, zero, Bool, true, false, ◌&&◌, ◌==◌, not, if◌then◌else◌, List, [], ◌∷◌, ◌++◌, map, length, Option, Some, None, refl, ap, sym, ◌∙◌, append_assoc, append-nil, length-append, codes}
 use Rattle.std.proofs.lemmas.Bool.{both_ways, eqb-true}
 use Rattle.std.proofs.lemmas.Option.{some_pair_parts}
 use Rattle.token_core.specs.declared.ident.Ident.{Ident}
@@ -36,14 +36,14 @@ use Rattle.back_core.specs.Parts.{AllBacks}
 use Rattle.back_core.specs.Printed.{Printed, Back}
 use Rattle.back_core.proofs.Arguments.{generic_arguments-back, group-printed}
 use Rattle.back_core.proofs.Atoms.{brackets-back, expr_bool-back, expr_path-back, expr_qualified-back, infer-back, invisible-back, literal-back, parentheses-back}
-use Rattle.back_core.proofs.Beginnings.{atom-begins, expr-some, index-token, no-name}
+use Rattle.back_core.proofs.AtomStarts.{atom-begins, expr-some, index-token, no-name}
 use Rattle.back_core.proofs.Blocks.{block-back}
 use Rattle.back_core.proofs.Exprs.{print-Call, print-Field, print-Index, print-MethodCall, print-Try}
 use Rattle.back_core.proofs.Follows.{fish-colons, keep-false, looser-end}
 use Rattle.back_core.proofs.Infix.{and-false, expr-end, expr_before-comma}
 use Rattle.back_core.proofs.Loops.{Loop, loop-rest}
 use Rattle.back_core.proofs.Marks.{is_colons-colons, is_group-mark, is_joint-mark, mark-length, mark_of-mark, name_of-Ident, no-group}
-use Rattle.back_core.proofs.Steps.{Free, Gives, Rest, bind-at, close-rest, here-rest, refuse-rest, shown-rest, sure-rest, test-rest, then-rest, weak-printed, weak-rest, whole}
+use Rattle.back_core.proofs.Steps.{Gives, Rest, bind-at, close-rest, here-rest, refuse-rest, shown-rest, sure-rest, test-rest, then-rest, weak-printed, weak-rest, whole}
 use Rattle.back_core.proofs.Takes.{inside-rest, is_group-group, skip-rest, skip_by-rest, take_as-printed, take_as-rest}
 
 -- ---- what is seen behind an operand
@@ -107,8 +107,7 @@ Turn rest tail = postfix_start tail ≡ postfix_start rest
 turn-seen : (rest tail : Trees) → goes rest ≡ true → Turn rest tail → (is_end tail ≡ false) × (goes tail ≡ true) × AfterAtom rest tail
 turn-seen rest tail going same =
     let more : goes tail ≡ true = ap goes_on same ∙ going in
-    let none = postfix-colons tail more in
-    (
+    let none = postfix-colons tail more in (
       postfix-some tail more,
       more,
       record {

@@ -5,16 +5,12 @@ use Rattle.expr_core.specs.declared.expr.Expr.{Expr}
 use Rattle.expr_core.specs.declared.generics.TypeParamBound.{TypeParamBound}
 use Rattle.expr_core.specs.declared.ty.«Type».{«Type» as Ty}
 use Rattle.depth_core.specs.Depth.{bound_depth, deepest, expr_depth, type_depth}
-use Rattle.grammar_core.specs.Expressions.{expr_step}
 use Rattle.grammar_core.specs.Grammar.{bounds_depth, kept, within}
 use Rattle.grammar_core.specs.Input.{Input, Outcome, Parser, refuse}
-use Rattle.grammar_core.specs.Readers.{Readers}
 use Rattle.print_core.specs.Marks.{Trees}
-use Rattle.print_core.specs.Nodes.{expr_tokens}
 use Rattle.bare_core.specs.Bare.{bare_bound, bare_expr, bare_type}
 use Rattle.bare_core.proofs.Depths.{bound_depth-bare, expr_depth-bare, type_depth-bare}
 use Rattle.front_core.specs.Alike.{Relation}
-use Rattle.back_core.specs.Follow.{AfterExpr, BeginsExpr}
 use Rattle.back_core.specs.Printed.{Reads, Back}
 use Rattle.front_core.proofs.Within.{within-fronts}
 use Rattle.back_core.proofs.Blocks.{constant-back}

@@ -1,6 +1,6 @@
 -- How the beginning of an atom is seen, in the source and in its printing.
-use Rattle.std.proofs.Common.{◌≡◌, ℕ, Bool, true, false, ◌&&◌, ◌||◌, ◌==◌, if◌then◌else◌, List, [], ◌∷◌, ◌++◌, Option, Some, None, refl, sym, subst, codes}
-use Rattle.std.proofs.lemmas.Bool.{and_parts, both_ways, eqb-true}
+use Rattle.std.proofs.Common.{◌≡◌, ℕ, Bool, true, false, ◌&&◌, ◌||◌, ◌==◌, if◌then◌else◌, List, [], ◌∷◌, ◌++◌, Option, Some, None, refl, sym, subst}
+use Rattle.std.proofs.lemmas.Bool.{and_parts, eqb-true}
 use Rattle.std.proofs.lemmas.Option.{same_Some}
 use Rattle.std.specs.Str.{chars}
 use Rattle.token_core.specs.declared.ident.Ident.{Ident}
@@ -28,9 +28,8 @@ use Rattle.grammar_core.specs.Readers.{any_level, constant_level, range_level}
 use Rattle.grammar_core.specs.Token.{Layer, same_delimiter, is_arrow, is_bar, is_colons, is_group, is_joint, is_less, is_pair, ident_of, literal_of, mark_of}
 use Rattle.grammar_core.specs.Words.{begins_segment, name_of, next_word, word_of}
 use Rattle.print_core.specs.Marks.{Trees, group, word as printed_word}
-use Rattle.front_core.specs.Closures.{AlikeBodies}
 use Rattle.back_core.specs.Follow.{BeginsExpr, begins_expr, begins_range, is_path}
-use Rattle.back_core.proofs.Marks.{mark_of-mark, out-Ident, out-Literal, next_word-group, no-group}
+use Rattle.back_core.proofs.Marks.{out-Ident, out-Literal, no-group}
 use Rattle.back_core.proofs.Takes.{is_group-group}
 
 -- ---- an atom begins an operand
