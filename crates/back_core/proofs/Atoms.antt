@@ -1,5 +1,6 @@
 -- The law of printing for atoms.
-use Rattle.std.proofs.Common.{◌≡◌, ◌⊎◌, inl, inr, Bool, true, false, if◌then◌else◌, List, [], ◌∷◌, ◌++◌, length, Some, None, refl, arith, ap, sym, subst, ◌∙◌, append_assoc, append-nil, length-append, codes}
+use Rattle.std.proofs.Common.{◌≡◌, inl, inr, Bool, true, false, if◌then◌else◌, [], ◌∷◌, ◌++◌, Some, None, refl, ap, sym, subst, ◌∙◌, append_assoc, append-nil, codes}
+use Rattle.std.proofs.lemmas.Bool.{eqb-true}
 use Rattle.std.proofs.lemmas.Option.{some_pair_parts}
 use Rattle.token_core.specs.declared.span.Span.{Span}
 use Rattle.token_core.specs.declared.tree.Delimiter.TheVariants as delimiter
@@ -12,31 +13,30 @@ use Rattle.grammar_core.specs.declared.look.AtomStart.TheVariants as atom
 use Rattle.grammar_core.specs.declared.word.Word.{Word}
 use Rattle.grammar_core.specs.declared.word.Word.TheVariants as word
 use Rattle.grammar_core.specs.Expressions.{lit_bool, expr_bool, literal, expr_group, expr_elements, expr_bracket, expr_in_parentheses, expr_in_brackets, expr_path, expr_qualified, invisible}
-use Rattle.grammar_core.specs.Input.{Input, Parser, ◌>>=◌, ◌>>◌, ◌<$>◌, pure, next, first_span, here, skip, skipped, after_eat, eat, is_end, items_after}
+use Rattle.grammar_core.specs.Input.{Parser, ◌>>=◌, ◌>>◌, ◌<$>◌, pure, next, first_span, here, skip, skipped, eat, is_end, items_after}
 use Rattle.grammar_core.specs.Literals.{lit_of}
 use Rattle.grammar_core.specs.Look.{atom_start}
 use Rattle.grammar_core.specs.Make as make
 use Rattle.grammar_core.specs.Readers.{Readers, any_level}
 use Rattle.grammar_core.specs.Token.{ident_of, is_comma, is_semicolon, literal_of, mark_of}
 use Rattle.grammar_core.specs.Words.{named_words, next_word, other_keywords, word_of}
-use Rattle.print_core.specs.Marks.{Trees, comma, group, mark, word as printed_word}
+use Rattle.print_core.specs.Marks.{Trees, comma, group, joined, mark, tuple, word as printed_word}
 use Rattle.print_core.specs.Nodes.{expr_tokens}
 use Rattle.bare_core.specs.Bare.{bare_expr}
 use Rattle.bare_core.proofs.Made.{bare_expr-Array, bare_expr-Group, bare_expr-Infer, bare_expr-Lit, bare_expr-Paren, bare_expr-Path, bare_expr-Repeat, bare_expr-Tuple, bare_expr_path-make}
-use Rattle.front_core.specs.Alike.{Relation, Any}
+use Rattle.front_core.specs.Alike.{Relation, Any, stops}
 use Rattle.back_core.specs.Follow.{AfterExpr, AfterPath}
 use Rattle.back_core.specs.Parts.{AllBacks}
 use Rattle.back_core.specs.Printed.{Reads, Back}
 use Rattle.back_core.proofs.Exprs.{print-Array, print-bool, print-expr_path, print-expr_qualified, print-Group, print-Infer, print-literal, print-Paren, print-Repeat, print-Tuple}
 use Rattle.back_core.proofs.Follows.{no-semicolon}
-use Rattle.back_core.proofs.Groups.{inner-rest}
+use Rattle.back_core.proofs.Groups.{Filled, filled-seen, inner-rest, others-rest, tuple-long, tuple-single}
 use Rattle.back_core.proofs.Infix.{expr-end, expr_before-comma, expr_before-semicolon}
-use Rattle.back_core.proofs.Lists.{ItemsMore, comma-length, items_from-more}
-use Rattle.back_core.proofs.Marks.{is_comma-comma, mark-length, mark_of-mark, out-Ident, word-length}
+use Rattle.back_core.proofs.Marks.{mark-length, mark_of-mark, out-Ident, word-length}
 use Rattle.back_core.proofs.Paths.{path-back}
 use Rattle.back_core.proofs.Qualified.{Pair, qualified-back}
 use Rattle.back_core.proofs.AtomStarts.{expr-some, group-atom, literal-atom, literal_of-Literal, path-atom, qualified-atom, word-atom}
-use Rattle.back_core.proofs.Steps.{Gives, Rest, bind-at, whole, pure-rest, here-rest, test-rest, then-rest, close-rest}
+use Rattle.back_core.proofs.Steps.{Rest, whole, pure-rest, here-rest, test-rest, then-rest, close-rest, weak-rest}
 use Rattle.back_core.proofs.Takes.{AtEnd, eat_or-rest, inside-rest, skip-rest, skipped-over, take_as-rest}
 
 -- an atom that begins so
@@ -130,7 +130,7 @@ module _ (readers : Readers) (parts : AllBacks readers) where
   unfolding expr_in_parentheses expr_group
   parentheses-back = whole (here-rest (λ span. inside-rest {Inner = Any} delimiter.Parenthesis (λ (place : Unit {0}). span)
       (inner-rest bare_expr expr_tokens (readers.expr any_level) (parts.expr any_level) (λ rest tail f. expr-some any_level tail f.begins) (λ rest. expr-end any_level rest) (λ rest tail span. expr_before-comma any_level rest tail span)
-      expr.Tuple expr.Paren print-Tuple print-Paren
+      delimiter.Parenthesis tuple (λ span. refl) tuple-long expr.Tuple expr.Paren (inl tuple-single) print-Tuple print-Paren
       (λ one two span other same. rw (bare_expr-Tuple, bare_expr-Tuple, same) refl) (λ one two span other same. rw (bare_expr-Paren, bare_expr-Paren, same) refl) span)
       (λ rest inner tail span' seen f. group-atom delimiter.Parenthesis inner tail span')))
 
@@ -143,99 +143,43 @@ module _ (readers : Readers) (parts : AllBacks readers) where
 
   -- ---- brackets
 
-  module _ (span : Span) (first : Expr) where
-    -- the first element is there already
-    abbrev Env : Type 0
-    Env = (Unit {0} × Span) × Expr
+  -- no `;`, and what may follow an element
+  abbrev NoLength : Relation
+  NoLength rest tail = (is_semicolon tail ≡ false) × (AfterExpr any_level rest tail × (stops tail ≡ true))
 
-    abbrev Fine : Env → Type 0
-    Fine q = Unit {0} × (bare_expr q.1 ≡ bare_expr first)
+  no-length : (tail : Trees) → stops tail ≡ true → is_semicolon tail ≡ false
+  no-length [] h = no-semicolon
+  no-length (tree ∷ trees) h = rw (eqb-true (mark_of (tree ∷ trees)) 44 h) refl
 
-    abbrev elements : Span → Expr → Parser Expr
-    elements span first = eat 1 is_comma >>= (λ more. if more then (λ elems. make.expr_array elems span) <$> items_after (readers.expr any_level) (first ∷ []) else pure (make.expr_array (first ∷ []) span))
+  -- what stands behind the first element, where it is not repeated
+  abbrev elements : Span → Expr → Parser Expr
+  elements span first = eat 1 is_comma >>= (λ more. if more then (λ elems. make.expr_array elems span) <$> items_after (readers.expr any_level) (first ∷ []) else pure (make.expr_array (first ∷ []) span))
 
-    -- no `;`, and what may follow an element
-    abbrev NoLength : Relation
-    NoLength rest tail = (is_semicolon tail ≡ false) × AfterExpr any_level rest tail
+  elements-rest : (span : Span) (first : Expr)
+      → Rest {P = Unit {0}} {Q = (Unit {0} × Span) × Expr} (λ q. Unit {0} × (bare_expr q.1 ≡ bare_expr first)) bare_expr expr_tokens (λ place tokens. group delimiter.Bracket (expr_tokens first ++ tokens) span) NoLength AtEnd
+      (elements span first) (λ q. elements q.0.1 q.1)
+  elements-rest span first = weak-rest (λ rest tail f. f) (λ rest tail f. (no-length tail f.1, f))
+      (others-rest bare_expr expr_tokens (readers.expr any_level) (parts.expr any_level) (λ rest tail f. expr-some any_level tail f.begins) (λ rest. expr-end any_level rest) (λ rest tail span. expr_before-comma any_level rest tail span)
+      delimiter.Bracket (λ elems span. joined (comma span) elems) (λ span. refl) (λ elems span some. refl) make.expr_array (λ it span. make.expr_array (it ∷ []) span) (inr (λ it span. refl)) print-Array (λ it span. rw (print-Array, append-nil) refl)
+      (λ one two span other same. rw (bare_expr-Array, bare_expr-Array, same) refl) (λ one two span other same. rw (bare_expr-Array, bare_expr-Array, same) refl) span first)
 
-    abbrev ElementsGive : Trees → Expr → Type 0
-    ElementsGive rest found = Gives {P = Unit {0}} {Q = Env} Fine bare_expr expr_tokens (λ place tokens. group delimiter.Bracket (expr_tokens first ++ tokens) span) (NoLength rest) (λ tail. tail ≡ []) (λ q. elements q.0.1 q.1) found
-
-    one-element : (rest : Trees) → ElementsGive rest (make.expr_array (first ∷ []) span)
-    unfolding after_eat mark_of
-    one-element rest = record {
-      place = tt;
-      tokens = [];
-      is = print-Array (first ∷ []) span;
-      again = λ q ok tail last f. rw f (record { value = make.expr_array (q.1 ∷ []) q.0.1; new = last; is = refl; same = rw (bare_expr-Array, bare_expr-Array, ok.1) refl });
-      first = λ tail f. rw f (no-semicolon, expr-end any_level rest);
-    }
-
-    abbrev More : List Expr → Type 0
-    More items = ItemsMore bare_expr expr_tokens (readers.expr any_level) (readers.expr any_level) (parts.expr any_level) (λ rest tail f. expr-some any_level tail f.begins) (λ rest. expr-end any_level rest) (λ rest tail span. expr_before-comma any_level rest tail span) span (first ∷ []) items
-
-    no-length : (tail : Trees) → is_semicolon (comma span ++ tail) ≡ false
-    no-length tail = rw (mark_of-mark 44 [] span tail) refl
-
-    more-elements : (rest : Trees) (items : List Expr) → More items → ElementsGive rest (make.expr_array items span)
-    unfolding after_eat
-    more-elements rest items two = record {
-      place = tt;
-      tokens = comma span ++ two.tokens;
-      is = rw (print-Array items span, two.is, append-nil, append_assoc) refl;
-      again = λ q ok tail last f. rw f (
-          let stands = skipped-over 1 (comma span) (two.tokens ++ []) last (comma-length span) in
-          let more = two.again (length (two.tokens ++ [])) (q.1 ∷ []) (rw (ok.1) refl) [] stands.0 (omega (arith, length-append two.tokens [])) refl in
-          record {
-            value = make.expr_array more.value q.0.1;
-            new = more.new;
-            is = rw (append_assoc (comma span) two.tokens [], is_comma-comma (two.tokens ++ []) span, stands.1, more.is) refl;
-            same = rw (bare_expr-Array, bare_expr-Array, more.same) refl;
-          });
-      first = λ tail f. rw (append_assoc (comma span) two.tokens tail) (no-length (two.tokens ++ tail), expr_before-comma any_level rest (two.tokens ++ tail) span);
-    }
-
-    elements-rest : Rest {P = Unit {0}} {Q = Env} Fine bare_expr expr_tokens (λ place tokens. group delimiter.Bracket (expr_tokens first ++ tokens) span) NoLength AtEnd (elements span first) (λ q. elements q.0.1 q.1)
-    elements-rest = record { of = λ input after found e. by input after found (is_comma input.rest) e }
-      where
-        choose : (rest : Trees) (items : List Expr) → (items ≡ first ∷ []) ⊎ More items → ElementsGive rest (make.expr_array items span)
-        choose rest items (inl same) = rw same (one-element rest)
-        choose rest items (inr two) = more-elements rest items two
-
-        by : (input after : Input) (found : Expr) (b : Bool) → (if b then (λ elems. make.expr_array elems span) <$> items_after (readers.expr any_level) (first ∷ []) else pure (make.expr_array (first ∷ []) span)) (after_eat 1 b input) ≡ Some (found, after) → ElementsGive input.rest found
-        by input after found false e = subst (ElementsGive input.rest) (some_pair_parts (make.expr_array (first ∷ []) span) found (after_eat 1 false input) after e).0 (one-element input.rest)
-        by input after found true e =
-            let behind = after_eat 1 true input in
-            let split = bind-at (items_after (readers.expr any_level) (first ∷ []) behind) (λ elems. pure (make.expr_array elems span)) found after e in
-            subst (ElementsGive input.rest) (some_pair_parts (make.expr_array split.0 span) found split.1 after split.3).0 (choose input.rest split.0
-            (items_from-more bare_expr expr_tokens (readers.expr any_level) (readers.expr any_level) (parts.expr any_level) (λ rest tail f. expr-some any_level tail f.begins) (λ rest. expr-end any_level rest) (λ rest tail span. expr_before-comma any_level rest tail span) span (length behind.rest) (first ∷ []) behind split.1 split.0 split.2))
-
-  -- nothing, or an element
-  abbrev Bracketed : Bool → Relation
-  Bracketed true = AtEnd
-  Bracketed false = λ rest tail. is_end tail ≡ false
-
-  bracket_by : (span : Span) (done : Bool) → Rest {P = Unit {0}} {Q = Unit {0} × Span} (λ q. Unit {0}) bare_expr expr_tokens (λ place tokens. group delimiter.Bracket tokens span) (Bracketed done) AtEnd
+  bracket_by : (span : Span) (done : Bool) → Rest {P = Unit {0}} {Q = Unit {0} × Span} (λ q. Unit {0}) bare_expr expr_tokens (λ place tokens. group delimiter.Bracket tokens span) (Filled done) AtEnd
       (if done then pure (make.expr_array [] span) else readers.expr any_level >>= expr_elements readers span) (λ q. if done then pure (make.expr_array [] q.1) else readers.expr any_level >>= expr_elements readers q.1)
   unfolding expr_elements
   bracket_by span true = pure-rest tt (make.expr_array [] span) (λ q. make.expr_array [] q.1) (print-Array [] span) (λ q ok. rw (bare_expr-Array, bare_expr-Array) refl)
   bracket_by span false =
       then-rest {Second = AfterExpr any_level} (λ place. parts.expr any_level) (λ first.
-      eat_or-rest {Yes = Any} {No = NoLength span first} 1 is_semicolon (λ place. mark (codes ";") span) (λ place. mark-length (codes ";") span) (λ place tail. rw (mark_of-mark 59 [] span tail) refl)
+      eat_or-rest {Yes = Any} {No = NoLength} 1 is_semicolon (λ place. mark (codes ";") span) (λ place. mark-length (codes ";") span) (λ place tail. rw (mark_of-mark 59 [] span tail) refl)
       (then-rest {Second = AtEnd} (λ place. parts.expr any_level) (λ len. pure-rest tt (expr.Repeat first len span) (λ q. expr.Repeat q.0.1 q.1 q.0.0.1)
       (rw (print-Repeat, append-nil, append_assoc) refl) (λ q ok. rw (bare_expr-Repeat, bare_expr-Repeat, ok.0.1, ok.1) refl))
       (λ rest tail f. rw f (expr-end any_level rest)) (λ rest tail f. tt))
       (elements-rest span first)
       (λ input tail place seen f. expr_before-semicolon any_level input.rest tail span)
-      (λ rest tail seen f. f))
+      (λ rest tail seen f. (f.0, f.1.0)))
       (λ rest tail f. f) (λ rest tail f. expr-some any_level tail f.begins)
 
   pub brackets-back : Back bare_expr expr_tokens (Atom atom.Bracket) Any (expr_in_brackets readers)
   unfolding expr_in_brackets expr_bracket
   brackets-back = whole (here-rest (λ span. inside-rest {Inner = Any} delimiter.Bracket (λ (place : Unit {0}). span)
-      (test-rest {by = Bracketed} is_end (bracket_by span) (λ b rest tail seen f. (bracketed b rest tail f, tt)))
+      (test-rest {by = Filled} is_end (bracket_by span) (λ done rest tail seen f. (filled-seen done rest tail f, tt)))
       (λ rest inner tail span' seen f. group-atom delimiter.Bracket inner tail span')))
-    where
-      bracketed : (b : Bool) (rest tail : Trees) → Bracketed b rest tail → is_end tail ≡ b
-      bracketed true rest tail f = rw f refl
-      bracketed false rest tail f = f
