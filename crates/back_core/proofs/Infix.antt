@@ -1,5 +1,6 @@
 -- How printed operators are seen, and what an expression does not go on with.
-use Rattle.std.proofs.Common.{◌≡◌, ℕ, suc, ◌≤◌, Bool, true, false, ◌&&◌, ◌==◌, if◌then◌else◌, List, [], ◌∷◌, ◌++◌, length, Option, Some, None, refl, arith, ap, sym, subst, ◌∙◌}
+use Rattle.std.proofs.Common.{◌≡◌, ℕ, suc, ◌≤◌, Bool, true, false, ◌==◌, if◌then◌else◌, List, [], ◌∷◌, ◌++◌, length, Option, Some, None, refl, arith, ap, sym, subst, ◌∙◌}
+use Rattle.std.proofs.Math.Bool.{and-false}
 use Rattle.std.proofs.lemmas.Bool.{eqb-true}
 use Rattle.std.proofs.lemmas.Option.{same_Some}
 use Rattle.token_core.specs.declared.span.Span.{Span}
@@ -149,10 +150,6 @@ at_level-read level trees found e = by (operator_of trees) (operator_of-read tre
     by (Some it) reads e = made it (it.level == level) refl (reads it refl) e
 
 -- ---- what an expression does not go on with
-
-pub and-false : (b : Bool) → (b && false) ≡ false
-and-false true = refl
-and-false false = refl
 
 pub pair-apart : (ch : ℕ) (more : List ℕ) (span : Span) (tail : Trees) (first second : ℕ) → (ch == first) ≡ false → is_pair first second (mark (ch ∷ more) span ++ tail) ≡ false
 unfolding is_pair
