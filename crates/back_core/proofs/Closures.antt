@@ -1,5 +1,6 @@
 -- The law of printing for closures: they print the tokens of their head as they kept them, and a body behind.
 use Rattle.std.proofs.Common.{◌≡◌, ℕ, ◌<◌, ◌≤◌, Bool, true, false, ◌==◌, if◌then◌else◌, [], ◌∷◌, ◌++◌, length, Option, Some, None, refl, arith, ap, sym, subst, ◌∙◌, append_assoc}
+use Rattle.std.proofs.Math.Bool.{and-false}
 use Rattle.std.proofs.lemmas.Bool.{eqb-true}
 use Rattle.token_core.specs.Span.{joined}
 use Rattle.token_core.specs.declared.tree.TokenTree.{TokenTree, out-TokenTree}
@@ -27,7 +28,7 @@ use Rattle.back_core.specs.Follow.{BeginsClosure, Looser, operates}
 use Rattle.back_core.specs.Parts.{AllBacks}
 use Rattle.back_core.specs.Printed.{Reads, Back}
 use Rattle.back_core.proofs.Exprs.{print-Closure}
-use Rattle.back_core.proofs.Infix.{and-false, operator_of-read}
+use Rattle.back_core.proofs.Infix.{operator_of-read}
 
 -- ---- what may follow the body
 

@@ -1,5 +1,6 @@
 -- The law of printing for what stands behind an operand.
 use Rattle.std.proofs.Common.{◌≡◌, ℕ, zero, Bool, true, false, ◌&&◌, ◌==◌, not, if◌then◌else◌, List, [], ◌∷◌, ◌++◌, map, length, Option, Some, None, refl, ap, sym, ◌∙◌, append_assoc, append-nil, length-append, codes}
+use Rattle.std.proofs.Math.Bool.{and-false}
 use Rattle.std.proofs.lemmas.Bool.{both_ways, eqb-true}
 use Rattle.std.proofs.lemmas.Option.{some_pair_parts}
 use Rattle.token_core.specs.declared.ident.Ident.{Ident}
@@ -40,7 +41,7 @@ use Rattle.back_core.proofs.AtomStarts.{atom-begins, expr-some, index-token, no-
 use Rattle.back_core.proofs.Blocks.{block-back}
 use Rattle.back_core.proofs.Exprs.{print-Call, print-Field, print-Index, print-MethodCall, print-Try}
 use Rattle.back_core.proofs.Follows.{fish-colons, keep-false, looser-end}
-use Rattle.back_core.proofs.Infix.{and-false, expr-end, expr_before-comma}
+use Rattle.back_core.proofs.Infix.{expr-end, expr_before-comma}
 use Rattle.back_core.proofs.Loops.{Loop, loop-rest}
 use Rattle.back_core.proofs.Marks.{is_colons-colons, is_group-mark, is_joint-mark, mark-length, mark_of-mark, name_of-Ident, no-group}
 use Rattle.back_core.proofs.Steps.{Gives, Rest, bind-at, close-rest, here-rest, refuse-rest, shown-rest, sure-rest, test-rest, then-rest, weak-printed, weak-rest, whole}
