@@ -1,6 +1,7 @@
 -- The law of printing for lists, over any item.
-use Rattle.std.proofs.Common.{◌≡◌, ◌⊎◌, inl, inr, ℕ, zero, suc, ◌≤◌, Bool, true, false, if◌then◌else◌, List, [], ◌∷◌, ◌++◌, length, map, Some, None, refl, arith, sym, subst, ◌∙◌, ◌==◌, append_assoc, append-nil, length-append}
+use Rattle.std.proofs.Common.{All, ◌≡◌, ◌⊎◌, inl, inr, ℕ, zero, suc, ◌≤◌, Bool, true, false, if◌then◌else◌, List, [], ◌∷◌, ◌++◌, length, map, Some, None, refl, arith, sym, subst, ◌∙◌, ◌==◌, append_assoc, append-nil, length-append}
 use Rattle.std.proofs.lemmas.List.{map-append}
+use Rattle.std.proofs.lemmas.List.Elements.{All-cons, All-head, All-nil, All-tail}
 use Rattle.std.proofs.lemmas.Bool.{eq-eqb}
 use Rattle.std.proofs.lemmas.Option.{some_pair_parts}
 use Rattle.token_core.specs.declared.span.Span.{Span}
@@ -55,13 +56,15 @@ pub record More {A C : Type 0} (bare : A → C) (before : Trees) (loop : ℕ →
 
 -- ---- to the end of a group
 
-module _ {A C : Type 0} (bare : A → C) (print : A → Trees) (item other : Parser A) {G F : Relation} (rule : Printed bare print G F item other)
+abbrev MoreItems : {A C : Type 0} → (A → C) → (A → Trees) → Parser A → Span → List A → List A → Type 0
+MoreItems bare print other span found items = More bare (ended (comma span) (map print found)) (items_from other) (λ tail. tail ≡ []) (joined (comma span) (map print items)) found items
+
+-- some items have a law
+module _ {A C : Type 0} (bare : A → C) (print : A → Trees) (item other : Parser A) (Good : A → Type 0) (G F : Relation)
+    (rule : (input after : Input) (x : A) → item input ≡ Some (x, after) → Good x → Reads bare (G input.rest) (F after.rest) other (print x) x)
     (starts : (rest tail : Trees) → G rest tail → is_end tail ≡ false) (ends : (rest : Trees) → F rest []) (before_comma : (rest tail : Trees) (span : Span) → F rest (comma span ++ tail))
     (span : Span) where
-  abbrev pub ItemsMore : List A → List A → Type 0
-  ItemsMore found items = More bare (ended (comma span) (map print found)) (items_from other) (λ tail. tail ≡ []) (joined (comma span) (map print items)) found items
-
-  items-last : (found : List A) (input after : Input) (x : A) → Reads bare (G input.rest) (F after.rest) other (print x) x → ItemsMore found (found ++ x ∷ [])
+  items-last : (found : List A) (input after : Input) (x : A) → Reads bare (G input.rest) (F after.rest) other (print x) x → MoreItems bare print other span found (found ++ x ∷ [])
   unfolding items_from after_eat Rattle.grammar_core.specs.Token.mark_of
   items-last found input after x one = record {
     tokens = print x;
@@ -80,7 +83,7 @@ module _ {A C : Type 0} (bare : A → C) (print : A → Trees) (item other : Par
               let more = one.again [] last (ends after.rest) in
               record { value = others ++ more.value ∷ []; new = more.new; is = rw (starts input.rest (print x ++ []) (one.first [] (ends after.rest)), more.is) refl; same = same-push bare others found more.value x same more.same }
 
-  items-more : (found items : List A) (input after : Input) (x : A) → Reads bare (G input.rest) (F after.rest) other (print x) x → ItemsMore (found ++ x ∷ []) items → ItemsMore found items
+  items-more : (found items : List A) (input after : Input) (x : A) → Reads bare (G input.rest) (F after.rest) other (print x) x → MoreItems bare print other span (found ++ x ∷ []) items → MoreItems bare print other span found items
   unfolding items_from after_eat
   items-more found items input after x one two = record {
     tokens = print x ++ (comma span ++ two.tokens);
@@ -104,46 +107,85 @@ module _ {A C : Type 0} (bare : A → C) (print : A → Trees) (item other : Par
             same = last.same;
           }
 
-  pub items_from-more : (count : ℕ) (found : List A) (input after : Input) (items : List A) → items_from item count found input ≡ Some (items, after) → (items ≡ found) ⊎ ItemsMore found items
+  -- the items behind those that were found, which are printed behind them where they have the law
+  pub record Behind (found items : List A) : Type 0 where
+    pub more : List A
+    pub is : items ≡ found ++ more
+    pub prints : All Good more → (items ≡ found) ⊎ MoreItems bare print other span found items
+
+  no-more : (found items : List A) (input after : Input) → ◌≡◌ {A = Outcome (List A)} (Some (found, input)) (Some (items, after)) → Behind found items
+  no-more found items input after e =
+      let same = sym (some_pair_parts found items input after e).0 in
+      record { more = []; is = same ∙ sym (append-nil found); prints = λ good. inl same }
+
+  one-more : (b : Bool) (count : ℕ) (found items : List A) (input between behind after : Input) (x : A) → item input ≡ Some (x, between) → ((next : Input) → items_from item count (found ++ x ∷ []) next ≡ Some (items, after) → Behind (found ++ x ∷ []) items)
+      → (if b then items_from item count (found ++ x ∷ []) else pure (found ++ x ∷ [])) behind ≡ Some (items, after) → Behind found items
+  one-more true count found items input between behind after x read later e =
+      let two = later behind e in
+      record {
+        more = x ∷ two.more;
+        is = two.is ∙ append_assoc found (x ∷ []) two.more;
+        prints = λ good.
+            let one = rule input between x read (All-head Good x two.more good) in
+            inr (elim (two.prints (All-tail Good x two.more good)) [ inl same ↦ subst (MoreItems bare print other span found) (sym same) (items-last found input between x one) | inr more ↦ items-more found items input between x one more ]);
+      }
+  one-more false count found items input between behind after x read later e =
+      let same = (some_pair_parts (found ++ x ∷ []) items behind after e).0 in
+      record { more = x ∷ []; is = sym same; prints = λ good. inr (subst (MoreItems bare print other span found) same (items-last found input between x (rule input between x read (All-head Good x [] good)))) }
+
+  pub items_from-behind : (count : ℕ) (found : List A) (input after : Input) (items : List A) → items_from item count found input ≡ Some (items, after) → Behind found items
   unfolding items_from
-  items_from-more zero found input after items e = ended (is_end input.rest) e
+  items_from-behind zero found input after items e = by (is_end input.rest) e
     where
-      ended : (b : Bool) → ◌≡◌ {A = Outcome (List A)} ((if b then pure found else (λ input. None)) input) (Some (items, after)) → (items ≡ found) ⊎ ItemsMore found items
-      ended true e = inl (sym (some_pair_parts found items input after e).0)
-      ended false e = absurd cc
-  items_from-more (suc count) found input after items e = closed (is_end input.rest) (λ y between. items_from-more count (found ++ y ∷ []) between after items) e
+      by : (b : Bool) → ◌≡◌ {A = Outcome (List A)} ((if b then pure found else (λ input. None)) input) (Some (items, after)) → Behind found items
+      by true e = no-more found items input after e
+      by false e = absurd cc
+  items_from-behind (suc count) found input after items e = by (is_end input.rest) (λ y next. items_from-behind count (found ++ y ∷ []) next after items) e
     where
-      Later : Type 0
-      Later = (y : A) (between : Input) → items_from item count (found ++ y ∷ []) between ≡ Some (items, after) → (items ≡ found ++ y ∷ []) ⊎ ItemsMore (found ++ y ∷ []) items
-
-      goes : (b : Bool) (start between behind : Input) (y : A) → Reads bare (G start.rest) (F between.rest) other (print y) y → Later
-          → (if b then items_from item count (found ++ y ∷ []) else pure (found ++ y ∷ [])) behind ≡ Some (items, after) → ItemsMore found items
-      goes true start between behind y one later e = again (later y behind e)
-        where
-          again : (items ≡ found ++ y ∷ []) ⊎ ItemsMore (found ++ y ∷ []) items → ItemsMore found items
-          again (inl same) = subst (λ items. ItemsMore found items) (sym same) (items-last found start between y one)
-          again (inr two) = items-more found items start between y one two
-      goes false start between behind y one later e = subst (λ items. ItemsMore found items) (some_pair_parts (found ++ y ∷ []) items behind after e).0 (items-last found start between y one)
-
-      closed : (b : Bool) → Later → (if b then pure found else (item >>= (λ y. eat 1 is_comma >>= (λ more. if more then items_from item count (found ++ y ∷ []) else pure (found ++ y ∷ []))))) input ≡ Some (items, after)
-          → (items ≡ found) ⊎ ItemsMore found items
-      closed true later e = inl (sym (some_pair_parts found items input after e).0)
-      closed false later e =
+      by : (b : Bool) → ((y : A) (next : Input) → items_from item count (found ++ y ∷ []) next ≡ Some (items, after) → Behind (found ++ y ∷ []) items)
+          → (if b then pure found else (item >>= (λ y. eat 1 is_comma >>= (λ more. if more then items_from item count (found ++ y ∷ []) else pure (found ++ y ∷ []))))) input ≡ Some (items, after) → Behind found items
+      by true later e = no-more found items input after e
+      by false later e =
           let parts = bind-at (item input) (λ y. eat 1 is_comma >>= (λ more. if more then items_from item count (found ++ y ∷ []) else pure (found ++ y ∷ []))) items after e in
-          inr (goes (is_comma parts.1.rest) input parts.1 (after_eat 1 (is_comma parts.1.rest) parts.1) parts.0 (rule.of input parts.1 parts.0 parts.2) later parts.3)
+          one-more (is_comma parts.1.rest) count found items input parts.1 (after_eat 1 (is_comma parts.1.rest) parts.1) after parts.0 parts.2 (later parts.0) parts.3
 
-  pub items-printed : Printed (map bare) (λ items. joined (comma span) (map print items)) Any AtEnd (items_after item []) (items_after other [])
+  -- the list, where all of its items have the law
+  pub items-read : (input after : Input) (items : List A) → items_after item [] input ≡ Some (items, after) → All Good items → Reads (map bare) (λ tail. Unit {0}) (λ tail. tail ≡ []) (items_after other []) (joined (comma span) (map print items)) items
   unfolding items_from
-  items-printed = record { of = λ input after items e. made input after items (items_from-more (length input.rest) [] input after items e) }
+  items-read input after items e good =
+      let behind = items_from-behind (length input.rest) [] input after items e in
+      made (behind.prints (rw behind.is at good))
     where
-      made : (input after : Input) (items : List A) → (items ≡ []) ⊎ ItemsMore [] items → Reads (map bare) (λ tail. Unit {0}) (λ tail. tail ≡ []) (items_after other []) (joined (comma span) (map print items)) items
-      made input after items (inl none) = rw none (record { again = λ tail last f. rw f (record { value = []; new = last; is = refl; same = refl }); first = λ tail f. tt })
-      made input after items (inr more) = record {
+      made : (items ≡ []) ⊎ MoreItems bare print other span [] items → Reads (map bare) (λ tail. Unit {0}) (λ tail. tail ≡ []) (items_after other []) (joined (comma span) (map print items)) items
+      made (inl none) = rw none (record { again = λ tail last f. rw f (record { value = []; new = last; is = refl; same = refl }); first = λ tail f. tt })
+      made (inr more) = record {
         again = λ tail last f.
             let last = more.again (length (more.tokens ++ tail)) [] refl tail last (omega (arith, length-append more.tokens tail)) f in
             record { value = last.value; new = last.new; is = rw (more.is) last.is; same = last.same };
         first = λ tail f. tt;
       }
+
+-- every item has a law
+module _ {A C : Type 0} (bare : A → C) (print : A → Trees) (item other : Parser A) {G F : Relation} (rule : Printed bare print G F item other)
+    (starts : (rest tail : Trees) → G rest tail → is_end tail ≡ false) (ends : (rest : Trees) → F rest []) (before_comma : (rest tail : Trees) (span : Span) → F rest (comma span ++ tail))
+    (span : Span) where
+  abbrev pub ItemsMore : List A → List A → Type 0
+  ItemsMore = MoreItems bare print other span
+
+  abbrev Free : A → Type 0
+  Free x = Unit {0}
+
+  all-free : (items : List A) → All Free items
+  all-free [] = All-nil Free
+  all-free (x ∷ items) = All-cons Free x items tt (all-free items)
+
+  pub items_from-more : (count : ℕ) (found : List A) (input after : Input) (items : List A) → items_from item count found input ≡ Some (items, after) → (items ≡ found) ⊎ ItemsMore found items
+  items_from-more count found input after items e =
+      let behind = items_from-behind bare print item other Free G F (λ input after x e free. rule.of input after x e) starts ends before_comma span count found input after items e in
+      behind.prints (all-free behind.more)
+
+  pub items-printed : Printed (map bare) (λ items. joined (comma span) (map print items)) Any AtEnd (items_after item []) (items_after other [])
+  items-printed = record { of = λ input after items e. items-read bare print item other Free G F (λ input after x e free. rule.of input after x e) starts ends before_comma span input after items e (all-free items) }
 
 -- ---- to a mark
 
