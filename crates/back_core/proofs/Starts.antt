@@ -152,7 +152,7 @@ operand-bodies rest tail same source printed none other = record {
 -- ---- what begins a range
 
 -- what a mark begins is no group and no word
-mark-seen : (ch : ℕ) (trees : Trees) → mark_of trees ≡ suc ch → (is_group delimiter.Brace trees ≡ false) × (next_word trees ≡ word.None) × (is_end trees ≡ false)
+pub mark-seen : (ch : ℕ) (trees : Trees) → mark_of trees ≡ suc ch → (is_group delimiter.Brace trees ≡ false) × (next_word trees ≡ word.None) × (is_end trees ≡ false)
 unfolding mark_of is_group next_word ident_of
 mark-seen ch [] h = absurd cc
 mark-seen ch (tree ∷ trees) h = by (out-TokenTree tree) refl

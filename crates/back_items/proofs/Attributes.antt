@@ -1,5 +1,6 @@
 -- The law of printing for attributes.
 use Rattle.std.proofs.Common.{◌≡◌, Bool, true, false, if◌then◌else◌, [], ◌∷◌, ◌++◌, length, map, Option, Some, None, refl, rules, ap, subst, append-nil, codes, append_assoc}
+use Rattle.std.proofs.lemmas.Bool.{and_parts, eqb-true}
 use Rattle.std.proofs.lemmas.Option.{some_pair_parts}
 use Rattle.token_core.specs.Span.{joined as joined_spans}
 use Rattle.token_core.specs.declared.span.Span.{Span}
@@ -15,7 +16,8 @@ use Rattle.node_core.specs.declared.attr.Meta.{Meta}
 use Rattle.node_core.specs.declared.attr.Meta.TheVariants as made
 use Rattle.grammar_core.specs.Grammar.{within, max_depth}
 use Rattle.grammar_core.specs.Input.{Input, Parser, ◌>>=◌, pure, refuse, upto, at_end, skipped, is_end, joined_by, eat}
-use Rattle.grammar_core.specs.Token.{contents_of, ident_of, is_colons, is_equals, is_joint, is_mark, is_pair, mark_of}
+use Rattle.grammar_core.specs.Token.{contents_of, ident_of, is_colons, is_equals, is_joint, is_mark, is_pair, literal_of, mark_of}
+use Rattle.grammar_core.specs.Words.{next_word}
 use Rattle.item_core.specs.Attributes.{attribute, attributes, delimiter_of, meta, meta_by, meta_list, meta_path, meta_segment, name_value, stream, value_of}
 use Rattle.item_core.specs.Lists.{take_all}
 use Rattle.print_core.specs.declared.path.PathStyle.TheVariants.{Plain}
@@ -32,12 +34,13 @@ use Rattle.back_core.specs.Parts.{AllBacks}
 use Rattle.back_core.specs.Printed.{Again, Back}
 use Rattle.back_core.proofs.Follows.{keep-false, never, no-colons}
 use Rattle.back_core.proofs.Joints.{joined-printed}
-use Rattle.back_core.proofs.Marks.{is_colons-colons, mark-length, mark_of-mark, out-Ident, out-Punct}
+use Rattle.back_core.proofs.Marks.{is_colons-colons, literal_of-mark, mark-length, mark_of-mark, next_word-mark, out-Ident, out-Punct}
 use Rattle.back_core.proofs.Paths.{styled}
 use Rattle.back_core.proofs.Prints.{path_parts-make, print-None, print-segment}
+use Rattle.back_core.proofs.Starts.{mark-seen}
 use Rattle.back_core.proofs.Steps.{Gives, Rest, whole, close-rest, here-rest, pure-rest, shown-rest, test-rest, then-rest}
 use Rattle.back_core.proofs.Takes.{AtEnd, contents_of-group, eat-rest, expect-rest, group-length, inside-rest, skip-rest, skipped-over, take_as-rest}
-use Rattle.back_items.specs.Follow.{AfterAttributes}
+use Rattle.back_items.specs.Follow.{AfterAttributes, StartsPath}
 use Rattle.back_items.proofs.Values.{Unsigned, ValueAgain, contents-stream, value-again}
 use Rattle.back_items.proofs.Whiles.{while-printed}
 
@@ -45,38 +48,46 @@ use Rattle.back_items.proofs.Whiles.{while-printed}
 
 -- a word begins it
 abbrev BeginsWord : Relation
-BeginsWord rest tail = (is_end tail ≡ false) × (is_colons tail ≡ false)
+BeginsWord rest tail = StartsPath rest tail × (is_colons tail ≡ false)
 
 ident_of-Ident : (it : Ident) (tail : Trees) → ident_of (tree.Ident it ∷ tail) ≡ Some it
 unfolding ident_of
 ident_of-Ident it tail = rw (out-Ident it) refl
 
-word-begins : (it : Ident) (rest tail : Trees) → BeginsWord rest (tree.Ident it ∷ tail)
-unfolding is_pair is_joint
-word-begins it rest tail = (refl, rw (out-Ident it) refl)
+word-begins : (it : Ident) (rest tail : Trees) → ident_of rest ≡ Some it → BeginsWord rest (tree.Ident it ∷ tail)
+unfolding is_pair is_joint mark_of literal_of ident_of next_word
+word-begins it rest tail is = (record { some = refl; literal = rw (out-Ident it) refl; minus = rw (out-Ident it) refl; truth = rw (out-Ident it, is) refl }, rw (out-Ident it) refl)
 
-colons-some : (rest tail : Trees) (span : Span) → Some' rest (colons span ++ tail)
-unfolding mark
-colons-some rest tail span = refl
+colons-begin : (rest tail : Trees) (span : Span) → is_colons rest ≡ true → StartsPath rest (colons span ++ tail)
+unfolding mark is_pair
+colons-begin rest tail span h =
+    let pair = and_parts (is_joint rest) _ h in
+    let colon = eqb-true (mark_of rest) 58 (and_parts (is_mark 58 rest) _ pair.1).0 in
+    record {
+      some = refl;
+      literal = literal_of-mark 58 (58 ∷ []) span tail;
+      minus = rw (mark_of-mark 58 (58 ∷ []) span tail) refl;
+      truth = rw (next_word-mark 58 (58 ∷ []) span tail, (mark-seen 57 rest colon).1) refl;
+    }
 
 meta_segment-back : Back bare_segment (λ it. segment_tokens it Plain) BeginsWord Any meta_segment
 unfolding meta_segment
 meta_segment-back = whole (here-rest (λ start. take_as-rest {Second = Any} ident_of tree.Ident (λ rest tail it is. ident_of-Ident it tail)
     (λ name. close-rest start (λ q. q.1) (make_segment name arguments.None) (λ q. make_segment name arguments.None)
     (λ span. rw (print-segment name arguments.None span Plain, print-None Plain span) refl) (λ span other q ok. rw (bare_segment-make, bare_segment-make) refl))
-    (λ input tail name is f. word-begins name input.rest tail)))
+    (λ input tail name is f. word-begins name input.rest tail is)))
 
 meta_segments-back : (span : Span) → Back (map bare_segment) (λ items. joined (colons span) (map (λ it. segment_tokens it Plain) items)) BeginsWord (Keep is_colons) (joined_by (eat 2 is_colons) meta_segment)
 meta_segments-back span = joined-printed bare_segment (λ it. segment_tokens it Plain) 2 is_colons (colons span) (mark-length (codes "::") span) (λ tail. is_colons-colons tail span) meta_segment meta_segment (Keep is_colons)
-    meta_segment-back (λ rest tail f. f.0) (λ rest. tt) (λ rest next tail seen f. tt) (λ rest tail seen f. (keep-false is_colons rest tail seen f, tt))
+    meta_segment-back (λ rest tail f. f.0.some) (λ rest. tt) (λ rest next tail seen f. tt) (λ rest tail seen f. (keep-false is_colons rest tail seen f, tt))
 
-pub meta_path-back : Back bare_path (path_tokens Plain) Some' (Keep is_colons) meta_path
+pub meta_path-back : Back bare_path (path_tokens Plain) StartsPath (Keep is_colons) meta_path
 unfolding meta_path
 meta_path-back = whole (here-rest (λ start. eat-rest {Second = λ b. BeginsWord} 2 is_colons (λ place. colons place) (mark-length (codes "::")) (λ place tail. is_colons-colons tail place) (λ leading.
     then-rest {Second = Keep is_colons} (λ place. meta_segments-back place) (λ found. close-rest start (λ q. q.0.1) (make_path leading found) (λ q. make_path leading q.1)
     (λ span. rw (path_parts-make leading found span, append-nil, styled found Plain) refl) (λ span other q ok. rw (bare_path-make, bare_path-make, ok.1) refl))
     (λ rest tail f. f) (λ rest tail f. f))
-    (λ input tail place seen f. colons-some input.rest tail place)
+    (λ input tail place seen f. colons-begin input.rest tail place seen)
     (λ rest tail seen f. (f.1, f.0))))
 
 -- ---- what stands behind the path
@@ -205,7 +216,7 @@ module _ (parts : AllBacks (within max_depth)) (unsigned : Unsigned) where
   unfolding meta
   meta-back = whole (here-rest (λ start. then-rest {Second = λ rest tail. is_colons tail ≡ false} (λ (place : Span). meta_path-back) (λ path.
       test-rest {by = Grouped} delimiter_of (meta_by-rest start path) (λ grouped rest tail is f. f))
-      (λ rest tail f. never is_colons rest tail f) (λ rest tail f. f)))
+      (λ rest tail f. never is_colons rest tail f) (λ rest tail f. f.some)))
 
   pub attribute-back : Back bare_attribute attribute_tokens (λ rest tail. (is_end tail ≡ false) × (is_mark 35 tail ≡ true)) Any attribute
   unfolding attribute

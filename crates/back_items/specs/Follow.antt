@@ -1,10 +1,10 @@
 -- What may follow what is printed of an item, and what begins it, beside the tokens that the source had there.
-use Rattle.std.specs.Prelude.{◌≡◌, Bool, true, false, ◌||◌}
+use Rattle.std.specs.Prelude.{◌≡◌, Bool, true, false, ◌||◌, None}
 use Rattle.grammar_core.specs.declared.word.Word.TheVariants as word
 use Rattle.grammar_core.specs.Input.{is_end}
-use Rattle.grammar_core.specs.Look.{is_there}
-use Rattle.grammar_core.specs.Token.{is_less, is_mark, lifetime_of}
-use Rattle.grammar_core.specs.Words.{sees}
+use Rattle.grammar_core.specs.Look.{is_bool, is_there}
+use Rattle.grammar_core.specs.Token.{is_less, is_mark, lifetime_of, literal_of}
+use Rattle.grammar_core.specs.Words.{next_word, sees}
 use Rattle.print_core.specs.Marks.{Trees}
 use Rattle.front_core.specs.Alike.{Relation}
 use Rattle.back_core.specs.Follow.{AfterType, Keep}
@@ -18,6 +18,13 @@ AfterWhile begins Sight rest tail = Keep begins rest tail × Sight rest tail
 -- 35 is the `#`
 abbrev pub AfterAttributes : Relation → Relation
 AfterAttributes = AfterWhile (is_mark 35)
+
+-- what a path of any words begins with: a word, which is `true` or `false` where the source had one of them, or `::`; no literal and no minus (45)
+pub record StartsPath (rest tail : Trees) : Type 0 where
+  pub some : is_end tail ≡ false
+  pub literal : literal_of tail ≡ None
+  pub minus : is_mark 45 tail ≡ false
+  pub truth : is_bool (next_word tail) ≡ is_bool (next_word rest)
 
 -- whether the group that comes next restricts a visibility
 abbrev pub restricts : Trees → Bool

@@ -1,0 +1,43 @@
+-- What a printed item stands before: nothing, or a comma.
+use Rattle.std.proofs.Common.{◌≡◌, ℕ, true, false, [], ◌∷◌, ◌++◌, None, refl}
+use Rattle.token_core.specs.declared.span.Span.{Span}
+use Rattle.token_core.specs.declared.tree.Delimiter.TheVariants as delimiter
+use Rattle.grammar_core.specs.Readers.{any_level}
+use Rattle.grammar_core.specs.Token.{is_colons, is_equals, is_group, is_joint, is_pair, mark_of}
+use Rattle.item_core.specs.Attributes.{delimiter_of}
+use Rattle.print_core.specs.Marks.{Trees, comma, mark}
+use Rattle.front_core.specs.Alike.{stops}
+use Rattle.back_core.specs.Follow.{AfterExpr}
+use Rattle.back_core.proofs.Infix.{expr-end, expr_before-comma, pair-apart}
+use Rattle.back_core.proofs.Marks.{is_comma-comma, is_group-mark, mark_of-mark, out-Punct}
+
+-- where no item goes on
+pub record Ended (tail : Trees) : Type 0 where
+  pub stop : stops tail ≡ true
+  pub expr : (rest : Trees) → AfterExpr any_level rest tail
+  pub colons : is_colons tail ≡ false
+  pub equals : is_equals tail ≡ false
+  pub grouped : delimiter_of tail ≡ None
+  pub bracket : is_group delimiter.Bracket tail ≡ false
+
+pub ended-nothing : Ended []
+unfolding mark_of is_pair is_joint delimiter_of is_group
+ended-nothing = record { stop = refl; expr = λ rest. expr-end any_level rest; colons = refl; equals = refl; grouped = refl; bracket = refl }
+
+comma-stops : (span : Span) (tail : Trees) → stops (comma span ++ tail) ≡ true
+unfolding mark
+comma-stops span tail = is_comma-comma tail span
+
+pub mark-grouped : (ch : ℕ) (span : Span) (tail : Trees) → delimiter_of (mark (ch ∷ []) span ++ tail) ≡ None
+unfolding mark delimiter_of
+mark-grouped ch span tail = rw (out-Punct (record { ch = ch; joint = false; span = span })) refl
+
+pub ended-comma : (span : Span) (tail : Trees) → Ended (comma span ++ tail)
+ended-comma span tail = record {
+  stop = comma-stops span tail;
+  expr = λ rest. expr_before-comma any_level rest tail span;
+  colons = pair-apart 44 [] span tail 58 58 refl;
+  equals = rw (mark_of-mark 44 [] span tail) refl;
+  grouped = mark-grouped 44 span tail;
+  bracket = is_group-mark 44 [] span tail delimiter.Bracket;
+}

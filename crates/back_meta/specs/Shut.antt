@@ -1,0 +1,20 @@
+-- Bad values that stay bad whatever stands behind them.
+use Rattle.std.specs.Prelude.{◌≡◌, true, List, ◌++◌, None, All}
+use Rattle.token_core.specs.declared.tree.TokenStream.{TokenStream}
+use Rattle.print_core.specs.Marks.{Trees, contents}
+use Rattle.front_core.specs.Alike.{stops}
+use Rattle.meta_core.specs.declared.nested.NestedMeta.{NestedMeta}
+use Rattle.meta_core.specs.declared.nested.NestedMeta.TheVariants as nested
+use Rattle.meta_core.specs.Values.{shortest_run}
+
+-- no run of the tokens is a value, nor one that goes on behind them
+abbrev pub IsShut : TokenStream → Type 0
+IsShut tokens = (tail : Trees) → stops tail ≡ true → shortest_run (contents tokens ++ tail) ≡ None
+
+abbrev pub Shut : NestedMeta → Type 0
+Shut (nested.Meta it) = Unit {0}
+Shut (nested.Lit it) = Unit {0}
+Shut (nested.NameValueInvalidExpr it) = IsShut it.value
+
+abbrev pub AllShut : List NestedMeta → Type 0
+AllShut = All Shut
