@@ -1,15 +1,15 @@
 -- What begins at tokens that are alike is the same.
-use Rattle.std.proofs.Common.{◌≡◌, Bool, true, false, List, ◌∷◌, refl, ap}
+use Rattle.std.proofs.Common.{◌≡◌, ◌==◌, Bool, true, false, List, ◌∷◌, refl, ap}
 use Rattle.std.proofs.lemmas.Bool.{both_ways}
 use Rattle.token_core.specs.declared.tree.Delimiter.TheVariants as delimiter
 use Rattle.token_core.specs.declared.tree.TokenTree.{TokenTree, out-TokenTree}
 use Rattle.grammar_core.specs.declared.word.Word.{Word}
 use Rattle.grammar_core.specs.declared.word.Word.TheVariants as word
 use Rattle.grammar_core.specs.Look.{type_start, arguments_start, begins_constant, argument_start, argument_name, argument_word, atom_start, operand_start, begins_operand, is_operand, begins_closure, postfix_start}
-use Rattle.grammar_core.specs.Token.{mark_of, is_equals, after_one, ident_of}
+use Rattle.grammar_core.specs.Token.{mark_of, is_bar, is_equals, after_one, ident_of}
 use Rattle.grammar_core.specs.Words.{next_word}
-use Rattle.front_core.specs.Alike.{closes, Alike, stop, close, more}
-use Rattle.front_core.proofs.Looks.{stop-mark, stop-word, closed, alike-mark, alike-group, alike-word, alike-lifetime, alike-literal, alike-colons, alike-colon, alike-dots, alike-turbofish}
+use Rattle.front_core.specs.Alike.{closes, Alike, stop, close, bar, more}
+use Rattle.front_core.proofs.Looks.{stop-mark, stop-word, closed, barred, alike-mark, alike-group, alike-word, alike-lifetime, alike-literal, alike-colons, alike-colon, alike-dots, alike-turbofish}
 
 pub alike-type_start : (rest tail : List TokenTree) → Alike rest tail → type_start rest ≡ type_start tail
 unfolding type_start
@@ -39,6 +39,7 @@ equals-behind : (rest tail : List TokenTree) → Alike rest tail → is_equals r
 unfolding mark_of
 equals-behind rest tail (stop _ _ h g) is = absurd (both_ways _ (stop-mark 61 rest h refl refl) is)
 equals-behind _ _ (close one other rest tail like closes) is = absurd (both_ways _ (closed (out-TokenTree one) closes).equals is)
+equals-behind _ _ (bar one other rest tail like bar_is same) is = absurd (both_ways _ (ap (λ mark. mark == 61) (barred (out-TokenTree one) bar_is).mark) is)
 equals-behind _ _ (more one other rest tail like alike) is = alike
 
 alike-argument_name : (rest tail : List TokenTree) → Alike rest tail → argument_name rest ≡ argument_name tail
@@ -56,11 +57,19 @@ pub closed-word : (one : TokenTree) (rest : List TokenTree) → closes one ≡ t
 unfolding next_word ident_of
 closed-word one rest h = (closed (out-TokenTree one) h).word
 
+pub barred-word : (one : TokenTree) (rest : List TokenTree) → is_bar (one ∷ rest) ≡ true → next_word (one ∷ rest) ≡ word.None
+unfolding next_word ident_of mark_of
+barred-word one rest h = (barred (out-TokenTree one) h).word
+
 alike-argument_word : (rest tail : List TokenTree) → Alike rest tail → argument_word (next_word rest) (after_one rest) ≡ argument_word (next_word tail) (after_one tail)
 alike-argument_word rest tail (stop _ _ h g) = rw (stop-word rest h, stop-word tail g) refl
 alike-argument_word _ _ (close one other rest tail like closes) =
     let same = alike-word (one ∷ rest) (other ∷ tail) (close one other rest tail like closes) in
     let none = closed-word one rest closes in
+    rw (← same, none) refl
+alike-argument_word _ _ (bar one other rest tail like is alike) =
+    let same = alike-word (one ∷ rest) (other ∷ tail) (bar one other rest tail like is alike) in
+    let none = barred-word one rest is in
     rw (← same, none) refl
 alike-argument_word _ _ (more one other rest tail like alike) =
     let same = alike-word (one ∷ rest) (other ∷ tail) (more one other rest tail like alike) in

@@ -1,5 +1,5 @@
 -- The tokens that a closure keeps are its head, before any body.
-use Rattle.std.proofs.Common.{◌≡◌, ℕ, ◌-◌, List, ◌++◌, length, take, Some, refl, ap, sym, ◌∙◌}
+use Rattle.std.proofs.Common.{◌≡◌, ℕ, ◌-◌, ◌<◌, List, ◌++◌, length, take, Some, refl, ap, sym, ◌∙◌}
 use Rattle.std.proofs.lemmas.Option.{some_pair_parts}
 use Rattle.token_core.specs.Span.{joined}
 use Rattle.token_core.specs.declared.span.Span.{Span}
@@ -9,15 +9,14 @@ use Rattle.grammar_core.specs.Expressions.{closure}
 use Rattle.grammar_core.specs.Input.{Input, ◌>>=◌, pure, upto, read_since}
 use Rattle.grammar_core.specs.Make as make
 use Rattle.grammar_core.specs.Readers.{Readers}
-use Rattle.front_core.specs.Alike.{Alike}
-use Rattle.front_core.specs.Closures.{closure_head}
+use Rattle.front_core.specs.Closures.{AlikeBodies, closure_head}
 use Rattle.front_core.specs.Front.{at, Front}
 use Rattle.front_core.proofs.Steps.{bind-at, take-read}
 use Rattle.front_core.proofs.Paths.{AllFronts}
 use Rattle.front_core.proofs.Closures.{closure_rest, closure-parts, closure_head-front}
 use Rattle.front_core.proofs.Within.{front-of}
 
--- A closure that was read. Before another body, where the tokens look like the first, the kept tokens are its head again.
+-- A closure that was read. Before another body that looks like the first, the kept tokens are its head again.
 pub record ClosureRead (readers : Readers) (input after : Input) (found : Expr) : Type 0 where
   pub start : Span
   pub kept : List TokenTree
@@ -25,13 +24,15 @@ pub record ClosureRead (readers : Readers) (input after : Input) (found : Expr) 
   pub between : Input
   pub body : Expr
   pub is : input.rest ≡ kept ++ between.rest
+  pub some : 0 < length kept
+  pub head : closure_head readers input ≡ Some ((start, level), between)
   pub body_is : readers.expr level between ≡ Some (body, after)
   pub found_is : found ≡ make.expr_closure kept body (joined start after.last)
-  pub again : (tail : List TokenTree) (last : Span) (other : Expr) (later : Input) → Alike between.rest tail → readers.expr level (at tail between.last) ≡ Some (other, later)
+  pub again : (tail : List TokenTree) (last : Span) (other : Expr) (later : Input) → AlikeBodies between.rest tail → readers.expr level (at tail between.last) ≡ Some (other, later)
       → closure readers (at (kept ++ tail) last) ≡ Some (make.expr_closure kept other (joined start later.last), later)
 
 module _ (readers : Readers) (parts : AllFronts readers) where
-  pub head-front : Front Alike (closure_head readers)
+  pub head-front : Front AlikeBodies (closure_head readers)
   head-front = front-of (closure_head-front readers parts)
 
   pub closure-read : (input after : Input) (found : Expr) → closure readers input ≡ Some (found, after) → ClosureRead readers input after found
@@ -50,6 +51,8 @@ module _ (readers : Readers) (parts : AllFronts readers) where
         between = between;
         body = two.0;
         is = took.is;
+        some = took.some;
+        head = one.2;
         body_is = two.2 ∙ ap (λ after. Some (two.0, after)) both.1;
         found_is = sym both.0 ∙ ap (λ after. make.expr_closure took.read two.0 (joined head.0 after.last)) both.1;
         again = λ tail last other later alike e. closure-parts readers (at (took.read ++ tail) last) ∙ rw (took.again tail last alike, take-read took.read tail, e) refl;

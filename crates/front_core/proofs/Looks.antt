@@ -1,17 +1,18 @@
 -- Tokens that are alike look the same to every rule.
 use Rattle.std.proofs.Common.{◌≡◌, ℕ, Bool, true, false, ◌&&◌, ◌||◌, not, ◌==◌, if◌then◌else◌, List, [], ◌∷◌, ◌++◌, Option, Some, None, refl, ap, sym, ◌∙◌}
-use Rattle.std.proofs.lemmas.Bool.{and_left, and_right, or_parts, not-true, eqb-true}
+use Rattle.std.proofs.lemmas.Bool.{and_left, and_right, both_ways, or_parts, not-true, eqb-true}
 use Rattle.token_core.specs.declared.ident.Ident.{Ident}
 use Rattle.token_core.specs.declared.tree.Delimiter.{Delimiter}
 use Rattle.token_core.specs.declared.tree.TokenTree.{TokenTree, out-TokenTree}
 use Rattle.token_core.specs.declared.tree.TokenTree.TheOpen.{TokenTree-F}
 use Rattle.expr_core.specs.declared.expr.BinOp.{BinOp}
+use Rattle.expr_core.specs.declared.expr.BinOp.TheVariants as op
 use Rattle.grammar_core.specs.declared.word.Word.{Word}
 use Rattle.grammar_core.specs.declared.word.Word.TheVariants as word
 use Rattle.grammar_core.specs.Look.{is_there, double_of, doubled, or_single, operator_of}
-use Rattle.grammar_core.specs.Token.{Layer, mark_in, joint_in, ident_in, is_group_in, lifetime_in, literal_in, mark_of, is_mark, is_joint, is_group, is_pair, is_colons, is_colon, is_dots, is_closed_dots, is_turbofish, after_one, ident_of, lifetime_of, literal_of}
+use Rattle.grammar_core.specs.Token.{Layer, mark_in, joint_in, ident_in, is_group_in, lifetime_in, literal_in, mark_of, is_mark, is_bar, is_joint, is_group, is_pair, is_colons, is_colon, is_dots, is_closed_dots, is_turbofish, after_one, ident_of, lifetime_of, literal_of}
 use Rattle.grammar_core.specs.Words.{word_at, word_of, next_word, name_at, name_of, is_name, is_word, sees}
-use Rattle.front_core.specs.Alike.{LikeLayer, Like, AllLike, closes, closes_in, Alike, stop, close, more, stops}
+use Rattle.front_core.specs.Alike.{LikeLayer, Like, AllLike, closes, closes_in, Alike, stop, close, bar, more, stops}
 
 pub like-refl : (layer : Layer) → LikeLayer layer layer
 like-refl layer = record { mark = refl; joint = refl; word = refl; group = λ between. refl; lifetime = refl; literal = refl }
@@ -157,24 +158,63 @@ closed (TokenTree-F.Punct punct) h =
     let facts = closed-mark punct.ch punct.joint (punct.ch == 59) refl h in
     record { word = refl; pair = facts.0; operator = facts.1; equals = facts.2; colon = facts.3 }
 
+-- ---- a `|`
+
+-- what a rule sees of it
+pub record Barred (layer : Layer) : Type 0 where
+  pub mark : mark_in layer ≡ 124
+  pub word : word_at (ident_in layer) ≡ word.None
+  pub pair : (first : ℕ) (second : Bool) → (124 == first) ≡ false → (joint_in layer && (mark_in layer == first && second)) ≡ false
+
+pub barred : (layer : Layer) → (mark_in layer == 124) ≡ true → Barred layer
+barred (TokenTree-F.Ident ident) h = absurd cc
+barred (TokenTree-F.Lifetime lifetime) h = absurd cc
+barred (TokenTree-F.Literal literal) h = absurd cc
+barred (TokenTree-F.Group group) h = absurd cc
+barred (TokenTree-F.Punct punct) h =
+    let is : punct.ch ≡ 124 = eqb-true punct.ch 124 h in
+    record { mark = is; word = refl; pair = λ first second apart. rw is (and_right punct.joint _ (and_left _ second apart)) }
+
+-- an operator that a `|` begins has another one, or is alone
+bar-double : (second other : ℕ) → (second == 124) ≡ (other == 124) → double_of 124 second ≡ double_of 124 other
+bar-double second other same = rw (bar-doubled second, bar-doubled other, same) refl
+  where
+    bar-doubled : (second : ℕ) → double_of 124 second ≡ (if second == 124 then Some op.Or else None)
+    bar-doubled second = go (second == 124) refl
+      where
+        go : (b : Bool) → (second == 124) ≡ b → double_of 124 second ≡ (if b then Some op.Or else None)
+        go true is = rw (eqb-true second 124 is) refl
+        go false is = rw (apart (124 == second) refl) (none (second == 61))
+          where
+            apart : (b : Bool) → (124 == second) ≡ b → (124 == second) ≡ false
+            apart true same = absurd (both_ways _ is (ap (λ mark. mark == 124) (sym (eqb-true 124 second same))))
+            apart false same = same
+
+            none : (b : Bool) → ◌≡◌ {A = Option BinOp} (if b then None else None) None
+            none true = refl
+            none false = refl
+
 -- ---- one token
 
 pub alike-mark : (ch : ℕ) → (0 == ch) ≡ false → (44 == ch) ≡ false → (rest tail : List TokenTree) → Alike rest tail → is_mark ch rest ≡ is_mark ch tail
 unfolding mark_of
 alike-mark ch none comma rest tail (stop _ _ h g) = stop-mark ch rest h none comma ∙ sym (stop-mark ch tail g none comma)
 alike-mark ch none comma _ _ (close one other rest tail like closes) = ap (λ mark. mark == ch) like.mark
+alike-mark ch none comma _ _ (bar one other rest tail like is same) = ap (λ mark. mark == ch) like.mark
 alike-mark ch none comma _ _ (more one other rest tail like alike) = ap (λ mark. mark == ch) like.mark
 
 pub alike-group : (between : Delimiter) (rest tail : List TokenTree) → Alike rest tail → is_group between rest ≡ is_group between tail
 unfolding is_group
 alike-group between rest tail (stop _ _ h g) = stop-group between rest h ∙ sym (stop-group between tail g)
 alike-group between _ _ (close one other rest tail like closes) = like.group between
+alike-group between _ _ (bar one other rest tail like is same) = like.group between
 alike-group between _ _ (more one other rest tail like alike) = like.group between
 
 pub alike-word : (rest tail : List TokenTree) → Alike rest tail → next_word rest ≡ next_word tail
 unfolding next_word ident_of
 alike-word rest tail (stop _ _ h g) = stop-word rest h ∙ sym (stop-word tail g)
 alike-word _ _ (close one other rest tail like closes) = like.word
+alike-word _ _ (bar one other rest tail like is same) = like.word
 alike-word _ _ (more one other rest tail like alike) = like.word
 
 pub alike-sees : (wanted : Word) (rest tail : List TokenTree) → Alike rest tail → sees wanted rest ≡ sees wanted tail
@@ -184,12 +224,14 @@ pub alike-lifetime : (rest tail : List TokenTree) → Alike rest tail → is_the
 unfolding lifetime_of
 alike-lifetime rest tail (stop _ _ h g) = stop-lifetime rest h ∙ sym (stop-lifetime tail g)
 alike-lifetime _ _ (close one other rest tail like closes) = like.lifetime
+alike-lifetime _ _ (bar one other rest tail like is same) = like.lifetime
 alike-lifetime _ _ (more one other rest tail like alike) = like.lifetime
 
 pub alike-literal : (rest tail : List TokenTree) → Alike rest tail → is_there (literal_of rest) ≡ is_there (literal_of tail)
 unfolding literal_of
 alike-literal rest tail (stop _ _ h g) = stop-literal rest h ∙ sym (stop-literal tail g)
 alike-literal _ _ (close one other rest tail like closes) = like.literal
+alike-literal _ _ (bar one other rest tail like is same) = like.literal
 alike-literal _ _ (more one other rest tail like alike) = like.literal
 
 name-word : (w : Word) (ident : Ident) → is_there (name_at w (Some ident)) ≡ is_name w
@@ -226,24 +268,35 @@ pair-like : (first second : ℕ) (one other : TokenTree) (trees : List TokenTree
 unfolding is_pair is_joint mark_of
 pair-like first second one other trees apart like h = rw (← like.joint, ← like.mark) ((closed (out-TokenTree one) h).pair first _ apart)
 
-pub alike-pair : (first second : ℕ) → (0 == first) ≡ false → (44 == first) ≡ false → (59 == first) ≡ false → (0 == second) ≡ false → (44 == second) ≡ false
+pair-barred : (first second : ℕ) (one : TokenTree) (trees : List TokenTree) → (124 == first) ≡ false → is_bar (one ∷ trees) ≡ true → is_pair first second (one ∷ trees) ≡ false
+unfolding is_pair is_joint mark_of
+pair-barred first second one trees apart h = (barred (out-TokenTree one) h).pair first _ apart
+
+-- what is like a `|` is one
+pub like-barred : (one other : TokenTree) (rest tail : List TokenTree) → Like one other → is_bar (one ∷ rest) ≡ true → is_bar (other ∷ tail) ≡ true
+unfolding mark_of
+like-barred one other rest tail like h = rw (← like.mark) h
+
+pub alike-pair : (first second : ℕ) → (0 == first) ≡ false → (44 == first) ≡ false → (59 == first) ≡ false → (124 == first) ≡ false → (0 == second) ≡ false → (44 == second) ≡ false
     → (rest tail : List TokenTree) → Alike rest tail → is_pair first second rest ≡ is_pair first second tail
 unfolding is_pair is_joint mark_of
-alike-pair first second none comma semicolon none' comma' rest tail (stop _ _ h g) =
+alike-pair first second none comma semicolon apart none' comma' rest tail (stop _ _ h g) =
     pair-first first second rest (stop-mark first rest h none comma) ∙ sym (pair-first first second tail (stop-mark first tail g none comma))
-alike-pair first second none comma semicolon none' comma' _ _ (close one other rest tail like closes) =
+alike-pair first second none comma semicolon apart none' comma' _ _ (close one other rest tail like closes) =
     pair-closed first second one rest semicolon closes ∙ sym (pair-like first second one other tail semicolon like closes)
-alike-pair first second none comma semicolon none' comma' _ _ (more one other rest tail like alike) =
+alike-pair first second none comma semicolon apart none' comma' _ _ (bar one other rest tail like is same) =
+    pair-barred first second one rest apart is ∙ sym (pair-barred first second other tail apart (like-barred one other rest tail like is))
+alike-pair first second none comma semicolon apart none' comma' _ _ (more one other rest tail like alike) =
     rw (like.joint, like.mark, alike-mark second none' comma' rest tail alike) refl
 
 pub alike-colons : (rest tail : List TokenTree) → Alike rest tail → is_colons rest ≡ is_colons tail
-alike-colons = alike-pair 58 58 refl refl refl refl refl
+alike-colons = alike-pair 58 58 refl refl refl refl refl refl
 
 pub alike-arrow : (rest tail : List TokenTree) → Alike rest tail → is_pair 45 62 rest ≡ is_pair 45 62 tail
-alike-arrow = alike-pair 45 62 refl refl refl refl refl
+alike-arrow = alike-pair 45 62 refl refl refl refl refl refl
 
 pub alike-dots : (rest tail : List TokenTree) → Alike rest tail → is_dots rest ≡ is_dots tail
-alike-dots = alike-pair 46 46 refl refl refl refl refl
+alike-dots = alike-pair 46 46 refl refl refl refl refl refl
 
 pub alike-colon : (rest tail : List TokenTree) → Alike rest tail → is_colon rest ≡ is_colon tail
 alike-colon rest tail h = rw (alike-mark 58 refl refl rest tail h, alike-colons rest tail h) refl
@@ -253,8 +306,10 @@ alike-closed_dots rest tail (stop _ _ h g) =
     and_left _ _ (pair-first 46 46 rest (stop-mark 46 rest h refl refl)) ∙ sym (and_left _ _ (pair-first 46 46 tail (stop-mark 46 tail g refl refl)))
 alike-closed_dots _ _ (close one other rest tail like closes) =
     and_left _ _ (pair-closed 46 46 one rest refl closes) ∙ sym (and_left _ _ (pair-like 46 46 one other tail refl like closes))
+alike-closed_dots _ _ (bar one other rest tail like is same) =
+    and_left _ _ (pair-barred 46 46 one rest refl is) ∙ sym (and_left _ _ (pair-barred 46 46 other tail refl (like-barred one other rest tail like is)))
 alike-closed_dots _ _ (more one other rest tail like alike) =
-    rw (alike-dots (one ∷ rest) (other ∷ tail) (more one other rest tail like alike), alike-pair 46 61 refl refl refl refl refl rest tail alike) refl
+    rw (alike-dots (one ∷ rest) (other ∷ tail) (more one other rest tail like alike), alike-pair 46 61 refl refl refl refl refl refl rest tail alike) refl
 
 fish-second : (trees : List TokenTree) → is_mark 58 (after_one trees) ≡ false → is_turbofish trees ≡ false
 fish-second trees h = and_left _ _ (pair-second 58 58 trees h)
@@ -265,6 +320,9 @@ fish-more one other rest tail like (stop _ _ h g) =
     fish-second (one ∷ rest) (stop-mark 58 rest h refl refl) ∙ sym (fish-second (other ∷ tail) (stop-mark 58 tail g refl refl))
 fish-more one other _ _ like (close two second rest tail alike closes) =
     let apart = (closed (out-TokenTree two) closes).colon in
+    fish-second (one ∷ two ∷ rest) apart ∙ sym (fish-second (other ∷ second ∷ tail) (ap (λ mark. mark == 58) (sym alike.mark) ∙ apart))
+fish-more one other _ _ like (bar two second rest tail alike is same) =
+    let apart = ap (λ mark. mark == 58) (barred (out-TokenTree two) is).mark in
     fish-second (one ∷ two ∷ rest) apart ∙ sym (fish-second (other ∷ second ∷ tail) (ap (λ mark. mark == 58) (sym alike.mark) ∙ apart))
 fish-more one other _ _ like (more two second rest tail alike behind) =
     rw (
@@ -277,6 +335,8 @@ alike-turbofish rest tail (stop _ _ h g) =
     and_left _ _ (pair-first 58 58 rest (stop-mark 58 rest h refl refl)) ∙ sym (and_left _ _ (pair-first 58 58 tail (stop-mark 58 tail g refl refl)))
 alike-turbofish _ _ (close one other rest tail like closes) =
     and_left _ _ (pair-closed 58 58 one rest refl closes) ∙ sym (and_left _ _ (pair-like 58 58 one other tail refl like closes))
+alike-turbofish _ _ (bar one other rest tail like is same) =
+    and_left _ _ (pair-barred 58 58 one rest refl is) ∙ sym (and_left _ _ (pair-barred 58 58 other tail refl (like-barred one other rest tail like is)))
 alike-turbofish _ _ (more one other rest tail like alike) = fish-more one other rest tail like alike
 
 -- ---- operators
@@ -285,6 +345,7 @@ alike-double : (first : ℕ) (rest tail : List TokenTree) → Alike rest tail �
 unfolding mark_of
 alike-double first rest tail (stop _ _ h g) = stop-double first rest h ∙ sym (stop-double first tail g)
 alike-double first _ _ (close one other rest tail like closes) = ap (double_of first) like.mark
+alike-double first _ _ (bar one other rest tail like is same) = ap (double_of first) like.mark
 alike-double first _ _ (more one other rest tail like alike) = ap (double_of first) like.mark
 
 pub alike-operator : (rest tail : List TokenTree) → Alike rest tail → operator_of rest ≡ operator_of tail
@@ -293,4 +354,6 @@ alike-operator rest tail (stop _ _ h g) = stop-operator rest h ∙ sym (stop-ope
 alike-operator _ _ (close one other rest tail like closes) =
     let none = (closed (out-TokenTree one) closes).operator in
     rw (← like.joint, ← like.mark, none (mark_of rest), none (mark_of tail)) refl
+alike-operator _ _ (bar one other rest tail like is same) =
+    rw (← like.joint, ← like.mark, (barred (out-TokenTree one) is).mark, bar-double (mark_of rest) (mark_of tail) same) refl
 alike-operator _ _ (more one other rest tail like alike) = rw (like.joint, like.mark, alike-double (mark_in (out-TokenTree other)) rest tail alike) refl

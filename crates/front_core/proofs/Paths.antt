@@ -32,7 +32,7 @@ pub record AllFronts (readers : Readers) : Type 0 where
   pub bounds : Rule true readers.bounds
 
 pub angle_list-front : {A : Type 0} (item : Parser A) → Rule true item → Rule true (angle_list item)
-angle_list-front item rule = until-front 62 item refl refl rule
+angle_list-front item rule = until-front 62 item refl rule
 
 pub binder-front : Rule false binder
 unfolding binder

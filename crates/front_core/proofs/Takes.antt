@@ -71,7 +71,7 @@ pub skip_at-front : {limit : ℕ} {input : Input} → 1 ≤ length input.rest �
 unfolding skipped
 skip_at-front enough = skip_by_at-front true 1 (λ _. omega arith) enough
 
-expect_at-front : {limit : ℕ} {input : Input} (some : Bool) (count : ℕ) (holds : List TokenTree → Bool) → (some ≡ true → 0 < count)
+pub expect_at-front : {limit : ℕ} {input : Input} (some : Bool) (count : ℕ) (holds : List TokenTree → Bool) → (some ≡ true → 0 < count)
     → ((rest tail : List TokenTree) → Alike rest tail → holds rest ≡ holds tail) → ((trees : List TokenTree) → holds trees ≡ true → count ≤ length trees)
     → FrontAt limit Alike Alike some true (expect count holds) (expect count holds) input
 expect_at-front {limit} {input} some count holds begins same enough = record { of = λ after found e. go (holds input.rest) refl after found e }
@@ -224,14 +224,21 @@ eat_as-front {A} {B} {limit} {End} {next} {following} of none same h = record { 
     go : (trees : List TokenTree) (last : Span) (after : Input) (found : B) → (eat_as of >>= next) (at trees last) ≡ Some (found, after) → Took limit Alike End true true (eat_as of >>= following) (at trees last) after found
     go trees last after found e = by trees last (of trees) refl after found e
 
+-- a token before what is related is alike
+abbrev pub Before : Relation → (List TokenTree → Bool) → Type 0
+Before Behind holds = (tree : TokenTree) (rest tail : List TokenTree) → holds (tree ∷ rest) ≡ true → Behind rest tail → Alike (tree ∷ rest) (tree ∷ tail)
+
+pub any-before : (holds : List TokenTree → Bool) → Before Alike holds
+any-before holds tree rest tail is alike = alike-one tree rest tail alike
+
 -- a token that may be there, and else more is read
-pub eat_or-front : {A : Type 0} {limit : ℕ} {End : Relation} {any : Bool} {one one' two two' : Parser A} (holds : List TokenTree → Bool) → holds [] ≡ false
-    → ((tree : TokenTree) (rest tail : List TokenTree) → holds (tree ∷ rest) ≡ holds (tree ∷ tail))
-    → Fronts limit Alike End false any one one'
+pub eat_or_before-front : {A : Type 0} {limit : ℕ} {Behind End : Relation} {any : Bool} {one one' two two' : Parser A} (holds : List TokenTree → Bool) → holds [] ≡ false
+    → ((tree : TokenTree) (rest tail : List TokenTree) → holds (tree ∷ rest) ≡ holds (tree ∷ tail)) → Before Behind holds
+    → Fronts limit Behind End false any one one'
     → Fronts limit Alike End true true two two'
     → Fronts limit Alike End true true (eat 1 holds >>= (λ b. if b then one else two)) (eat 1 holds >>= (λ b. if b then one' else two'))
 unfolding after_eat skipped Rattle.grammar_core.specs.Input.next
-eat_or-front {A} {limit} {End} {any} {one} {one'} {two} {two'} holds none same h g = record { at = λ input. record { of = λ after found e. by input.rest input.last (holds input.rest) refl after found e } }
+eat_or_before-front {A} {limit} {Behind} {End} {any} {one} {one'} {two} {two'} holds none same before h g = record { at = λ input. record { of = λ after found e. by input.rest input.last (holds input.rest) refl after found e } }
   where
     whole : Parser A
     whole = eat 1 holds >>= (λ b. if b then one' else two')
@@ -263,8 +270,15 @@ eat_or-front {A} {limit} {End} {any} {one} {one'} {two} {two'} holds none same h
           again = λ tail last free alike fits.
               let again = two.again tail (span_of tree) (λ h. refl) alike (omega arith) in
               record { new = again.new; reads = rw (← same tree trees (two.read ++ tail), is) again.reads; kept = λ h. again.kept refl; taken = λ h. again.kept refl };
-          first = λ tail alike. alike-one tree trees (two.read ++ tail) (two.first tail alike);
+          first = λ tail alike. before tree trees (two.read ++ tail) is (two.first tail alike);
         }
+
+pub eat_or-front : {A : Type 0} {limit : ℕ} {End : Relation} {any : Bool} {one one' two two' : Parser A} (holds : List TokenTree → Bool) → holds [] ≡ false
+    → ((tree : TokenTree) (rest tail : List TokenTree) → holds (tree ∷ rest) ≡ holds (tree ∷ tail))
+    → Fronts limit Alike End false any one one'
+    → Fronts limit Alike End true true two two'
+    → Fronts limit Alike End true true (eat 1 holds >>= (λ b. if b then one else two)) (eat 1 holds >>= (λ b. if b then one' else two'))
+eat_or-front holds none same h g = eat_or_before-front holds none same (any-before holds) h g
 
 -- ---- groups, behind which anything may follow
 
@@ -312,7 +326,35 @@ inside_any-front between parser = record { at = λ input. inside_any_at-front be
 pub inside-front : {A : Type 0} {limit : ℕ} (between : Delimiter) (parser : Parser A) → Fronts limit Alike Alike true true (inside between parser) (inside between parser)
 inside-front between parser = weak-front (λ rest tail alike. tt) (λ rest tail alike. alike) (inside_any-front between parser)
 
--- ---- `;`, behind which anything may follow
+-- ---- marks, with what may follow
+
+mark_before_at-front : {limit : ℕ} {End : Relation} {input : Input} (ch : ℕ) → (0 == ch) ≡ false → Before End (is_mark ch) → FrontAt limit Alike End true true (expect 1 (is_mark ch)) (expect 1 (is_mark ch)) input
+unfolding mark_of next skipped
+mark_before_at-front {limit} {End} {input} ch some before = record { of = λ after found e. go input.rest input.last after found e }
+  where
+    by : (tree : TokenTree) (trees : List TokenTree) (last : Span) (b : Bool) → (mark_in (out-TokenTree tree) == ch) ≡ b → (after : Input) (found : Unit {0})
+        → ◌≡◌ {A = Outcome (Unit {0})} (if b then Some (tt, at trees (span_of tree)) else None) (Some (found, after)) → Took limit Alike End true true (expect 1 (is_mark ch)) (at (tree ∷ trees) last) after found
+    by tree trees last false is after found e = absurd cc
+    by tree trees last true is after found e =
+        let both = some_pair_parts tt found (at trees (span_of tree)) after e in
+        rw (← both.0, ← both.1) (record {
+          read = tree ∷ [];
+          is = refl;
+          begins = tt;
+          again = λ tail last free end fits. record { new = span_of tree; reads = rw is refl; kept = λ h. refl; taken = λ h. refl };
+          first = λ tail end. before tree trees tail is end;
+        })
+
+    none : (b : Bool) (last : Span) (after : Input) (found : Unit {0}) → b ≡ false → ◌≡◌ {A = Outcome (Unit {0})} (if b then Some (tt, at [] last) else None) (Some (found, after)) → Took limit Alike End true true (expect 1 (is_mark ch)) (at [] last) after found
+    none false last after found is e = absurd cc
+    none true last after found is e = absurd cc
+
+    go : (trees : List TokenTree) (last : Span) (after : Input) (found : Unit {0}) → expect 1 (is_mark ch) (at trees last) ≡ Some (found, after) → Took limit Alike End true true (expect 1 (is_mark ch)) (at trees last) after found
+    go [] last after found e = none (0 == ch) last after found some e
+    go (tree ∷ trees) last after found e = by tree trees last (mark_in (out-TokenTree tree) == ch) refl after found e
+
+pub mark_before-front : {limit : ℕ} {End : Relation} (ch : ℕ) → (0 == ch) ≡ false → Before End (is_mark ch) → Fronts limit Alike End true true (expect 1 (is_mark ch)) (expect 1 (is_mark ch))
+mark_before-front ch some before = record { at = λ input. mark_before_at-front ch some before }
 
 semicolon-closes : (layer : Layer) → (mark_in layer == 59) ≡ true → closes_in layer ≡ true
 semicolon-closes (TokenTree-F.Punct punct) h = rw h refl
@@ -321,29 +363,10 @@ semicolon-closes (TokenTree-F.Ident ident) h = absurd cc
 semicolon-closes (TokenTree-F.Lifetime lifetime) h = refl
 semicolon-closes (TokenTree-F.Literal literal) h = refl
 
-semicolon_any_at-front : {limit : ℕ} {input : Input} → FrontAt limit Alike Any true true (expect 1 is_semicolon) (expect 1 is_semicolon) input
-unfolding mark_of next skipped
-semicolon_any_at-front {limit} {input} = record { of = λ after found e. go input.rest input.last after found e }
-  where
-    by : (tree : TokenTree) (trees : List TokenTree) (last : Span) (b : Bool) → (mark_in (out-TokenTree tree) == 59) ≡ b → (after : Input) (found : Unit {0})
-        → ◌≡◌ {A = Outcome (Unit {0})} (if b then Some (tt, at trees (span_of tree)) else None) (Some (found, after)) → Took limit Alike Any true true (expect 1 is_semicolon) (at (tree ∷ trees) last) after found
-    by tree trees last false is after found e = absurd cc
-    by tree trees last true is after found e =
-        let both = some_pair_parts tt found (at trees (span_of tree)) after e in
-        rw (← both.0, ← both.1) (record {
-          read = tree ∷ [];
-          is = refl;
-          begins = tt;
-          again = λ tail last free any fits. record { new = span_of tree; reads = rw is refl; kept = λ h. refl; taken = λ h. refl };
-          first = λ tail any. alike-closed tree trees tail (semicolon-closes (out-TokenTree tree) is);
-        })
-
-    go : (trees : List TokenTree) (last : Span) (after : Input) (found : Unit {0}) → expect 1 is_semicolon (at trees last) ≡ Some (found, after) → Took limit Alike Any true true (expect 1 is_semicolon) (at trees last) after found
-    go [] last after found e = absurd cc
-    go (tree ∷ trees) last after found e = by tree trees last (mark_in (out-TokenTree tree) == 59) refl after found e
-
+-- `;`, behind which anything may follow
 pub semicolon_any-front : {limit : ℕ} → Fronts limit Alike Any true true (expect 1 is_semicolon) (expect 1 is_semicolon)
-semicolon_any-front = record { at = λ input. semicolon_any_at-front }
+unfolding mark_of
+semicolon_any-front = mark_before-front 59 refl (λ tree rest tail is any. alike-closed tree rest tail (semicolon-closes (out-TokenTree tree) is))
 
 -- ---- tokens before more that is read
 
@@ -428,3 +451,29 @@ here_eat-front {A} {limit} {any} {next} {none} holds empty same h g = record { a
               };
           first = λ tail alike. alike-one tree trees (two.read ++ tail) (two.first tail alike);
         }
+
+-- ---- what stands behind tokens that are there
+
+expected : {A : Type 0} (b : Bool) (stands input after : Input) (found : A) (one two : Parser A) → and_then (if b then Some (tt {0}, stands) else None) (λ _. one) ≡ Some (found, after)
+    → (if b then one else two) (if b then stands else input) ≡ Some (found, after)
+expected true stands input after found one two e = e
+expected false stands input after found one two e = absurd cc
+
+pub eaten-front : {A : Type 0} {limit : ℕ} {End : Relation} {some any : Bool} {input : Input} (one one' two two' : Parser A) (count : ℕ) (holds : List TokenTree → Bool) → holds input.rest ≡ true
+    → FrontAt limit Alike End some any (expect count holds >>= (λ _. one)) (expect count holds >>= (λ _. one')) input
+    → FrontAt limit Alike End some any (eat count holds >>= (λ b. if b then one else two)) (eat count holds >>= (λ b. if b then one' else two')) input
+unfolding after_eat
+eaten-front {input = input} one one' two two' count holds is h = record {
+  of = λ after found e.
+      let took = h.of after found (rw is (rw is at e)) in
+      record {
+        read = took.read;
+        is = took.is;
+        begins = took.begins;
+        again = λ tail last free same fits.
+            let again = took.again tail last free same fits in
+            let anew = at (took.read ++ tail) last in
+            record { new = again.new; reads = expected (holds anew.rest) (skipped count anew) anew (at tail again.new) found one' two' again.reads; kept = again.kept; taken = again.taken };
+        first = took.first;
+      };
+}

@@ -14,9 +14,9 @@ use Rattle.grammar_core.specs.Readers.{Readers}
 use Rattle.grammar_core.specs.Token.{after_one, is_colon, is_group, ident_of, lifetime_of, mark_of, is_joint, is_pair}
 use Rattle.grammar_core.specs.Types.{name_before_colon, arg_name_by, arg_name, type_group, type_bracket, type_reference, type_pointer, named_arg, type_fn_ptr, type_trait_object, type_impl_trait, type_qualified, type_path, type_in_parentheses, type_in_brackets, type_by, type_step}
 use Rattle.grammar_core.specs.Words.{name_of, next_word}
-use Rattle.front_core.specs.Alike.{Alike, stop, close, more}
+use Rattle.front_core.specs.Alike.{Alike, stop, close, bar, more}
 use Rattle.front_core.proofs.Looks.{alike-colon, stop-word}
-use Rattle.front_core.proofs.Begins.{alike-type_start, closed-word}
+use Rattle.front_core.proofs.Begins.{alike-type_start, closed-word, barred-word}
 use Rattle.front_core.proofs.Steps.{FrontAt, Fronts, refuse_at-front, pure-front, then_at-front, then-front, first_at-front, first-front, maybe-front, if-front, test_at-front, look_at-front, here_at-front, here-front, close-front}
 use Rattle.front_core.proofs.Takes.{skip_by_at-front, skip_at-front, skip_then-front, eat_as-front, inside-front, seen-enough}
 use Rattle.front_core.proofs.Loops.{Rule}
@@ -41,19 +41,23 @@ same-name : (tree : TokenTree) (rest tail : List TokenTree) → name_of (tree �
 unfolding name_of next_word ident_of
 same-name tree rest tail = refl
 
-same-before_colon : (one two : List TokenTree) → Alike one two → (name_of one ≡ name_of two) → name_before_colon one ≡ name_before_colon two
+-- no name stands before a colon where none stands
+both-none : (one two : List TokenTree) → name_of one ≡ None → name_of one ≡ name_of two → name_before_colon one ≡ name_before_colon two
 unfolding name_before_colon
-same-before_colon one two (stop _ _ h g) same = none-before_colon one (stop-word one h) ∙ sym (none-before_colon two (stop-word two g))
-same-before_colon _ _ (more one other rest tail like alike) same = rw (alike-colon rest tail alike, same) refl
-same-before_colon _ _ (close one other rest tail like closes) same =
-    let none = no-name (one ∷ rest) (closed-word one rest closes) in
-    rw (← same, none) (go (is_colon rest) (is_colon tail))
+both-none one two none same = rw (← same, none) (go (is_colon (after_one one)) (is_colon (after_one two)))
   where
     go : (b c : Bool) → ◌≡◌ {A = Option Ident} (if b then None else None) (if c then None else None)
     go true true = refl
     go true false = refl
     go false true = refl
     go false false = refl
+
+same-before_colon : (one two : List TokenTree) → Alike one two → (name_of one ≡ name_of two) → name_before_colon one ≡ name_before_colon two
+unfolding name_before_colon
+same-before_colon one two (stop _ _ h g) same = none-before_colon one (stop-word one h) ∙ sym (none-before_colon two (stop-word two g))
+same-before_colon _ _ (more one other rest tail like alike) same = rw (alike-colon rest tail alike, same) refl
+same-before_colon _ _ (close one other rest tail like closes) same = both-none (one ∷ rest) (other ∷ tail) (no-name (one ∷ rest) (closed-word one rest closes)) same
+same-before_colon _ _ (bar one other rest tail like is alike) same = both-none (one ∷ rest) (other ∷ tail) (no-name (one ∷ rest) (barred-word one rest is)) same
 
 before_colon-enough : (trees : List TokenTree) (name : Ident) → name_before_colon trees ≡ Some name → 2 ≤ length trees
 unfolding name_before_colon mark_of

@@ -4,7 +4,7 @@ use Rattle.token_core.specs.declared.tree.Delimiter.{Delimiter}
 use Rattle.token_core.specs.declared.tree.TokenTree.{TokenTree, out-TokenTree}
 use Rattle.token_core.specs.declared.tree.TokenTree.TheOpen.{TokenTree-F}
 use Rattle.grammar_core.specs.Look.{is_there}
-use Rattle.grammar_core.specs.Token.{Layer, mark_in, joint_in, ident_in, is_group_in, lifetime_in, literal_in, is_comma}
+use Rattle.grammar_core.specs.Token.{Layer, mark_in, joint_in, ident_in, is_group_in, lifetime_in, literal_in, is_bar, is_comma}
 use Rattle.grammar_core.specs.Words.{word_at}
 use Rattle.grammar_core.specs.Input.{is_end}
 
@@ -48,10 +48,11 @@ abbrev pub stops : List TokenTree → Bool
 stops [] = true
 stops (tree ∷ trees) = is_comma (tree ∷ trees)
 
--- The rules see the same: both stop, or both begin with tokens of one kind, and so on to a token that closes.
+-- The rules see the same: both stop, or both begin with tokens of one kind, and so on to a token that closes. Behind a `|` they see only whether another one comes.
 pub data Alike : List TokenTree → List TokenTree → Type 0 where
   stop : (rest tail : List TokenTree) → stops rest ≡ true → stops tail ≡ true → Alike rest tail
   close : (one other : TokenTree) (rest tail : List TokenTree) → Like one other → closes one ≡ true → Alike (one ∷ rest) (other ∷ tail)
+  bar : (one other : TokenTree) (rest tail : List TokenTree) → Like one other → is_bar (one ∷ rest) ≡ true → is_bar rest ≡ is_bar tail → Alike (one ∷ rest) (other ∷ tail)
   more : (one other : TokenTree) (rest tail : List TokenTree) → Like one other → Alike rest tail → Alike (one ∷ rest) (other ∷ tail)
 
 -- as many tokens, each like its counterpart

@@ -1,12 +1,20 @@
 -- The front of a closure whose tokens it keeps.
-use Rattle.std.specs.Prelude.{ℕ}
+use Rattle.std.specs.Prelude.{◌≡◌, ℕ, List}
 use Rattle.token_core.specs.declared.span.Span.{Span}
+use Rattle.token_core.specs.declared.tree.Delimiter.TheVariants as delimiter
+use Rattle.token_core.specs.declared.tree.TokenTree.{TokenTree}
 use Rattle.grammar_core.specs.declared.word.Word.TheVariants as word
 use Rattle.grammar_core.specs.Expressions.{closure_params, closure_body}
 use Rattle.grammar_core.specs.Input.{Parser, ◌>>=◌, pure, here, eat, expect}
 use Rattle.grammar_core.specs.Readers.{Readers}
-use Rattle.grammar_core.specs.Token.{is_bar}
+use Rattle.grammar_core.specs.Token.{is_arrow, is_bar, is_group}
 use Rattle.grammar_core.specs.Words.{sees}
+
+-- Behind the head the rules see whether a `|`, an arrow or a block comes.
+pub record AlikeBodies (rest tail : List TokenTree) : Type 0 where
+  pub bar : is_bar rest ≡ is_bar tail
+  pub arrow : is_arrow rest ≡ is_arrow tail
+  pub block : is_group delimiter.Brace rest ≡ is_group delimiter.Brace tail
 
 module _ (readers : Readers) where
   -- what stands before the body: where it begins, and the level of the body

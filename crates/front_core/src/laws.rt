@@ -2,7 +2,7 @@
 //! nothing: its clauses are the law.
 
 ghost use Rattle.front_core.specs.Alike.{Alike};
-ghost use Rattle.front_core.specs.Closures.{closure_head};
+ghost use Rattle.front_core.specs.Closures.{AlikeBodies, closure_head};
 ghost use Rattle.front_core.specs.Front.{Front};
 ghost use Rattle.grammar_core.specs.Grammar.{within};
 ghost use Rattle.grammar_core.specs.Paths.{path};
@@ -15,5 +15,5 @@ pub fn fronts_are_read_again()
     ensures ty { (depth : ℕ) (many : Bool) → Front Alike ((within depth).ty many) }
     ensures expr { (depth level : ℕ) → Front Alike ((within depth).expr level) }
     ensures path { (depth : ℕ) (in_type : Bool) → Front Alike (path (within depth) in_type) }
-    ensures closure_head { (depth : ℕ) → Front Alike (closure_head (within depth)) }
+    ensures closure_head { (depth : ℕ) → Front AlikeBodies (closure_head (within depth)) }
 {}

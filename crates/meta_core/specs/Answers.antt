@@ -1,23 +1,14 @@
 -- How the parser of nested items answers.
-use Rattle.std.specs.Prelude.{◌≡◌, List, [], codes, Option, Some, None, Result, Ok, Err}
-use Rattle.base_core.specs.declared.text.Text.{Text}
+use Rattle.std.specs.Prelude.{◌≡◌, List, codes, Option, Some, None, Result, Ok, Err}
 use Rattle.token_core.specs.declared.span.Span.{Span}
 use Rattle.token_core.specs.declared.tree.TokenStream.{TokenStream}
 use Rattle.node_core.specs.declared.error.SynError.{SynError}
 use Rattle.span_core.specs.Spanned.{stream_span}
 use Rattle.syn_core.specs.declared.fail.ParseFail.{ParseFail}
 use Rattle.syn_core.specs.declared.fail.ParseFail.TheVariants.{Syn, NoMemory}
+use Rattle.syn_core.specs.Parses.{fault_at}
 use Rattle.meta_core.specs.declared.nested.NestedMeta.{NestedMeta}
 use Rattle.meta_core.specs.Nested.{nested_of, attribute_in}
-
--- the one fault with this text there
-abbrev pub fault_at : Span → Text → SynError
-fault_at place text = record { first = (place, text); more = [] }
-
--- the fault is that one, or want of memory
-abbrev pub Refuses : SynError → ParseFail → Type 0
-Refuses fault NoMemory = Unit {0}
-Refuses fault (Syn error) = error ≡ fault
 
 abbrev pub refused_at : TokenStream → Option Span → SynError
 refused_at tokens (Some place) = fault_at place (codes "unexpected attribute inside of attribute")

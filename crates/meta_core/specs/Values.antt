@@ -1,6 +1,7 @@
 -- What stands behind the `=` of a nested item: the shortest run of tokens that is a value and is followed by a comma or by
 -- nothing; or a bad value, the tokens up to the next comma.
 use Rattle.std.specs.Prelude.{ℕ, zero, suc, if◌then◌else◌, List, [], ◌∷◌, length, take, drop, Option, Some, None, option_map}
+use Rattle.std.specs.Option.{option_or}
 use Rattle.token_core.specs.declared.span.Span.{Span}
 use Rattle.token_core.specs.declared.tree.TokenTree.{TokenTree}
 use Rattle.expr_core.specs.declared.expr.Expr.{Expr}
@@ -25,14 +26,10 @@ value_in trees = either_value (number_in trees) (expr_in trees)
 abbrev pub run_of : {A : Type 0} → (List TokenTree → Option A) → List TokenTree → ℕ → Option A
 run_of reader trees count = if stops (drop count trees) then reader (take count trees) else None
 
-abbrev pub or_else : {A : Type 0} → Option A → Option A → Option A
-or_else (Some found) other = Some found
-or_else None other = other
-
 -- what the least number up to this one has, of those that have something; and that number
 abbrev pub least : {A : Type 0} → (ℕ → Option A) → ℕ → Option (A × ℕ)
 least of zero = option_map (λ found. (found, 0)) (of 0)
-least of (suc number) = or_else (least of number) (option_map (λ found. (found, suc number)) (of (suc number)))
+least of (suc number) = option_or (least of number) (option_map (λ found. (found, suc number)) (of (suc number)))
 
 -- the value of the shortest run that is one, and how many tokens it has
 abbrev pub shortest_run : List TokenTree → Option (Expr × ℕ)

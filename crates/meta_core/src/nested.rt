@@ -1,7 +1,7 @@
 ghost use Rattle.std.specs.Prelude.{◌≡◌, [], IfOk};
 ghost use Rattle.grammar_core.specs.Input as input;
 ghost use Rattle.item_core.specs.Lists.{Flat};
-ghost use Rattle.meta_core.specs.Answers.{ParsesNested, Refuses, fault_at};
+ghost use Rattle.meta_core.specs.Answers.{ParsesNested};
 ghost use Rattle.meta_core.specs.Nested as spec;
 
 use crate::item::{Found, item};
@@ -9,7 +9,7 @@ use base_core::{Items, Mem};
 use error_core::Error;
 use expr_core::{Lit, Path, Span, TokenStream};
 use grammar_core::Cursor;
-use node_core::{Meta, SynError};
+use node_core::Meta;
 use rule_core::{Front, all_of, items_after};
 use span_core::Spanned;
 use std::alloc::Global;
@@ -49,25 +49,15 @@ impl NestedMeta {
         ensures { ParsesNested tokens.now result }
     {
         let Some(found) = found_of(alloc, tokens)? else {
-            return Err(refusal(alloc, tokens.spanned(), "expected a meta list"));
+            return Err(ParseFail::at(alloc, tokens.spanned(), "expected a meta list"));
         };
         match among(alloc, found)? {
             Ok(items) => Ok(items),
             Err(place) => {
                 let text = "unexpected attribute inside of attribute";
-                Err(refusal(alloc, place, text))
+                Err(ParseFail::at(alloc, place, text))
             }
         }
-    }
-}
-
-/// The one fault with this text there.
-fn refusal(alloc: Global, place: Span, text: &str) -> ParseFail
-    ensures { Refuses (fault_at place text.now) result }
-{
-    match SynError::new(alloc, place, text) {
-        Ok(error) => ParseFail::Syn(error),
-        Err(_) => ParseFail::NoMemory,
     }
 }
 

@@ -1,11 +1,26 @@
+ghost use Rattle.syn_core.specs.Parses.{Refuses, fault_at};
+
+use expr_core::Span;
 use node_core::SynError;
-use std::alloc::{AllocError, AllocFailed};
+use std::alloc::{AllocError, AllocFailed, Global};
 
 /// Why a parser gives no tree.
 #[derive(Debug, Drop)]
 pub enum ParseFail {
     Syn(SynError),
     NoMemory,
+}
+
+impl ParseFail {
+    /// The one fault with this text there.
+    pub fn at(alloc: Global, place: Span, text: &str) -> ParseFail
+        ensures { Refuses (fault_at place text.now) result }
+    {
+        match SynError::new(alloc, place, text) {
+            Ok(error) => ParseFail::Syn(error),
+            Err(_) => ParseFail::NoMemory,
+        }
+    }
 }
 
 /// A tree, or why there is none.

@@ -6,26 +6,23 @@ ghost use Rattle.grammar_core.specs.Input.{Parser};
 ghost use Rattle.grammar_core.specs.Trees as trees;
 ghost use Rattle.item_core.specs.Trees as item_trees;
 ghost use Rattle.rule_core.specs.Lists.{ReadsItems};
-ghost use Rattle.syn_core.specs.Parses.{Parses, Refuses};
+ghost use Rattle.syn_core.specs.Parses.{Parses, Refuses, fault_over};
 
 use crate::fail::{Parse, ParseFail};
 use crate::front;
 use base_core::Items;
 use expr_core::{Expr, ExprArray, ExprPath, ExprRange, FnArg, Ident, Path, TokenStream, Type};
 use grammar_core::Cursor;
-use node_core::{DeriveInput, SynError, TypeParam, Visibility, WhereClause};
+use node_core::{DeriveInput, TypeParam, Visibility, WhereClause};
 use rule_core::{Front, all_of};
 use span_core::Spanned;
 use std::alloc::Global;
 
 /// The one fault over all of the tokens.
 fn refusal(alloc: Global, tokens: &TokenStream, text: &str) -> ParseFail
-    ensures { Refuses text.now tokens.now result }
+    ensures { Refuses (fault_over text.now tokens.now) result }
 {
-    match SynError::new(alloc, tokens.spanned(), text) {
-        Ok(error) => ParseFail::Syn(error),
-        Err(_) => ParseFail::NoMemory,
-    }
+    ParseFail::at(alloc, tokens.spanned(), text)
 }
 
 /// What `reader` reads of all of the tokens, or the one fault `text`.

@@ -1,8 +1,9 @@
 use Rattle.std.proofs.Common.{◌≡◌, ◌<◌, ◌∷◌, ◌+◌, suc, drop, filter, length, flat_map, ap, sym, ◌∙◌, add-one, arith}
 use Rattle.std.proofs.Math.Seq.{drop-cons}
+use Rattle.std.specs.Option.{option_or}
 use Rattle.node_core.specs.declared.derive.DeriveInput.{DeriveInput}
 use Rattle.darling_run.specs.Unread.{first_unread, first_place, is_unread}
-use Rattle.darling_run.proofs.UnreadLemmas.{or_else, or_else-None, or_else-Some, first_place-append}
+use Rattle.darling_run.proofs.UnreadLemmas.{option_or-none, option_or-some, first_place-append}
 use Rattle.darling_run.proofs.unread.first_unread.Goals as goal
 
 pub returns-then-is_some : goal.returns-then-is_some
@@ -15,8 +16,8 @@ returns-then-is_some c =
     let within : at < length all = omega arith in
     let split : drop at all ≡ subject ∷ drop (at + 1) all = rw (add-one, drop-cons all at subject within) (ap (λ first. first ∷ drop (suc at) all) (sym c.subject-item.is)) in
     let unread : c.in_ok-unread.unread ≡ first_place (filter (is_unread names) subject.attrs) = rw c.as_slice.ensures at c.in_ok-unread.ensures in
-    sym (or_else-Some c.in_ok-unread.unread (first_place (filter (is_unread names) later)) (sym c.is_some.ensures ∙ c.if-is_some.true))
-    ∙ ap (λ one. or_else one (first_place (filter (is_unread names) later))) unread
+    sym (option_or-some c.in_ok-unread.unread (first_place (filter (is_unread names) later)) (sym c.is_some.ensures ∙ c.if-is_some.true))
+    ∙ ap (λ one. option_or one (first_place (filter (is_unread names) later))) unread
     ∙ sym (first_place-append (is_unread names) subject.attrs later)
     ∙ ap (first_unread names) (sym split)
     ∙ c.loop-subject.invariant
@@ -31,8 +32,8 @@ loop-subject-preserved c =
     let within : at < length all = omega arith in
     let split : drop at all ≡ subject ∷ drop (at + 1) all = rw (add-one, drop-cons all at subject within) (ap (λ first. first ∷ drop (suc at) all) (sym c.subject-item.is)) in
     let unread : c.in_ok-unread.unread ≡ first_place (filter (is_unread names) subject.attrs) = rw c.as_slice.ensures at c.in_ok-unread.ensures in
-    sym (or_else-None c.in_ok-unread.unread (first_place (filter (is_unread names) later)) (sym c.is_some.ensures ∙ c.if-is_some.false))
-    ∙ ap (λ one. or_else one (first_place (filter (is_unread names) later))) unread
+    sym (option_or-none c.in_ok-unread.unread (first_place (filter (is_unread names) later)) (sym c.is_some.ensures ∙ c.if-is_some.false))
+    ∙ ap (λ one. option_or one (first_place (filter (is_unread names) later))) unread
     ∙ sym (first_place-append (is_unread names) subject.attrs later)
     ∙ ap (first_unread names) (sym split)
     ∙ c.loop-subject.invariant
