@@ -50,7 +50,7 @@ use Rattle.back_items.proofs.Whiles.{while-printed}
 abbrev BeginsWord : Relation
 BeginsWord rest tail = StartsPath rest tail × (is_colons tail ≡ false)
 
-ident_of-Ident : (it : Ident) (tail : Trees) → ident_of (tree.Ident it ∷ tail) ≡ Some it
+pub ident_of-Ident : (it : Ident) (tail : Trees) → ident_of (tree.Ident it ∷ tail) ≡ Some it
 unfolding ident_of
 ident_of-Ident it tail = rw (out-Ident it) refl
 
@@ -93,14 +93,14 @@ meta_path-back = whole (here-rest (λ start. eat-rest {Second = λ b. BeginsWord
 -- ---- what stands behind the path
 
 -- the group that comes, or none, and no `::`
-abbrev Grouped : Option Delimiter → Relation
+abbrev pub Grouped : Option Delimiter → Relation
 Grouped grouped rest tail = (delimiter_of tail ≡ grouped) × (is_colons tail ≡ false)
 
-group-grouped : (between : Delimiter) (inner rest tail : Trees) (span : Span) → Grouped (Some between) rest (group between inner span ++ tail)
+pub group-grouped : (between : Delimiter) (inner rest tail : Trees) (span : Span) → Grouped (Some between) rest (group between inner span ++ tail)
 unfolding delimiter_of group is_pair is_joint
 group-grouped between inner rest tail span = (search (rules, the_lemmas), search (rules, the_lemmas))
 
-equals-grouped : (rest tail : Trees) (span : Span) → Grouped None rest (mark (codes "=") span ++ tail)
+pub equals-grouped : (rest tail : Trees) (span : Span) → Grouped None rest (mark (codes "=") span ++ tail)
 unfolding delimiter_of mark is_pair is_joint
 equals-grouped rest tail span = (rw (out-Punct (record { ch = 61; joint = false; span = span })) refl, rw (out-Punct (record { ch = 61; joint = false; span = span })) refl)
 

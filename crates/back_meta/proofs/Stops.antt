@@ -3,7 +3,7 @@ use Rattle.std.proofs.Common.{◌≡◌, ℕ, true, false, [], ◌∷◌, ◌++�
 use Rattle.token_core.specs.declared.span.Span.{Span}
 use Rattle.token_core.specs.declared.tree.Delimiter.TheVariants as delimiter
 use Rattle.grammar_core.specs.Readers.{any_level}
-use Rattle.grammar_core.specs.Token.{is_colons, is_equals, is_group, is_joint, is_pair, mark_of}
+use Rattle.grammar_core.specs.Token.{is_colons, is_equals, is_group, is_joint, is_mark, is_pair, mark_of}
 use Rattle.item_core.specs.Attributes.{delimiter_of}
 use Rattle.print_core.specs.Marks.{Trees, comma, mark}
 use Rattle.front_core.specs.Alike.{stops}
@@ -11,18 +11,19 @@ use Rattle.back_core.specs.Follow.{AfterExpr}
 use Rattle.back_core.proofs.Infix.{expr-end, expr_before-comma, pair-apart}
 use Rattle.back_core.proofs.Marks.{is_comma-comma, is_group-mark, mark_of-mark, out-Punct}
 
--- where no item goes on
+-- where no item goes on, and no attribute begins (35 is its `#`)
 pub record Ended (tail : Trees) : Type 0 where
   pub stop : stops tail ≡ true
   pub expr : (rest : Trees) → AfterExpr any_level rest tail
   pub colons : is_colons tail ≡ false
   pub equals : is_equals tail ≡ false
+  pub hash : is_mark 35 tail ≡ false
   pub grouped : delimiter_of tail ≡ None
   pub bracket : is_group delimiter.Bracket tail ≡ false
 
 pub ended-nothing : Ended []
 unfolding mark_of is_pair is_joint delimiter_of is_group
-ended-nothing = record { stop = refl; expr = λ rest. expr-end any_level rest; colons = refl; equals = refl; grouped = refl; bracket = refl }
+ended-nothing = record { stop = refl; expr = λ rest. expr-end any_level rest; colons = refl; equals = refl; hash = refl; grouped = refl; bracket = refl }
 
 comma-stops : (span : Span) (tail : Trees) → stops (comma span ++ tail) ≡ true
 unfolding mark
@@ -38,6 +39,7 @@ ended-comma span tail = record {
   expr = λ rest. expr_before-comma any_level rest tail span;
   colons = pair-apart 44 [] span tail 58 58 refl;
   equals = rw (mark_of-mark 44 [] span tail) refl;
+  hash = rw (mark_of-mark 44 [] span tail) refl;
   grouped = mark-grouped 44 span tail;
   bracket = is_group-mark 44 [] span tail delimiter.Bracket;
 }

@@ -66,7 +66,7 @@ number-again trees found e tail ended =
     let again = all-again signed-back tt trees found e in
     let number = number-is (lit_tokens found) again.0 again.1 in
     let sizes : length (lit_tokens found) ≡ 2 = ap length number.is in
-    rw (print-Lit found) (made again.0 again.1 again.2 number sizes)
+    made again.0 again.1 again.2 number sizes
   where
     made : (other : Lit) → number_in (lit_tokens found) ≡ Some other → bare_lit other ≡ bare_lit found → (number : IsNumber (lit_tokens found)) → length (lit_tokens found) ≡ 2 → RunAgain (expr.Lit found) tail
     made other is same number sizes = record {
