@@ -84,6 +84,10 @@ equals-colons : (trees : Trees) → is_equals trees ≡ true → is_colons trees
 unfolding is_pair
 equals-colons trees h = rw (eqb-true (mark_of trees) 61 h) (and-false (is_joint trees))
 
+word-colons : (name : Ident) (tree : TokenTree) (trees : Trees) → out-TokenTree tree ≡ TokenTree-F.Ident name → is_colons (tree ∷ trees) ≡ false
+unfolding is_pair is_joint
+word-colons name tree trees is = rw is refl
+
 -- a path of one word, before a `=`
 word-path : (name : Ident) (tree : TokenTree) (trees : Trees) (last : Span) (after : Input) (path : Path) → out-TokenTree tree ≡ TokenTree-F.Ident name → is_equals trees ≡ true → meta_path (at (tree ∷ trees) last) ≡ Some (path, after)
     → (is_equals after.rest ≡ true) × (path_tokens Plain path ≡ token.Ident name ∷ [])
@@ -95,12 +99,8 @@ word-path name tree trees last after path is equals e =
     segment : PathSegment
     segment = make_segment name arguments.None (joined (first_span (tree ∷ trees)) (span_of tree))
 
-    no-colons : is_colons (tree ∷ trees) ≡ false
-    unfolding is_pair is_joint
-    no-colons = rw is refl
-
     made : meta_path (at (tree ∷ trees) last) ≡ Some (make_path false (segment ∷ []) (joined (first_span (tree ∷ trees)) (span_of tree)), at trees (span_of tree))
-    made = rw (no-colons, is, equals-colons trees equals) refl
+    made = rw (word-colons name tree trees is, is, equals-colons trees equals) refl
 
     printed : path_tokens Plain (make_path false (segment ∷ []) (joined (first_span (tree ∷ trees)) (span_of tree))) ≡ token.Ident name ∷ []
     printed = rw (path_parts-make false (segment ∷ []) (joined (first_span (tree ∷ trees)) (span_of tree)), print-segment name arguments.None (joined (first_span (tree ∷ trees)) (span_of tree)) Plain, print-None Plain (joined (first_span (tree ∷ trees)) (span_of tree))) refl
