@@ -31,7 +31,7 @@ use Rattle.print_core.specs.Paths.{after_type}
 pub print-Lit : (it : Lit) → expr_tokens (expr.Lit it) ≡ lit_tokens it
 print-Lit it = search the_lemmas
 
-lit_tokens-by : (token : Literal) (found : Option Value) → lit_tokens (lit_by token found) ≡ tree.Literal token ∷ []
+pub lit_tokens-by : (token : Literal) (found : Option Value) → lit_tokens (lit_by token found) ≡ tree.Literal token ∷ []
 lit_tokens-by token (Some (value.Str text)) = refl
 lit_tokens-by token (Some (value.ByteStr bytes)) = refl
 lit_tokens-by token (Some (value.Byte byte)) = refl

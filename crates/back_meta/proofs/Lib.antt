@@ -1,3 +1,6 @@
 pub mod Stops
 pub mod Beginnings
 pub mod Values
+pub mod Literals
+pub mod Bads
+pub mod Pairs
