@@ -1,0 +1,2 @@
+//! What is printed of items is read back, as the same item but for places.
+#![tactic(auto)]
