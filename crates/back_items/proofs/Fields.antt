@@ -168,7 +168,7 @@ group-apart one other apart (tree ∷ trees) h = by (out-TokenTree tree) refl
     by (TokenTree-F.Literal literal) is = rw is refl
     by (TokenTree-F.Punct punct) is = rw is refl
 
-brace-apart : (between : Delimiter) → same_delimiter between delimiter.Brace ≡ true → same_delimiter between delimiter.Parenthesis ≡ false
+pub brace-apart : (between : Delimiter) → same_delimiter between delimiter.Brace ≡ true → same_delimiter between delimiter.Parenthesis ≡ false
 brace-apart delimiter.Brace h = refl
 brace-apart delimiter.Parenthesis h = absurd cc
 brace-apart delimiter.Bracket h = absurd cc

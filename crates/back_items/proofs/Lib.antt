@@ -1,1 +1,4 @@
+pub mod Always
 pub mod Fields
+pub mod Variants
+pub mod Bodies
