@@ -1,3 +1,11 @@
+pub mod Makes
+pub mod Whiles
+pub mod Values
+pub mod Attributes
+pub mod Visibilities
+pub mod Params
+pub mod Binders
+pub mod Wheres
 pub mod Always
 pub mod Fields
 pub mod Variants
