@@ -77,7 +77,7 @@ unfolding idents_of
 idents_of-back = list-back name-back (λ rest tail f. f) (λ rest. tt) (λ rest tail span. tt)
 
 -- some token begins an expression
-any-some : (tail : Trees) → begins_expr any_level tail ≡ true → is_end tail ≡ false
+pub any-some : (tail : Trees) → begins_expr any_level tail ≡ true → is_end tail ≡ false
 unfolding begins_closure begins_operand operand_start atom_start is_group mark_of is_pair is_joint next_word ident_at literal_of
 any-some [] h = absurd cc
 any-some (tree ∷ trees) h = refl

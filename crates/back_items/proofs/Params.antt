@@ -266,7 +266,7 @@ module _ (parts : AllBacks (within max_depth)) where
   print-name it = print-expr_path (path_of_word it) it.span ∙ print-word it Turbofish
 
   constant_by : (constant : Bool) → Rest {P = Unit {0}} {Q = Unit {0}} Free bare_expr expr_tokens hole (λ rest tail. begins_constant tail ≡ constant) (AfterType true) (if constant then expr_at constant_level else expr_of_name <$> take_as name_of) (λ q. if constant then expr_at constant_level else expr_of_name <$> take_as name_of)
-  constant_by true = shown-rest tt (λ it. refl) (weak-printed (λ rest tail f other. absurd cc) (λ rest tail f. f.1 refl) (parts.expr constant_level))
+  constant_by true = shown-rest tt (λ it. refl) (weak-printed (λ rest tail f other. absurd cc) (λ rest tail f. f.begins) (parts.expr constant_level))
   constant_by false = take_as-rest {Second = AfterType true} name_of tree.Ident (λ rest tail it is. name_of-Ident rest tail it is) (λ it. pure-rest tt (expr_of_name it) (λ q. expr_of_name it) (print-name it) (λ q ok. refl))
       (λ input tail it is f. name-no-constant input.rest tail it is)
 
