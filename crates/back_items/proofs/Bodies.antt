@@ -143,6 +143,10 @@ group-unopened (tree ∷ trees) h = by (out-TokenTree tree) refl
 
 -- ---- bodies
 
+-- where no parameters are printed, none are read
+abbrev pub BeginsBody : Relation
+BeginsBody rest tail = is_less tail ≡ false
+
 module _ (fields_named-back : Back bare_fields_named named_tokens (Grouped delimiter.Brace) Any fields_named) (fields_unnamed-back : Back bare_fields_unnamed unnamed_tokens (Grouped delimiter.Parenthesis) Any fields_unnamed)
     (variants-back : (span : Span) → Back (map bare_variant) (λ items. group delimiter.Brace (joined (comma span) (map variant_tokens items)) span) (Grouped delimiter.Brace) Any (inside delimiter.Brace variants))
     (maybe_where-back : Back (option_map bare_where) where_printed BeginsWhere AfterWhere maybe_where) where
@@ -201,9 +205,6 @@ module _ (fields_named-back : Back bare_fields_named named_tokens (Grouped delim
   abbrev Opened : Bool → Relation
   Opened true = Grouped delimiter.Parenthesis
   Opened false = BeginsWhere
-
-  abbrev pub BeginsBody : Relation
-  BeginsBody rest tail = is_less tail ≡ false
 
   opened-seen : (begins : ItemStart) (unnamed : Bool) (rest tail : Trees) → is_tuple_struct begins rest ≡ unnamed → Opened unnamed rest tail → (is_tuple_struct begins tail ≡ unnamed) × BeginsBody rest tail
   opened-seen begin.Struct true rest tail is f = (f.0, group-unopened tail f.0)

@@ -38,9 +38,11 @@ use Rattle.back_core.specs.Printed.{Back, Printed}
 use Rattle.back_core.proofs.Arguments.{group-printed}
 use Rattle.back_core.proofs.Follows.{keep-false, never, type-end, type-seen, type_before-mark}
 use Rattle.back_core.proofs.Marks.{is_joint-mark, mark-length, mark_of-mark, name-word, name_of-Ident, next_word-Ident, out-Ident}
-use Rattle.back_core.proofs.Steps.{Free, Rest, bind-at, close-rest, here-rest, hole, pure-rest, shown-rest, test-rest, then-rest, whole}
+use Rattle.back_core.proofs.Steps.{Free, Rest, bind-at, close-rest, here-rest, hole, part, pure-rest, test-rest, then-rest, weak-rest, whole}
 use Rattle.back_core.proofs.Takes.{expect-rest, is_group-group, take_as-rest}
 use Rattle.back_items.specs.Follow.{AfterAttributes, AfterVisibility, restricts}
+use Rattle.back_items.proofs.Makes.{made-rest}
+use Rattle.back_items.proofs.Params.{colon-mark}
 
 -- what a part begins with that stands behind attributes and a visibility: some token, and no `#` (35)
 abbrev pub Plain : Relation
@@ -77,7 +79,7 @@ pub-plain rest (tree ∷ tail) seen = (refl, by (out-TokenTree tree) refl)
     by (TokenTree-F.Group group) is = let none = rw is at seen in absurd cc
     by (TokenTree-F.Punct punct) is = let none = rw is at seen in absurd cc
 
-no-restriction : (trees : Trees) → is_group delimiter.Parenthesis trees ≡ false → restricts trees ≡ false
+pub no-restriction : (trees : Trees) → is_group delimiter.Parenthesis trees ≡ false → restricts trees ≡ false
 unfolding restriction_in
 no-restriction trees none = rw none refl
 
@@ -92,10 +94,6 @@ name-visible it source rest tail is = (
 -- what stands behind attributes
 pub plain-attributes : (rest tail : Trees) → Plain rest tail → AfterAttributes Some' rest tail
 plain-attributes rest tail f = (never (is_mark 35) rest tail f.1, f.0)
-
-colon-mark : (tail : Trees) (span : Span) → is_colon (mark (codes ":") span ++ tail) ≡ true
-unfolding is_pair
-colon-mark tail span = rw (mark_of-mark 58 [] span tail, is_joint-mark 58 [] span tail) refl
 
 -- more is known of what begins the printing
 pub sure-printed : {A B : Type 0} {bare : A → B} {print : A → Trees} {G F More : Relation} {p p' : Parser A} → Printed bare print G F p p' → ((input after : Input) (found : A) → p input ≡ Some (found, after) → (tail : Trees) → More input.rest (print found ++ tail))
@@ -246,8 +244,8 @@ module _ (attributes-back : AttributesBack) (visibility-back : VisibilityBack) (
   FieldsBegin false false = AfterFields
 
   fields_by-rest : (named unnamed : Bool) → Rest {P = Unit {0}} {Q = Unit {0}} Free bare_fields fields_tokens hole (FieldsBegin named unnamed) AfterFields (fields_by named unnamed) (λ q. fields_by named unnamed)
-  fields_by-rest true unnamed = then-rest {Second = AfterFields} (λ place. fields_named-back) (λ it. pure-rest tt (made.Named it) (λ q. made.Named q.1) (rw append-nil refl) (λ q ok. ap made.Named ok.1)) (λ rest tail f. tt) (λ rest tail f. f)
-  fields_by-rest false true = then-rest {Second = AfterFields} (λ place. fields_unnamed-back) (λ it. pure-rest tt (made.Unnamed it) (λ q. made.Unnamed q.1) (rw append-nil refl) (λ q ok. ap made.Unnamed ok.1)) (λ rest tail f. tt) (λ rest tail f. f)
+  fields_by-rest true unnamed = made-rest made.Named (λ it. refl) (λ one other same. ap made.Named same) (weak-rest (λ rest tail f. tt) (λ rest tail f. f) (part fields_named-back))
+  fields_by-rest false true = made-rest made.Unnamed (λ it. refl) (λ one other same. ap made.Unnamed same) (weak-rest (λ rest tail f. tt) (λ rest tail f. f) (part fields_unnamed-back))
   fields_by-rest false false = pure-rest tt made.Unit (λ q. made.Unit) refl (λ q ok. refl)
 
   fields-seen : (named unnamed : Bool) (rest tail : Trees) → is_group delimiter.Parenthesis rest ≡ unnamed → FieldsBegin named unnamed rest tail → (is_group delimiter.Parenthesis tail ≡ unnamed) × Braced named rest tail

@@ -10,3 +10,4 @@ pub mod Always
 pub mod Fields
 pub mod Variants
 pub mod Bodies
+pub mod Items

@@ -233,6 +233,16 @@ unfolding mark_of
 hash-open [] is = absurd cc
 hash-open (tree ∷ trees) is = (refl, rw (eqb-true (mark_of (tree ∷ trees)) 35 is) refl)
 
+-- parameters, with where they stand
+abbrev pub Params : Type 0
+Params = List GenericParam × Span
+
+abbrev pub bare_params : Params → List GenericParam
+bare_params found = map bare_generic_param found.0
+
+abbrev pub params_tokens : Params → Trees
+params_tokens found = unless_empty found.0 (angled (map param_tokens found.0) found.1)
+
 module _ (parts : AllBacks (within max_depth)) where
   -- `A + 'b`
   pub bounds_here-back : (span : Span) → Back (map bare_bound) (λ found. sum_of (map bound_tokens found) span) Some' (AfterType true) bounds
@@ -348,16 +358,6 @@ module _ (parts : AllBacks (within max_depth)) where
         (λ rest tail f. (never (is_mark 35) rest tail f.hash, (f.some, f.greater))) (λ rest tail f. f)))
 
     -- ---- all parameters
-
-    -- the parameters and where they stand
-    abbrev pub Params : Type 0
-    Params = List GenericParam × Span
-
-    abbrev pub bare_params : Params → List GenericParam
-    bare_params found = map bare_generic_param found.0
-
-    abbrev pub params_tokens : Params → Trees
-    params_tokens found = unless_empty found.0 (angled (map param_tokens found.0) found.1)
 
     abbrev inner_tokens : Span → List GenericParam → Trees
     inner_tokens span found = joined (comma span) (map param_tokens found) ++ mark (codes ">") span

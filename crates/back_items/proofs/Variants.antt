@@ -23,9 +23,10 @@ use Rattle.back_core.specs.Printed.{Back}
 use Rattle.back_core.proofs.Follows.{keep-false, never}
 use Rattle.back_core.proofs.Infix.{expr-end, expr_before-comma}
 use Rattle.back_core.proofs.Marks.{is_group-mark, mark-length, mark_of-mark, name_of-Ident, out-Ident}
-use Rattle.back_core.proofs.Steps.{close-rest, here-rest, pure-rest, then-rest, whole}
-use Rattle.back_core.proofs.Takes.{eat_or-rest, take_as-rest}
+use Rattle.back_core.proofs.Steps.{close-rest, here-rest, then-rest, weak-printed, whole}
+use Rattle.back_core.proofs.Takes.{take_as-rest}
 use Rattle.back_items.proofs.Fields.{AfterFields, AttributesBack, Grouped, Plain, block-printed, mark-some, plain-attributes}
+use Rattle.back_items.proofs.Params.{default-printed}
 
 -- what goes on with a variant
 pub record AfterVariant (rest tail : Trees) : Type 0 where
@@ -73,11 +74,8 @@ name-plain it rest tail = (refl, rw (out-Ident it) refl)
 
 module _ (attributes-back : AttributesBack) (parts : AllBacks (within max_depth)) (fields-back : Back bare_fields fields_tokens Any AfterFields fields) where
   discriminant-back : (span : Span) → Back (option_map bare_expr) (λ found. maybe_equal (option_map expr_tokens found) span) AfterFields AfterVariant discriminant_of
-  discriminant-back span = whole {P = Unit {0}} (eat_or-rest {Yes = Any} {No = AfterVariant} 1 is_equals (λ place. mark (codes "=") span) (λ place. mark-length (codes "=") span) (λ place tail. rw (mark_of-mark 61 [] span tail) refl)
-      (then-rest {Second = AfterVariant} (λ place. parts.expr any_level) (λ it. pure-rest tt (Some it) (λ q. Some q.1) (rw append-nil refl) (λ q ok. rw (ok.1) refl)) (λ rest tail f. f.expr) (λ rest tail f. tt))
-      (pure-rest tt None (λ q. None) refl (λ q ok. refl))
-      (λ input tail place seen f. fields_before-mark 61 input.rest tail span)
-      (λ rest tail seen f. (keep-false is_equals rest tail seen f.equals, f.fields)))
+  discriminant-back span = default-printed span (weak-printed (λ rest tail f. f.expr) (λ rest tail f. f) (parts.expr any_level))
+      (λ rest tail seen. fields_before-mark 61 rest tail span) (λ rest tail seen f. (keep-false is_equals rest tail seen f.equals, f.fields))
 
   pub variant-back : Back bare_variant variant_tokens Some' AfterVariant variant
   unfolding variant
