@@ -11,3 +11,4 @@ pub mod Fields
 pub mod Variants
 pub mod Bodies
 pub mod Items
+pub mod Wholes
