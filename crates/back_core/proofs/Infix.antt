@@ -1,5 +1,6 @@
 -- How printed operators are seen, and what an expression does not go on with.
-use Rattle.std.proofs.Common.{◌≡◌, ℕ, zero, suc, ◌≤◌, Bool, true, false, ◌&&◌, ◌==◌, if◌then◌else◌, List, [], ◌∷◌, ◌++◌, length, Option, Some, None, refl, arith, ap, sym, subst, ◌∙◌}
+use Rattle.std.proofs.Common.{◌≡◌, ℕ, suc, ◌≤◌, Bool, true, false, ◌==◌, if◌then◌else◌, List, [], ◌∷◌, ◌++◌, length, Option, Some, None, refl, arith, ap, sym, subst, ◌∙◌}
+use Rattle.std.proofs.Math.Bool.{and-false}
 use Rattle.std.proofs.lemmas.Bool.{eqb-true}
 use Rattle.std.proofs.lemmas.Option.{same_Some}
 use Rattle.token_core.specs.declared.span.Span.{Span}
@@ -7,8 +8,9 @@ use Rattle.token_core.specs.declared.tree.Delimiter.TheVariants as delimiter
 use Rattle.expr_core.specs.declared.expr.BinOp.{BinOp}
 use Rattle.expr_core.specs.declared.expr.BinOp.TheVariants as op
 use Rattle.grammar_core.specs.declared.look.Infix.{Infix}
+use Rattle.grammar_core.specs.Input.{is_end}
 use Rattle.grammar_core.specs.Look.{at_level, atom_start, before_equals, begins_operand, double_of, doubled, infix_of, is_there, level_of, operand_start, operator_of, or_single, postfix_start, single_of, with_width}
-use Rattle.grammar_core.specs.Readers.{constant_level, range_level}
+use Rattle.grammar_core.specs.Readers.{range_level}
 use Rattle.grammar_core.specs.Token.{after_one, is_colons, is_dots, is_group, is_joint, is_pair, is_turbofish, mark_of}
 use Rattle.print_core.specs.Exprs.{bin_op_tokens}
 use Rattle.print_core.specs.Marks.{Trees, comma, is_some, mark}
@@ -35,7 +37,7 @@ abbrev pair_of : ℕ → List ℕ → Option BinOp
 pair_of ch [] = None
 pair_of ch (second ∷ more) = double_of ch second
 
-operator_of-mark : (ch : ℕ) (more : List ℕ) (span : Span) (tail : Trees) → operator_of (mark (ch ∷ more) span ++ tail) ≡ or_single ch (pair_of ch more)
+pub operator_of-mark : (ch : ℕ) (more : List ℕ) (span : Span) (tail : Trees) → operator_of (mark (ch ∷ more) span ++ tail) ≡ or_single ch (pair_of ch more)
 unfolding operator_of
 operator_of-mark ch [] span tail = rw (is_joint-mark ch [] span tail, mark_of-mark ch [] span tail) refl
 operator_of-mark ch (second ∷ more) span tail = rw (is_joint-mark ch (second ∷ more) span tail, mark_of-mark ch (second ∷ more) span tail, after_one-mark ch (second ∷ more) span tail, mark_of-mark second more span tail) refl
@@ -74,6 +76,10 @@ sign op.Rem = record { ch = 37; more = []; is = λ span. refl; width = refl; rea
 
 pub operator-length : (it : BinOp) (span : Span) → length (bin_op_tokens it span) ≡ width_of it
 operator-length it span = let s = sign it in rw (s.is span, mark-length (s.ch ∷ s.more) span) s.width
+
+pub operator-some : (it : BinOp) (span : Span) (tail : Trees) → is_end (bin_op_tokens it span ++ tail) ≡ false
+unfolding mark
+operator-some it span tail = let s = sign it in rw (s.is span) refl
 
 -- a printed operator is read as itself, whatever follows
 pub operator_of-printed : (it : BinOp) (span : Span) (tail : Trees) → operator_of (bin_op_tokens it span ++ tail) ≡ Some (infix_of (width_of it) it)
@@ -131,27 +137,35 @@ operator_of-read trees found e = pair (if is_joint trees then double_of (mark_of
     pair None fits e = one (single_of (mark_of trees)) (single_of-wide (mark_of trees)) e
     pair (Some it) fits e = made 2 it (fits it refl) (same_Some (infix_of 2 it) found e)
 
+-- the same of an operator of one level
+pub at_level-read : (level : ℕ) (trees : Trees) (found : Infix) → at_level level (operator_of trees) ≡ Some found → (found ≡ infix_of (width_of found.op) found.op) × (level_of found.op ≡ level)
+at_level-read level trees found e = by (operator_of trees) (operator_of-read trees) e
+  where
+    made : (it : Infix) (b : Bool) → (it.level == level) ≡ b → it ≡ infix_of (width_of it.op) it.op → (if b then Some it else None) ≡ Some found → (found ≡ infix_of (width_of found.op) found.op) × (level_of found.op ≡ level)
+    made it false is read e = absurd cc
+    made it true is read e = rw (← same_Some it found e) (read, sym (ap (λ (it : Infix). it.level) read) ∙ eqb-true it.level level is)
+
+    by : (o : Option Infix) → ((it : Infix) → o ≡ Some it → it ≡ infix_of (width_of it.op) it.op) → at_level level o ≡ Some found → (found ≡ infix_of (width_of found.op) found.op) × (level_of found.op ≡ level)
+    by None reads e = absurd cc
+    by (Some it) reads e = made it (it.level == level) refl (reads it refl) e
+
 -- ---- what an expression does not go on with
 
-pub and-false : (b : Bool) → (b && false) ≡ false
-and-false true = refl
-and-false false = refl
+pub pair-apart : (ch : ℕ) (more : List ℕ) (span : Span) (tail : Trees) (first second : ℕ) → (ch == first) ≡ false → is_pair first second (mark (ch ∷ more) span ++ tail) ≡ false
+unfolding is_pair
+pair-apart ch more span tail first second apart = rw (is_joint-mark ch more span tail, mark_of-mark ch more span tail, apart) (and-false (is_some more))
 
 module _ (ch : ℕ) (more : List ℕ) (colon : (ch == 58) ≡ false) (dot : (ch == 46) ≡ false) (question : (ch == 63) ≡ false) (span : Span) (rest tail : Trees) where
-  pair-apart : (first second : ℕ) → (ch == first) ≡ false → is_pair first second (mark (ch ∷ more) span ++ tail) ≡ false
-  unfolding is_pair
-  pair-apart first second apart = rw (is_joint-mark ch more span tail, mark_of-mark ch more span tail, apart) (and-false (is_some more))
-
   -- a mark that begins nothing behind an operand
   looser-mark : (level : ℕ) → ((tighter : ℕ) → tighter ≤ level → operates tighter (mark (ch ∷ more) span ++ tail) ≡ false) → (range_level ≤ level → begins_operand (mark (ch ∷ more) span ++ tail) ≡ false) → Looser level rest (mark (ch ∷ more) span ++ tail)
   unfolding postfix_start
   looser-mark level operator operand = record {
-    colons = never is_colons rest _ (pair-apart 58 58 colon);
-    turbofish = never is_turbofish rest _ (rw (pair-apart 58 58 colon) refl);
+    colons = never is_colons rest _ (pair-apart ch more span tail 58 58 colon);
+    turbofish = never is_turbofish rest _ (rw (pair-apart ch more span tail 58 58 colon) refl);
     called = never (is_group delimiter.Parenthesis) rest _ (is_group-mark ch more span tail delimiter.Parenthesis);
     postfix = never (λ trees. goes_on (postfix_start trees)) rest _ (rw (is_group-mark ch more span tail delimiter.Parenthesis, is_group-mark ch more span tail delimiter.Bracket, mark_of-mark ch more span tail, dot, question) refl);
     operator = λ tighter within. never (operates tighter) rest _ (operator tighter within);
-    dots = λ within. never is_dots rest _ (pair-apart 46 46 dot);
+    dots = λ within. never is_dots rest _ (pair-apart ch more span tail 46 46 dot);
     operand = λ within. never begins_operand rest _ (operand within);
   }
 

@@ -16,6 +16,14 @@ pub mod Loops
 pub mod Infix
 pub mod Starts
 pub mod Operands
+pub mod AtomStarts
+pub mod Exprs
+pub mod Atoms
+pub mod Blocks
+pub mod Postfixes
+pub mod Chains
+pub mod Ranges
+pub mod Closures
 pub mod Within
 pub mod Patterns
 pub mod FnArgs

@@ -1,7 +1,7 @@
 -- The law of printing for operands: marks in front, and an atom with what stands behind it.
-use Rattle.std.proofs.Common.{◌≡◌, ℕ, Bool, true, false, ◌&&◌, ◌==◌, if◌then◌else◌, List, [], ◌∷◌, ◌++◌, refl, sym, ◌∙◌, length, append_assoc, append-nil, codes}
+use Rattle.std.proofs.Common.{◌≡◌, ℕ, Bool, true, false, [], ◌∷◌, ◌++◌, refl, sym, ◌∙◌, length, append_assoc, append-nil, codes}
+use Rattle.std.proofs.Math.Bool.{and-false}
 use Rattle.token_core.specs.declared.span.Span.{Span}
-use Rattle.expr_core.specs.declared.expr.Expr.{Expr}
 use Rattle.expr_core.specs.declared.expr.Expr.TheVariants as expr
 use Rattle.expr_core.specs.declared.expr.UnOp.{UnOp}
 use Rattle.expr_core.specs.declared.expr.UnOp.TheVariants as op
@@ -25,7 +25,6 @@ use Rattle.front_core.specs.Alike.{Relation, Any}
 use Rattle.back_core.specs.Follow.{BeginsAtom, BeginsExpr, Looser}
 use Rattle.back_core.specs.Parts.{AllBacks}
 use Rattle.back_core.specs.Printed.{Back}
-use Rattle.back_core.proofs.Infix.{and-false}
 use Rattle.back_core.proofs.Marks.{is_joint-mark, mark-length, mark_of-mark, sees-mut, word-length}
 use Rattle.back_core.proofs.Paths.{next-behind}
 use Rattle.back_core.proofs.Prints.{print-expr_reference, print-unary}

@@ -1,5 +1,6 @@
 -- What the beginnings of expressions tell.
-use Rattle.std.proofs.Common.{◌≡◌, ℕ, Bool, true, false, ◌&&◌, ◌||◌, ◌==◌, if◌then◌else◌, [], ◌∷◌, refl, sym, ◌∙◌}
+use Rattle.std.proofs.Common.{◌≡◌, ℕ, suc, Bool, true, false, ◌&&◌, ◌||◌, ◌==◌, if◌then◌else◌, [], ◌∷◌, refl, sym, ◌∙◌}
+use Rattle.std.proofs.Math.Bool.{and-false}
 use Rattle.std.proofs.lemmas.Bool.{and_parts, eqb-true}
 use Rattle.token_core.specs.declared.tree.Delimiter.{Delimiter}
 use Rattle.token_core.specs.declared.tree.Delimiter.TheVariants as delimiter
@@ -17,7 +18,7 @@ use Rattle.grammar_core.specs.Token.{Layer, ident_of, is_arrow, is_bar, is_dots,
 use Rattle.grammar_core.specs.Words.{is_word, next_word, sees, word_of}
 use Rattle.print_core.specs.Marks.{Trees}
 use Rattle.front_core.specs.Closures.{AlikeBodies}
-use Rattle.back_core.proofs.Infix.{and-false}
+use Rattle.back_core.specs.Follow.{begins_range}
 
 -- what begins an operand is no end, no `|`, no `..`, no `>`, no closure and no `mut`
 pub record OperandSeen (trees : Trees) : Type 0 where
@@ -147,3 +148,45 @@ operand-bodies rest tail same source printed none other = record {
   arrow = none ∙ sym other;
   block = sym (is_block-start rest) ∙ rw same (is_block-start tail);
 }
+
+-- ---- what begins a range
+
+-- what a mark begins is no group and no word
+mark-seen : (ch : ℕ) (trees : Trees) → mark_of trees ≡ suc ch → (is_group delimiter.Brace trees ≡ false) × (next_word trees ≡ word.None) × (is_end trees ≡ false)
+unfolding mark_of is_group next_word ident_of
+mark-seen ch [] h = absurd cc
+mark-seen ch (tree ∷ trees) h = by (out-TokenTree tree) refl
+  where
+    by : (layer : Layer) → out-TokenTree tree ≡ layer → (is_group delimiter.Brace (tree ∷ trees) ≡ false) × (next_word (tree ∷ trees) ≡ word.None) × (is_end (tree ∷ trees) ≡ false)
+    by (TokenTree-F.Ident ident) is = let none = rw is at h in absurd cc
+    by (TokenTree-F.Lifetime lifetime) is = let none = rw is at h in absurd cc
+    by (TokenTree-F.Literal literal) is = let none = rw is at h in absurd cc
+    by (TokenTree-F.Group group) is = let none = rw is at h in absurd cc
+    by (TokenTree-F.Punct punct) is = (rw is refl, rw is refl, refl)
+
+-- what begins with `..` (46) is no `|`, no arrow, no block and no closure
+pub record DotsSeen (trees : Trees) : Type 0 where
+  pub some : is_end trees ≡ false
+  pub bar : is_bar trees ≡ false
+  pub arrow : is_arrow trees ≡ false
+  pub block : is_group delimiter.Brace trees ≡ false
+  pub closure : begins_closure trees ≡ false
+
+pub dots-seen : (trees : Trees) → is_dots trees ≡ true → DotsSeen trees
+unfolding is_pair begins_closure
+dots-seen trees h =
+    let pair = and_parts (is_joint trees) _ h in
+    let dot = eqb-true (mark_of trees) 46 (and_parts (is_mark 46 trees) _ pair.1).0 in
+    let apart = mark-seen 45 trees dot in
+    record { some = apart.2; bar = rw dot refl; arrow = rw dot (and-false (is_joint trees)); block = apart.0; closure = rw (apart.1, dot) refl }
+
+pub record RangeSeen (trees : Trees) : Type 0 where
+  pub some : is_end trees ≡ false
+  pub closure : begins_closure trees ≡ false
+
+pub range-seen : (trees : Trees) → begins_range trees ≡ true → RangeSeen trees
+range-seen trees h = by (is_dots trees) refl h
+  where
+    by : (b : Bool) → is_dots trees ≡ b → (b || begins_operand trees) ≡ true → RangeSeen trees
+    by true is h = let seen = dots-seen trees is in record { some = seen.some; closure = seen.closure }
+    by false is h = let seen = operand-seen trees h in record { some = seen.some; closure = seen.closure }

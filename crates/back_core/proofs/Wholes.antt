@@ -1,5 +1,5 @@
 -- The law of printing over whole lists of tokens, and for lists of trees.
-use Rattle.std.proofs.Common.{◌≡◌, Bool, true, false, if◌then◌else◌, [], ◌∷◌, ◌++◌, map, Option, Some, None, refl, ap, append-nil}
+use Rattle.std.proofs.Common.{◌≡◌, Bool, true, false, if◌then◌else◌, [], ◌++◌, map, Option, Some, None, refl, ap, append-nil}
 use Rattle.std.proofs.lemmas.Option.{same_Some}
 use Rattle.token_core.specs.declared.span.Span.{Span}
 use Rattle.token_core.specs.declared.span.Span.TheVariants.{CallSite}
@@ -7,12 +7,10 @@ use Rattle.token_core.specs.declared.tree.TokenStream.{out-TokenStream}
 use Rattle.token_core.specs.declared.tree.TokenTree.TheVariants as tree
 use Rattle.grammar_core.specs.Grammar.{within, max_depth}
 use Rattle.grammar_core.specs.Input.{Input, Outcome, Parser, is_end, start_of, take_as}
-use Rattle.grammar_core.specs.Look.{atom_start, begins_closure, begins_operand, operand_start}
 use Rattle.grammar_core.specs.Paths.{list}
 use Rattle.grammar_core.specs.Readers.{any_level}
-use Rattle.grammar_core.specs.Token.{ident_of as ident_at, is_group, is_joint, is_pair, literal_of, mark_of}
 use Rattle.grammar_core.specs.Trees.{all, whole, expr_of, exprs_of, fn_args_of, ident_of, idents_of, path_of, paths_of, type_of}
-use Rattle.grammar_core.specs.Words.{name_of, next_word}
+use Rattle.grammar_core.specs.Words.{name_of}
 use Rattle.print_core.specs.declared.path.PathStyle.TheVariants.{Plain}
 use Rattle.print_core.specs.Items.{fn_arg_tokens}
 use Rattle.print_core.specs.Marks.{Trees, comma, ident}
@@ -22,6 +20,7 @@ use Rattle.front_core.specs.Alike.{Relation, Any}
 use Rattle.back_core.specs.Follow.{Some', begins_expr}
 use Rattle.back_core.specs.Parts.{AllBacks}
 use Rattle.back_core.specs.Printed.{Back, ReadBack, separated}
+use Rattle.back_core.proofs.AtomStarts.{expr-some}
 use Rattle.back_core.proofs.FnArgs.{contents-stream, fn_arg-back}
 use Rattle.back_core.proofs.Follows.{path-seen, type-end, type_before-mark}
 use Rattle.back_core.proofs.Infix.{expr-end, expr_before-comma}
@@ -78,9 +77,7 @@ idents_of-back = list-back name-back (λ rest tail f. f) (λ rest. tt) (λ rest 
 
 -- some token begins an expression
 pub any-some : (tail : Trees) → begins_expr any_level tail ≡ true → is_end tail ≡ false
-unfolding begins_closure begins_operand operand_start atom_start is_group mark_of is_pair is_joint next_word ident_at literal_of
-any-some [] h = absurd cc
-any-some (tree ∷ trees) h = refl
+any-some = expr-some any_level
 
 module _ (parts : AllBacks (within max_depth)) where
   pub type_of-back : ReadBack bare_type type_tokens type_of

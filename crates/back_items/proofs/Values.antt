@@ -26,11 +26,11 @@ use Rattle.item_core.specs.Attributes.{expr_in, negative, number_in, signed, str
 use Rattle.back_core.specs.Follow.{Some'}
 use Rattle.back_core.specs.Parts.{AllBacks}
 use Rattle.back_core.specs.Printed.{Back}
+use Rattle.back_core.proofs.AtomStarts.{expr-some}
 use Rattle.back_core.proofs.Follows.{looser-end}
 use Rattle.back_core.proofs.Marks.{mark-length, mark_of-mark, out-Literal}
 use Rattle.back_core.proofs.Steps.{Free, Rest, whole, here-rest, pure-rest, refuse-rest, upto-rest}
 use Rattle.back_core.proofs.Takes.{expect-rest, take_as-rest}
-use Rattle.back_core.proofs.Wholes.{any-some}
 use Rattle.back_items.proofs.Makes.{all-again, all-first}
 
 -- ---- numbers with a minus
@@ -101,7 +101,7 @@ module _ (parts : AllBacks (within max_depth)) (unsigned : Unsigned) where
       by None (Some it) number_is is =
           let again = all-again (parts.expr any_level) (λ other. looser-end any_level []) trees it is in
           record {
-            some = any-some (expr_tokens it) (all-first (parts.expr any_level) (λ other. looser-end any_level []) trees it is).begins;
+            some = expr-some any_level (expr_tokens it) (all-first (parts.expr any_level) (λ other. looser-end any_level []) trees it is).begins;
             same = rw (unsigned trees it is number_is, again.1) again.2;
           }
       by None None number_is is = record {
