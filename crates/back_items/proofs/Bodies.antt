@@ -1,5 +1,5 @@
 -- The law of printing for the bodies of items, with the `where` clauses that stand before or in them.
-use Rattle.std.proofs.Common.{◌≡◌, Bool, true, false, ◌||◌, ◌==◌, if◌then◌else◌, [], ◌∷◌, ◌++◌, map, Option, Some, None, refl, ap, sym, option_map, ◌∙◌, append_assoc, append-nil, codes}
+use Rattle.std.proofs.Common.{◌≡◌, Bool, true, false, ◌||◌, ◌==◌, if◌then◌else◌, [], ◌∷◌, ◌++◌, map, Option, None, refl, option_map, append_assoc, append-nil, codes}
 use Rattle.std.proofs.lemmas.Bool.{eqb-true}
 use Rattle.token_core.specs.declared.span.Span.{Span}
 use Rattle.token_core.specs.declared.tree.Delimiter.TheVariants as delimiter
@@ -9,12 +9,9 @@ use Rattle.token_core.specs.declared.tree.TokenTree.TheOpen.{TokenTree-F}
 use Rattle.node_core.specs.declared.data.«Data».{«Data»}
 use Rattle.node_core.specs.declared.data.«Data».TheVariants as body
 use Rattle.node_core.specs.declared.data.Fields.TheVariants as made
-use Rattle.node_core.specs.declared.data.FieldsNamed.{FieldsNamed}
-use Rattle.node_core.specs.declared.data.FieldsUnnamed.{FieldsUnnamed}
-use Rattle.node_core.specs.declared.data.Variant.{Variant}
 use Rattle.node_core.specs.declared.generics.WhereClause.{WhereClause}
 use Rattle.grammar_core.specs.declared.word.Word.TheVariants as word
-use Rattle.grammar_core.specs.Input.{Input, Outcome, Parser, and_then, ◌>>=◌, ◌>>◌, ◌<$>◌, pure, expect, here, inside, is_end, test, upto}
+use Rattle.grammar_core.specs.Input.{Parser, ◌>>=◌, ◌>>◌, ◌<$>◌, pure, expect, here, inside, is_end, test, upto}
 use Rattle.grammar_core.specs.Token.{Layer, ident_of, is_group, is_less, is_semicolon, mark_of}
 use Rattle.grammar_core.specs.Words.{next_word, sees}
 use Rattle.item_core.specs.declared.look.ItemStart.{ItemStart}
@@ -27,9 +24,8 @@ use Rattle.print_core.specs.Marks.{Trees, comma, group, joined, mark, word as pr
 use Rattle.bare_items.specs.Bare.{bare_data, bare_fields_named, bare_fields_unnamed, bare_variant, bare_where}
 use Rattle.front_core.specs.Alike.{Relation, Any}
 use Rattle.back_core.specs.Printed.{Back}
-use Rattle.back_core.proofs.Follows.{never}
 use Rattle.back_core.proofs.Marks.{is_group-mark, mark-length, mark_of-mark}
-use Rattle.back_core.proofs.Steps.{Free, Rest, bind-at, close-rest, here-rest, hole, pure-rest, refuse-rest, shown-rest, sure-rest, test-rest, then-rest, weak-printed, whole}
+use Rattle.back_core.proofs.Steps.{Free, Rest, close-rest, here-rest, hole, pure-rest, shown-rest, sure-rest, test-rest, then-rest, whole}
 use Rattle.back_core.proofs.Takes.{expect-rest}
 use Rattle.back_items.specs.Follow.{AfterWhere, BeginsWhere}
 use Rattle.back_items.proofs.Always.{Always, if-always, pure-always, refuse-always, so-always, then-always}

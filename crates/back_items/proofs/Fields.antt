@@ -1,7 +1,6 @@
 -- The law of printing for fields, from that of attributes and visibilities.
-use Rattle.std.proofs.Common.{◌≡◌, ℕ, Bool, true, false, ◌&&◌, ◌==◌, if◌then◌else◌, List, [], ◌∷◌, ◌++◌, map, Option, Some, None, refl, ap, sym, ◌∙◌, append_assoc, append-nil, codes}
+use Rattle.std.proofs.Common.{◌≡◌, ℕ, Bool, true, false, ◌&&◌, ◌==◌, if◌then◌else◌, [], ◌∷◌, ◌++◌, map, Some, None, refl, ap, sym, ◌∙◌, append_assoc, append-nil, codes}
 use Rattle.std.proofs.lemmas.Bool.{both_ways, eqb-true}
-use Rattle.std.proofs.lemmas.Option.{some_pair_parts}
 use Rattle.token_core.specs.declared.ident.Ident.{Ident}
 use Rattle.token_core.specs.declared.span.Span.{Span}
 use Rattle.token_core.specs.declared.tree.Delimiter.{Delimiter}
@@ -10,14 +9,12 @@ use Rattle.token_core.specs.declared.tree.Group.{out-Group}
 use Rattle.token_core.specs.declared.tree.TokenTree.{out-TokenTree}
 use Rattle.token_core.specs.declared.tree.TokenTree.TheOpen.{TokenTree-F}
 use Rattle.token_core.specs.declared.tree.TokenTree.TheVariants as tree
-use Rattle.node_core.specs.declared.data.Field.{Field}
-use Rattle.node_core.specs.declared.data.Fields.{Fields}
 use Rattle.node_core.specs.declared.data.Fields.TheVariants as made
 use Rattle.grammar_core.specs.declared.look.TypeStart.TheVariants as ty
 use Rattle.grammar_core.specs.declared.word.Word.{Word}
 use Rattle.grammar_core.specs.declared.word.Word.TheVariants as word
 use Rattle.grammar_core.specs.Grammar.{within, max_depth}
-use Rattle.grammar_core.specs.Input.{Input, Outcome, Parser, ◌>>=◌, ◌<$>◌, pure, finished, inside, is_end, next, start_of}
+use Rattle.grammar_core.specs.Input.{Input, Outcome, Parser, finished, inside, is_end, next, start_of}
 use Rattle.grammar_core.specs.Look.{type_start, type_word}
 use Rattle.grammar_core.specs.Paths.{list}
 use Rattle.grammar_core.specs.Token.{Layer, contents_of, ident_of, is_colon, is_group, is_joint, is_mark, is_pair, mark_of, same_delimiter}
@@ -37,8 +34,8 @@ use Rattle.back_core.specs.Parts.{AllBacks}
 use Rattle.back_core.specs.Printed.{Back, Printed}
 use Rattle.back_core.proofs.Arguments.{group-printed}
 use Rattle.back_core.proofs.Follows.{keep-false, never, type-end, type-seen, type_before-mark}
-use Rattle.back_core.proofs.Marks.{is_joint-mark, mark-length, mark_of-mark, name-word, name_of-Ident, next_word-Ident, out-Ident}
-use Rattle.back_core.proofs.Steps.{Free, Rest, bind-at, close-rest, here-rest, hole, part, pure-rest, test-rest, then-rest, weak-rest, whole}
+use Rattle.back_core.proofs.Marks.{mark-length, name-word, name_of-Ident, next_word-Ident, out-Ident}
+use Rattle.back_core.proofs.Steps.{Free, Rest, close-rest, here-rest, hole, part, pure-rest, test-rest, then-rest, weak-rest, whole}
 use Rattle.back_core.proofs.Takes.{expect-rest, is_group-group, take_as-rest}
 use Rattle.back_items.specs.Follow.{AfterAttributes, AfterVisibility, restricts}
 use Rattle.back_items.proofs.Makes.{made-rest}

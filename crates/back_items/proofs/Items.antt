@@ -1,26 +1,25 @@
 -- The law of printing for items.
-use Rattle.std.proofs.Common.{◌≡◌, ℕ, true, false, not, List, [], ◌∷◌, ◌++◌, length, map, flat_map, None, refl, ap, option_map, append_assoc, append-nil, codes}
-use Rattle.token_core.specs.declared.ident.Ident.{Ident}
+use Rattle.std.proofs.Common.{◌≡◌, ℕ, false, List, ◌++◌, length, map, flat_map, refl, ap, append_assoc, append-nil, codes}
 use Rattle.token_core.specs.declared.span.Span.{Span}
 use Rattle.token_core.specs.declared.tree.TokenTree.TheVariants as tree
 use Rattle.node_core.specs.declared.attr.Attribute.{Attribute}
 use Rattle.node_core.specs.declared.data.Visibility.{Visibility}
 use Rattle.node_core.specs.declared.derive.DeriveInput.{DeriveInput}
 use Rattle.grammar_core.specs.declared.word.Word.TheVariants as word
-use Rattle.grammar_core.specs.Input.{Parser, ◌>>=◌, pure, is_end, skip, take_as, test, upto}
-use Rattle.grammar_core.specs.Token.{ident_of, is_group, mark_of}
-use Rattle.grammar_core.specs.Words.{name_of, named_words, next_word, other_keywords, same_text, sees, word_of}
+use Rattle.grammar_core.specs.Input.{Parser, ◌>>=◌, pure, skip, take_as, upto}
+use Rattle.grammar_core.specs.Token.{ident_of, is_group}
+use Rattle.grammar_core.specs.Words.{name_of, named_words, next_word, other_keywords, sees, word_of}
 use Rattle.item_core.specs.declared.look.ItemStart.{ItemStart}
 use Rattle.item_core.specs.declared.look.ItemStart.TheVariants as begin
 use Rattle.item_core.specs.declared.lists.While.TheVariants as while
 use Rattle.item_core.specs.Generics.{params}
-use Rattle.item_core.specs.Items.{body_of, is_union, item, item_start, items, start_by}
+use Rattle.item_core.specs.Items.{body_of, item, item_start, items}
 use Rattle.item_core.specs.Lists.{goes_on}
 use Rattle.print_core.specs.Items.{attributes_tokens, derive_input_tokens, visibility_tokens}
 use Rattle.print_core.specs.Marks.{Trees, word as printed_word}
 use Rattle.bare_items.specs.Bare.{bare_attribute, bare_derive_input, bare_visibility}
 use Rattle.front_core.specs.Alike.{Relation, Any}
-use Rattle.back_core.specs.Follow.{Keep, Some'}
+use Rattle.back_core.specs.Follow.{Some'}
 use Rattle.back_core.specs.Printed.{Back}
 use Rattle.back_core.proofs.Follows.{never}
 use Rattle.back_core.proofs.Marks.{mark_of-word, name_of-Ident, out-Ident, word-length}
@@ -30,7 +29,7 @@ use Rattle.back_items.specs.Follow.{AfterParams, AfterVisibility, AfterWhile, re
 use Rattle.back_items.proofs.Always.{Always, so-always, then-always}
 use Rattle.back_items.proofs.Bodies.{BeginsBody, Body, Keyword, bare_body, body-keyword, body_tokens, no-body, start_word}
 use Rattle.back_items.proofs.Fields.{AttributesBack, Plain, VisibilityBack, mark-some, no-restriction, plain-attributes, pub-plain}
-use Rattle.back_items.proofs.Params.{Params, bare_params, params_tokens}
+use Rattle.back_items.proofs.Params.{bare_params, params_tokens}
 use Rattle.back_items.proofs.Whiles.{while-printed}
 
 -- a keyword stands behind a visibility, and tells which item begins

@@ -1,5 +1,8 @@
 pub mod Makes
 pub mod Whiles
+pub mod Others
+pub mod Numbers
+pub mod Signs
 pub mod Values
 pub mod Attributes
 pub mod Visibilities

@@ -1,5 +1,5 @@
 -- The law of printing for what is made of a part, and for all tokens of a list.
-use Rattle.std.proofs.Common.{◌≡◌, if◌then◌else◌, [], ◌∷◌, ◌++◌, Option, Some, None, refl, ap, ◌∙◌, append-nil, List, append_assoc, codes}
+use Rattle.std.proofs.Common.{◌≡◌, if◌then◌else◌, [], ◌∷◌, ◌++◌, Option, Some, None, refl, ap, ◌∙◌, append-nil, List, append_assoc, codes, ℕ, nat_le, Bool, true, false}
 use Rattle.std.proofs.lemmas.Option.{same_Some, some_pair_parts}
 use Rattle.token_core.specs.declared.span.Span.{Span}
 use Rattle.token_core.specs.declared.span.Span.TheVariants.{CallSite}
@@ -11,6 +11,7 @@ use Rattle.front_core.specs.Front.{at}
 use Rattle.back_core.specs.Printed.{Back}
 use Rattle.back_core.proofs.Steps.{Rest, bind-at, Gives}
 use Rattle.print_core.specs.Paths.{angled}
+use Rattle.grammar_core.specs.Grammar.{kept}
 
 -- what is made of what a rule gives
 pub made-rest : {A B C D P Q : Type 0} {Ok : Q → Type 0} {bare : A → C} {bare' : B → D} {print : A → Trees} {print' : B → Trees} {wrap : P → Trees → Trees} {G F : Relation} {parser : Parser A} {others : Q → Parser A} (make : A → B)
@@ -65,3 +66,12 @@ all-first {A} {B} {bare} {print} {G} {F} {parser} rule ends trees found e =
     let source = all-parts (parser (start_of trees)) found e in
     let one = rule.of (start_of trees) (at [] source.0) found source.1 in
     rw append-nil at (one.first [] ends)
+
+-- what is kept was read
+pub kept-read : {A : Type 0} (size : A → ℕ) (limit : ℕ) (outcome : Outcome A) (found : A) (after : Input) → kept size limit outcome ≡ Some (found, after) → outcome ≡ Some (found, after)
+kept-read size limit None found after e = absurd cc
+kept-read {A} size limit (Some pair) found after e = by (nat_le (size pair.0) limit) e
+  where
+    by : (b : Bool) → ◌≡◌ {A = Outcome A} (if b then Some pair else None) (Some (found, after)) → ◌≡◌ {A = Outcome A} (Some pair) (Some (found, after))
+    by true e = e
+    by false e = absurd cc

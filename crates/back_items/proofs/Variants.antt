@@ -1,14 +1,13 @@
 -- The law of printing for variants.
-use Rattle.std.proofs.Common.{◌≡◌, ℕ, true, false, [], ◌∷◌, ◌++◌, map, Option, Some, None, refl, option_map, append_assoc, append-nil, codes}
+use Rattle.std.proofs.Common.{◌≡◌, ℕ, false, [], ◌∷◌, ◌++◌, map, refl, option_map, append_assoc, append-nil}
 use Rattle.token_core.specs.declared.ident.Ident.{Ident}
 use Rattle.token_core.specs.declared.span.Span.{Span}
 use Rattle.token_core.specs.declared.tree.Delimiter.TheVariants as delimiter
 use Rattle.token_core.specs.declared.tree.TokenTree.TheVariants as tree
-use Rattle.node_core.specs.declared.data.Variant.{Variant}
 use Rattle.grammar_core.specs.Grammar.{within, max_depth}
-use Rattle.grammar_core.specs.Input.{inside, is_end}
+use Rattle.grammar_core.specs.Input.{inside}
 use Rattle.grammar_core.specs.Readers.{any_level}
-use Rattle.grammar_core.specs.Token.{is_equals, is_group, is_mark, mark_of}
+use Rattle.grammar_core.specs.Token.{is_equals, is_group, mark_of}
 use Rattle.grammar_core.specs.Words.{name_of}
 use Rattle.item_core.specs.Fields.{discriminant_of, fields, variant, variants}
 use Rattle.print_core.specs.Items.{fields_tokens, maybe_equal, variant_tokens}
@@ -16,13 +15,13 @@ use Rattle.print_core.specs.Marks.{Trees, comma, group, joined, mark}
 use Rattle.print_core.specs.Nodes.{expr_tokens}
 use Rattle.bare_core.specs.Bare.{bare_expr}
 use Rattle.bare_items.specs.Bare.{bare_fields, bare_variant}
-use Rattle.front_core.specs.Alike.{Relation, Any}
+use Rattle.front_core.specs.Alike.{Any}
 use Rattle.back_core.specs.Follow.{AfterExpr, Keep, Some'}
 use Rattle.back_core.specs.Parts.{AllBacks}
 use Rattle.back_core.specs.Printed.{Back}
 use Rattle.back_core.proofs.Follows.{keep-false, never}
 use Rattle.back_core.proofs.Infix.{expr-end, expr_before-comma}
-use Rattle.back_core.proofs.Marks.{is_group-mark, mark-length, mark_of-mark, name_of-Ident, out-Ident}
+use Rattle.back_core.proofs.Marks.{is_group-mark, mark_of-mark, name_of-Ident, out-Ident}
 use Rattle.back_core.proofs.Steps.{close-rest, here-rest, then-rest, weak-printed, whole}
 use Rattle.back_core.proofs.Takes.{take_as-rest}
 use Rattle.back_items.proofs.Fields.{AfterFields, AttributesBack, Grouped, Plain, block-printed, mark-some, plain-attributes}
