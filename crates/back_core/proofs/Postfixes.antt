@@ -44,7 +44,7 @@ use Rattle.back_core.proofs.Follows.{fish-colons, keep-false, looser-end}
 use Rattle.back_core.proofs.Infix.{expr-end, expr_before-comma}
 use Rattle.back_core.proofs.Loops.{Loop, loop-rest}
 use Rattle.back_core.proofs.Marks.{is_colons-colons, is_group-mark, is_joint-mark, mark-length, mark_of-mark, name_of-Ident, no-group}
-use Rattle.back_core.proofs.Steps.{Gives, Rest, bind-at, close-rest, here-rest, refuse-rest, shown-rest, sure-rest, test-rest, then-rest, weak-printed, weak-rest, whole}
+use Rattle.back_core.proofs.Steps.{Gives, Rest, bind-at, close-rest, here-rest, instead-rest, refuse-rest, shown-rest, sure-rest, test-rest, then-rest, weak-printed, weak-rest, whole}
 use Rattle.back_core.proofs.Takes.{inside-rest, is_group-group, skip-rest, skip_by-rest, take_as-printed, take_as-rest}
 
 -- ---- what is seen behind an operand
@@ -136,21 +136,6 @@ fish-seen tail span = rw (is_colons-colons (mark (codes "<") span ++ tail) span,
 
 fish-length : (span : Span) → length (colons span ++ mark (codes "<") span) ≡ 3
 fish-length span = rw (length-append (colons span) (mark (codes "<") span), mark-length (codes "::") span, mark-length (codes "<") span) refl
-
--- other parsers that come to the same where the tokens begin so
-instead-rest : {A B P Q : Type 0} {Ok : Q → Type 0} {bare : A → B} {print : A → Trees} {wrap : P → Trees → Trees} {G F : Relation} {p : Parser A} {p' other : Q → Parser A}
-    → ((q : Q) (rest tail : Trees) (last : Span) → G rest tail → other q (at tail last) ≡ p' q (at tail last)) → Rest Ok bare print wrap G F p p' → Rest Ok bare print wrap G F p other
-instead-rest same h = record {
-  of = λ input after found e.
-      let one = h.of input after found e in
-      record {
-        place = one.place;
-        tokens = one.tokens;
-        is = one.is;
-        again = λ q ok tail last f. let more = one.again q ok tail last f in record { value = more.value; new = more.new; is = same q input.rest (one.tokens ++ tail) last (one.first tail f) ∙ more.is; same = more.same };
-        first = one.first;
-      };
-}
 
 taken-found : {A : Type 0} (of : Trees → Option A) (input after : Input) (found : A) → take_as of input ≡ Some (found, after) → of input.rest ≡ Some found
 taken-found {A} of input after found e = by (of input.rest) e

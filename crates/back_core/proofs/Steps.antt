@@ -93,6 +93,23 @@ module _ {A B P Q : Type 0} {Ok : Q → Type 0} {bare : A → B} {print : A → 
         record { place = one.place; tokens = one.tokens; is = one.is ∙ same one.place one.tokens; again = one.again; first = one.first };
   }
 
+  -- other parsers that come to the same where the tokens begin so
+  pub instead-rest : {G F : Relation} {p : Parser A} {p' other : Q → Parser A} → ((q : Q) (rest tail : Trees) (last : Span) → G rest tail → other q (at tail last) ≡ p' q (at tail last)) → Rest Ok bare print wrap G F p p'
+      → Rest Ok bare print wrap G F p other
+  instead-rest same h = record {
+    of = λ input after found e.
+        let one = h.of input after found e in
+        record {
+          place = one.place;
+          tokens = one.tokens;
+          is = one.is;
+          again = λ q ok tail last f.
+              let more = one.again q ok tail last f in
+              record { value = more.value; new = more.new; is = same q input.rest (one.tokens ++ tail) last (one.first tail f) ∙ more.is; same = more.same };
+          first = one.first;
+        };
+  }
+
   pub refuse-rest : {G F : Relation} {p' : Q → Parser A} → Rest Ok bare print wrap G F refuse p'
   refuse-rest = record { of = λ input after found e. absurd cc }
 

@@ -41,7 +41,7 @@ use Rattle.back_core.proofs.Starts.{mark-seen}
 use Rattle.back_core.proofs.Steps.{Gives, Rest, whole, close-rest, here-rest, pure-rest, shown-rest, test-rest, then-rest}
 use Rattle.back_core.proofs.Takes.{AtEnd, contents_of-group, eat-rest, expect-rest, group-length, inside-rest, skip-rest, skipped-over, take_as-rest}
 use Rattle.back_items.specs.Follow.{AfterAttributes, StartsPath}
-use Rattle.back_items.proofs.Values.{Unsigned, ValueAgain, contents-stream, value-again}
+use Rattle.back_items.proofs.Values.{ValueAgain, contents-stream, value-again}
 use Rattle.back_items.proofs.Whiles.{while-printed}
 
 -- ---- paths of any words
@@ -129,7 +129,7 @@ no-hash : is_mark 35 [] ≡ false
 unfolding mark_of
 no-hash = refl
 
-module _ (parts : AllBacks (within max_depth)) (unsigned : Unsigned) where
+module _ (parts : AllBacks (within max_depth)) where
   module _ (start : Span) (path : Path) where
     -- what was bound: where the item starts, and the path
     abbrev Env : Type 0
@@ -176,7 +176,7 @@ module _ (parts : AllBacks (within max_depth)) (unsigned : Unsigned) where
             end = skipped (length input.rest) input
 
             one : ValueAgain (value_of input.rest)
-            one = value-again parts unsigned input.rest is
+            one = value-again parts input.rest is
 
             tokens : Trees
             tokens = expr_tokens (value_of input.rest)

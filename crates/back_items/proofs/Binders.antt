@@ -1,5 +1,5 @@
 -- That a printed type begins with `for` only where it has a binder of its own.
-use Rattle.std.proofs.Common.{◌≡◌, ℕ, zero, suc, nat_le, Bool, true, false, if◌then◌else◌, List, [], ◌∷◌, ◌++◌, Some, None, refl, ap, sym, ◌∙◌, append_assoc, codes}
+use Rattle.std.proofs.Common.{◌≡◌, ℕ, zero, suc, Bool, true, false, List, [], ◌∷◌, ◌++◌, Some, refl, ap, sym, ◌∙◌, append_assoc, codes}
 use Rattle.std.proofs.lemmas.Option.{some_pair_parts}
 use Rattle.token_core.specs.declared.ident.Lifetime.{Lifetime}
 use Rattle.token_core.specs.declared.span.Span.{Span}
@@ -15,8 +15,8 @@ use Rattle.expr_core.specs.declared.ty.«Type».TheVariants as ty
 use Rattle.grammar_core.specs.declared.look.TypeStart.TheVariants as begin
 use Rattle.grammar_core.specs.declared.word.Word.{Word}
 use Rattle.grammar_core.specs.declared.word.Word.TheVariants as word
-use Rattle.grammar_core.specs.Grammar.{kept, max_depth, within}
-use Rattle.grammar_core.specs.Input.{Input, Outcome, ◌>>=◌, pure, expect, inside, upto, first_span}
+use Rattle.grammar_core.specs.Grammar.{max_depth, within}
+use Rattle.grammar_core.specs.Input.{Input, ◌>>=◌, pure, expect, inside, upto, first_span}
 use Rattle.grammar_core.specs.Look.{type_start, type_word}
 use Rattle.grammar_core.specs.Make as make
 use Rattle.grammar_core.specs.Paths.{binder, list, return_type}
@@ -38,6 +38,7 @@ use Rattle.back_core.proofs.Prints.{print-fn_ptr}
 use Rattle.back_core.proofs.Steps.{bind-at}
 use Rattle.token_core.specs.Span.{joined}
 use Rattle.depth_core.specs.Depth.{type_depth}
+use Rattle.back_items.proofs.Makes.{kept-read}
 
 -- ---- types of functions
 
@@ -105,18 +106,10 @@ fn_ptr-read readers input after found is e =
         let made = some_pair_parts (make.type_fn_ptr bound.0 inputs.0 output.0 (joined start output.1.last)) found output.1 after output.3 in
         rw (← made.0, ty.outs-FnPtr) refl
 
-kept-read : (depth : ℕ) (size : Ty → ℕ) (outcome : Outcome Ty) (found : Ty) (after : Input) → kept size depth outcome ≡ Some (found, after) → outcome ≡ Some (found, after)
-kept-read depth size None found after e = absurd cc
-kept-read depth size (Some pair) found after e = by (nat_le (size pair.0) depth) e
-  where
-    by : (b : Bool) → ◌≡◌ {A = Outcome Ty} (if b then Some pair else None) (Some (found, after)) → ◌≡◌ {A = Outcome Ty} (Some pair) (Some (found, after))
-    by true e = e
-    by false e = absurd cc
-
 fn_ptr-within : (depth : ℕ) (input after : Input) (found : Ty) → type_start input.rest ≡ begin.FnPtr → (within depth).ty true input ≡ Some (found, after) → is_fn_ptr found ≡ true
 unfolding within
 fn_ptr-within zero input after found is e = absurd cc
-fn_ptr-within (suc below) input after found is e = fn_ptr-read (within below) input after found is (kept-read (suc below) type_depth (type_step (within below) true input) found after e)
+fn_ptr-within (suc below) input after found is e = fn_ptr-read (within below) input after found is (kept-read type_depth (suc below) (type_step (within below) true input) found after e)
 
 -- ---- what a type without a binder prints
 

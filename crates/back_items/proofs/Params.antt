@@ -49,7 +49,6 @@ use Rattle.back_core.proofs.Steps.{Free, Rest, bind-at, hole, whole, close-rest,
 use Rattle.back_core.proofs.Takes.{eat_or-rest, expect-rest, skipped-over, take_as-printed, take_as-rest}
 use Rattle.back_items.specs.Follow.{AfterParam, AfterParams, BeginsParam}
 use Rattle.back_items.proofs.Attributes.{attributes-back}
-use Rattle.back_items.proofs.Values.{Unsigned}
 use Rattle.back_items.proofs.Makes.{made-rest, angled-flat}
 use Rattle.back_items.proofs.Visibilities.{print-word}
 use Rattle.expr_core.specs.declared.path.Path.{Path}
@@ -233,6 +232,16 @@ unfolding mark_of
 hash-open [] is = absurd cc
 hash-open (tree ∷ trees) is = (refl, rw (eqb-true (mark_of (tree ∷ trees)) 35 is) refl)
 
+-- parameters, with where they stand
+abbrev pub Params : Type 0
+Params = List GenericParam × Span
+
+abbrev pub bare_params : Params → List GenericParam
+bare_params found = map bare_generic_param found.0
+
+abbrev pub params_tokens : Params → Trees
+params_tokens found = unless_empty found.0 (angled (map param_tokens found.0) found.1)
+
 module _ (parts : AllBacks (within max_depth)) where
   -- `A + 'b`
   pub bounds_here-back : (span : Span) → Back (map bare_bound) (λ found. sum_of (map bound_tokens found) span) Some' (AfterType true) bounds
@@ -266,7 +275,7 @@ module _ (parts : AllBacks (within max_depth)) where
   print-name it = print-expr_path (path_of_word it) it.span ∙ print-word it Turbofish
 
   constant_by : (constant : Bool) → Rest {P = Unit {0}} {Q = Unit {0}} Free bare_expr expr_tokens hole (λ rest tail. begins_constant tail ≡ constant) (AfterType true) (if constant then expr_at constant_level else expr_of_name <$> take_as name_of) (λ q. if constant then expr_at constant_level else expr_of_name <$> take_as name_of)
-  constant_by true = shown-rest tt (λ it. refl) (weak-printed (λ rest tail f other. absurd cc) (λ rest tail f. f.1 refl) (parts.expr constant_level))
+  constant_by true = shown-rest tt (λ it. refl) (weak-printed (λ rest tail f other. absurd cc) (λ rest tail f. f.begins) (parts.expr constant_level))
   constant_by false = take_as-rest {Second = AfterType true} name_of tree.Ident (λ rest tail it is. name_of-Ident rest tail it is) (λ it. pure-rest tt (expr_of_name it) (λ q. expr_of_name it) (print-name it) (λ q ok. refl))
       (λ input tail it is f. name-no-constant input.rest tail it is)
 
@@ -330,80 +339,68 @@ module _ (parts : AllBacks (within max_depth)) where
     param_by-rest false true = const_param-rest
     param_by-rest false false = made-rest param.Ty (λ it. refl) (λ one other same. ap param.Ty same) type_param-rest
 
-  -- a parameter of any kind, of which one begins as it did
-  module _ (unsigned : Unsigned) where
-    begins-open : (rest tail : Trees) → is_mark 35 tail ≡ true → Open rest tail
-    begins-open rest tail is = hash-open tail is
+  begins-open : (rest tail : Trees) → is_mark 35 tail ≡ true → Open rest tail
+  begins-open rest tail is = hash-open tail is
 
-    pub generic_param-back : Back bare_generic_param param_tokens Open AfterParam generic_param
-    unfolding generic_param
-    generic_param-back = whole (here-rest (λ start. then-rest {Second = BeginsParam} (λ (place : Span). attributes-back parts unsigned Open begins-open) (λ attrs.
-        test-rest {by = λ lifetime. BeginsParam} (λ trees. is_there (lifetime_of trees)) (λ lifetime. test-rest {by = λ constant. BeginsParam} (sees word.Const) (λ constant. param_by-rest start attrs lifetime constant)
-        (λ constant rest tail is f. (f.constant ∙ is, f))) (λ lifetime rest tail is f. (f.lifetime ∙ is, f)))
-        (λ rest tail f. (never (is_mark 35) rest tail f.hash, (f.some, f.greater))) (λ rest tail f. f)))
+  pub generic_param-back : Back bare_generic_param param_tokens Open AfterParam generic_param
+  unfolding generic_param
+  generic_param-back = whole (here-rest (λ start. then-rest {Second = BeginsParam} (λ (place : Span). attributes-back parts Open begins-open) (λ attrs.
+      test-rest {by = λ lifetime. BeginsParam} (λ trees. is_there (lifetime_of trees)) (λ lifetime. test-rest {by = λ constant. BeginsParam} (sees word.Const) (λ constant. param_by-rest start attrs lifetime constant)
+      (λ constant rest tail is f. (f.constant ∙ is, f))) (λ lifetime rest tail is f. (f.lifetime ∙ is, f)))
+      (λ rest tail f. (never (is_mark 35) rest tail f.hash, (f.some, f.greater))) (λ rest tail f. f)))
 
-    pub one_type_param-back : Back bare_type_param type_param_tokens Open AfterParam one_type_param
-    unfolding one_type_param
-    one_type_param-back = whole (here-rest (λ start. then-rest {Second = BeginsParam} (λ (place : Span). attributes-back parts unsigned Open begins-open) (λ attrs. type_param-rest start attrs)
-        (λ rest tail f. (never (is_mark 35) rest tail f.hash, (f.some, f.greater))) (λ rest tail f. f)))
+  pub one_type_param-back : Back bare_type_param type_param_tokens Open AfterParam one_type_param
+  unfolding one_type_param
+  one_type_param-back = whole (here-rest (λ start. then-rest {Second = BeginsParam} (λ (place : Span). attributes-back parts Open begins-open) (λ attrs. type_param-rest start attrs)
+      (λ rest tail f. (never (is_mark 35) rest tail f.hash, (f.some, f.greater))) (λ rest tail f. f)))
 
-    -- ---- all parameters
+  -- ---- all parameters
 
-    -- the parameters and where they stand
-    abbrev pub Params : Type 0
-    Params = List GenericParam × Span
+  abbrev inner_tokens : Span → List GenericParam → Trees
+  inner_tokens span found = joined (comma span) (map param_tokens found) ++ mark (codes ">") span
 
-    abbrev pub bare_params : Params → List GenericParam
-    bare_params found = map bare_generic_param found.0
+  inner-back : (span : Span) → Back (map bare_generic_param) (inner_tokens span) Any Any params_in_angles
+  inner-back span = until-printed bare_generic_param param_tokens 62 refl generic_param generic_param generic_param-back (λ rest tail f. f)
+      (λ rest tail span. type_before-mark 44 refl refl refl refl span rest tail true) (λ rest tail span. type_before-mark 62 refl refl refl refl span rest tail true) span
 
-    abbrev pub params_tokens : Params → Trees
-    params_tokens found = unless_empty found.0 (angled (map param_tokens found.0) found.1)
+  -- nothing is printed where there are none
+  none-read : (span : Span) → Reads bare_params (λ tail. Unit {0}) (λ tail. is_less tail ≡ false) params [] ([], span)
+  unfolding params after_eat
+  none-read span = record { again = λ tail last f. record { value = ([], CallSite); new = last; is = rw f refl; same = refl }; first = λ tail f. tt }
 
-    abbrev inner_tokens : Span → List GenericParam → Trees
-    inner_tokens span found = joined (comma span) (map param_tokens found) ++ mark (codes ">") span
+  some-read : (it : GenericParam) (found : List GenericParam) (span : Span) → Reads (map bare_generic_param) (λ tail. Unit {0}) (λ tail. Unit {0}) params_in_angles (inner_tokens span (it ∷ found)) (it ∷ found)
+      → Reads bare_params (λ tail. Unit {0}) (λ tail. is_less tail ≡ false) params (params_tokens (it ∷ found, span)) (it ∷ found, span)
+  unfolding params after_eat
+  some-read it found span one = record { again = λ tail last f. read tail last; first = λ tail f. tt }
+    where
+      flat : (tail : Trees) → params_tokens (it ∷ found, span) ++ tail ≡ mark (codes "<") span ++ (inner_tokens span (it ∷ found) ++ tail)
+      flat tail = angled-flat (map param_tokens (it ∷ found)) span tail
 
-    inner-back : (span : Span) → Back (map bare_generic_param) (inner_tokens span) Any Any params_in_angles
-    inner-back span = until-printed bare_generic_param param_tokens 62 refl generic_param generic_param generic_param-back (λ rest tail f. f)
-        (λ rest tail span. type_before-mark 44 refl refl refl refl span rest tail true) (λ rest tail span. type_before-mark 62 refl refl refl refl span rest tail true) span
+      read : (tail : Trees) (last : Span) → Again bare_params params (at (params_tokens (it ∷ found, span) ++ tail) last) tail (it ∷ found, span)
+      read tail last =
+          let less = skipped-over 1 (mark (codes "<") span) (inner_tokens span (it ∷ found) ++ tail) last (mark-length (codes "<") span) in
+          let more = one.again tail less.0 tt in
+          record {
+            value = (more.value, joined_spans (first_span (mark (codes "<") span ++ (inner_tokens span (it ∷ found) ++ tail))) more.new);
+            new = more.new;
+            is = rw (flat tail, mark_of-mark 60 [] span (inner_tokens span (it ∷ found) ++ tail), less.1, more.is) refl;
+            same = more.same;
+          }
 
-    -- nothing is printed where there are none
-    none-read : (span : Span) → Reads bare_params (λ tail. Unit {0}) (λ tail. is_less tail ≡ false) params [] ([], span)
-    unfolding params after_eat
-    none-read span = record { again = λ tail last f. record { value = ([], CallSite); new = last; is = rw f refl; same = refl }; first = λ tail f. tt }
+  pub params-back : Back bare_params params_tokens Any AfterParams params
+  unfolding params after_eat
+  params-back = record { of = λ input after found e. by input after found (is_less input.rest) e }
+    where
+      listed : (items : List GenericParam) (span : Span) → Reads (map bare_generic_param) (λ tail. Unit {0}) (λ tail. Unit {0}) params_in_angles (inner_tokens span items) items
+          → Reads bare_params (λ tail. Unit {0}) (λ tail. is_less tail ≡ false) params (params_tokens (items, span)) (items, span)
+      listed [] span one = none-read span
+      listed (it ∷ items) span one = some-read it items span one
 
-    some-read : (it : GenericParam) (found : List GenericParam) (span : Span) → Reads (map bare_generic_param) (λ tail. Unit {0}) (λ tail. Unit {0}) params_in_angles (inner_tokens span (it ∷ found)) (it ∷ found)
-        → Reads bare_params (λ tail. Unit {0}) (λ tail. is_less tail ≡ false) params (params_tokens (it ∷ found, span)) (it ∷ found, span)
-    unfolding params after_eat
-    some-read it found span one = record { again = λ tail last f. read tail last; first = λ tail f. tt }
-      where
-        flat : (tail : Trees) → params_tokens (it ∷ found, span) ++ tail ≡ mark (codes "<") span ++ (inner_tokens span (it ∷ found) ++ tail)
-        flat tail = angled-flat (map param_tokens (it ∷ found)) span tail
-
-        read : (tail : Trees) (last : Span) → Again bare_params params (at (params_tokens (it ∷ found, span) ++ tail) last) tail (it ∷ found, span)
-        read tail last =
-            let less = skipped-over 1 (mark (codes "<") span) (inner_tokens span (it ∷ found) ++ tail) last (mark-length (codes "<") span) in
-            let more = one.again tail less.0 tt in
-            record {
-              value = (more.value, joined_spans (first_span (mark (codes "<") span ++ (inner_tokens span (it ∷ found) ++ tail))) more.new);
-              new = more.new;
-              is = rw (flat tail, mark_of-mark 60 [] span (inner_tokens span (it ∷ found) ++ tail), less.1, more.is) refl;
-              same = more.same;
-            }
-
-    pub params-back : Back bare_params params_tokens Any AfterParams params
-    unfolding params after_eat
-    params-back = record { of = λ input after found e. by input after found (is_less input.rest) e }
-      where
-        listed : (items : List GenericParam) (span : Span) → Reads (map bare_generic_param) (λ tail. Unit {0}) (λ tail. Unit {0}) params_in_angles (inner_tokens span items) items
-            → Reads bare_params (λ tail. Unit {0}) (λ tail. is_less tail ≡ false) params (params_tokens (items, span)) (items, span)
-        listed [] span one = none-read span
-        listed (it ∷ items) span one = some-read it items span one
-
-        by : (input after : Input) (found : Params) (opened : Bool)
-            → (if opened then params_in_angles >>= (λ items. upto (first_span input.rest) >>= (λ span. pure (items, span))) else pure ([], CallSite)) (after_eat 1 opened input) ≡ Some (found, after)
-            → Reads bare_params (λ tail. Unit {0}) (λ tail. is_less tail ≡ false) params (params_tokens found) found
-        by input after found true e =
-            let inside = bind-at (params_in_angles (skipped 1 input)) (λ items. upto (first_span input.rest) >>= (λ span. pure (items, span))) found after e in
-            let span = joined_spans (first_span input.rest) inside.1.last in
-            rw (← (some_pair_parts (inside.0, span) found inside.1 after inside.3).0) (listed inside.0 span ((inner-back span).of (skipped 1 input) inside.1 inside.0 inside.2))
-        by input after found false e = rw (← (some_pair_parts ([], CallSite) found input after e).0) (none-read CallSite)
+      by : (input after : Input) (found : Params) (opened : Bool)
+          → (if opened then params_in_angles >>= (λ items. upto (first_span input.rest) >>= (λ span. pure (items, span))) else pure ([], CallSite)) (after_eat 1 opened input) ≡ Some (found, after)
+          → Reads bare_params (λ tail. Unit {0}) (λ tail. is_less tail ≡ false) params (params_tokens found) found
+      by input after found true e =
+          let inside = bind-at (params_in_angles (skipped 1 input)) (λ items. upto (first_span input.rest) >>= (λ span. pure (items, span))) found after e in
+          let span = joined_spans (first_span input.rest) inside.1.last in
+          rw (← (some_pair_parts (inside.0, span) found inside.1 after inside.3).0) (listed inside.0 span ((inner-back span).of (skipped 1 input) inside.1 inside.0 inside.2))
+      by input after found false e = rw (← (some_pair_parts ([], CallSite) found input after e).0) (none-read CallSite)

@@ -32,6 +32,7 @@ use Rattle.back_core.proofs.Marks.{mark-length, mark_of-mark, out-Literal}
 use Rattle.back_core.proofs.Steps.{Free, Rest, whole, here-rest, pure-rest, refuse-rest, upto-rest}
 use Rattle.back_core.proofs.Takes.{expect-rest, take_as-rest}
 use Rattle.back_items.proofs.Makes.{all-again, all-first}
+use Rattle.back_items.proofs.Signs.{unsigned}
 
 -- ---- numbers with a minus
 
@@ -82,11 +83,7 @@ pub record ValueAgain (found : Expr) : Type 0 where
   pub some : is_end (expr_tokens found) ≡ false
   pub same : bare_expr (value_of (expr_tokens found)) ≡ bare_expr found
 
--- an expression that is no number with a sign does not print as one
-abbrev pub Unsigned : Type 0
-Unsigned = (trees : Trees) (found : Expr) → expr_in trees ≡ Some found → number_in trees ≡ None → number_in (expr_tokens found) ≡ None
-
-module _ (parts : AllBacks (within max_depth)) (unsigned : Unsigned) where
+module _ (parts : AllBacks (within max_depth)) where
   pub value-again : (trees : Trees) → is_end trees ≡ false → ValueAgain (value_of trees)
   unfolding value_of
   value-again trees some = by (number_in trees) (expr_in trees) refl refl
@@ -101,8 +98,8 @@ module _ (parts : AllBacks (within max_depth)) (unsigned : Unsigned) where
       by None (Some it) number_is is =
           let again = all-again (parts.expr any_level) (λ other. looser-end any_level []) trees it is in
           record {
-            some = expr-some any_level _ (all-first (parts.expr any_level) (λ other. looser-end any_level []) trees it is).begins;
-            same = rw (unsigned trees it is number_is, again.1) again.2;
+            some = expr-some any_level (expr_tokens it) (all-first (parts.expr any_level) (λ other. looser-end any_level []) trees it is).begins;
+            same = rw (unsigned parts trees it is number_is, again.1) again.2;
           }
       by None None number_is is = record {
         some = rw (print-Verbatim trees) some;
