@@ -15,14 +15,14 @@ use Rattle.back_meta.proofs.Stops.{Ended}
 pub before_comma-again : (trees tail : Trees) → stops tail ≡ true → before_comma (before_comma trees ++ tail) ≡ before_comma trees
 unfolding mark_of
 before_comma-again [] tail stop = before_comma-stop tail stop
-before_comma-again (tree ∷ trees) tail stop = by (is_comma (tree ∷ trees)) refl
+before_comma-again (tree ∷ trees) tail stop = by (is_comma (tree ∷ trees)) refl (before_comma-again trees tail stop)
   where
     Again : Trees → Type 0
     Again tokens = before_comma (tokens ++ tail) ≡ tokens
 
-    by : (b : Bool) → is_comma (tree ∷ trees) ≡ b → Again (if b then [] else tree ∷ before_comma trees)
-    by true is = before_comma-stop tail stop
-    by false is = rw (is, before_comma-again trees tail stop) refl
+    by : (b : Bool) → is_comma (tree ∷ trees) ≡ b → Again (before_comma trees) → Again (if b then [] else tree ∷ before_comma trees)
+    by true is more = before_comma-stop tail stop
+    by false is more = rw (is, more) refl
 
 -- and no attribute where they were none
 pub attribute-again : (trees tail : Trees) → Ended tail → is_attribute trees ≡ false → is_attribute (before_comma trees ++ tail) ≡ false

@@ -4,3 +4,4 @@ pub mod Values
 pub mod Literals
 pub mod Bads
 pub mod Pairs
+pub mod Wholes

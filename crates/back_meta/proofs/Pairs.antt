@@ -10,6 +10,7 @@ use Rattle.token_core.specs.declared.tree.TokenTree.TheOpen.{TokenTree-F}
 use Rattle.expr_core.specs.declared.expr.Expr.{Expr}
 use Rattle.expr_core.specs.declared.path.Path.{Path}
 use Rattle.node_core.specs.declared.attr.Meta.TheVariants as meta
+use Rattle.node_core.specs.declared.attr.MetaList.{MetaList}
 use Rattle.grammar_core.specs.Input.{Input, ◌>>=◌, first_span, is_end, next, pure, skipped, test, upto}
 use Rattle.grammar_core.specs.Token.{Layer, contents_of, is_colons, is_equals, is_mark}
 use Rattle.item_core.specs.Attributes.{delimiter_of, meta_list, meta_path, stream}
@@ -38,14 +39,14 @@ use Rattle.back_core.proofs.Steps.{bind-at}
 use Rattle.back_core.proofs.Takes.{contents_of-group, group-length, skipped-over}
 use Rattle.back_items.specs.Follow.{StartsPath}
 use Rattle.back_items.proofs.Attributes.{equals-grouped, group-grouped, meta_path-back}
-use Rattle.back_items.proofs.Values.{Unsigned, contents-stream}
+use Rattle.back_items.proofs.Values.{contents-stream}
 use Rattle.back_meta.specs.Found.{Good, bare_found, found_tokens}
 use Rattle.back_meta.specs.Shut.{IsShut}
 use Rattle.back_meta.proofs.Bads.{attribute-again, before_comma-again}
 use Rattle.back_meta.proofs.Beginnings.{path-starts}
 use Rattle.back_meta.proofs.Literals.{ReadsItem, boolean-item, item-at, literal-item, signed-item}
 use Rattle.back_meta.proofs.Stops.{Ended}
-use Rattle.back_meta.proofs.Values.{NumberExpr, run-again}
+use Rattle.back_meta.proofs.Values.{run-again}
 
 -- ---- what stands behind the path
 
@@ -187,7 +188,7 @@ unfolding value bad_value
 bad-reads trees place none shut = record {
   tokens = tokens;
   place = λ eq_span span. eq_span;
-  is = λ path eq_span span. rw (contents-stream tokens) refl;
+  is = λ path eq_span span. rw (contents-stream tokens) (append_assoc (path_tokens Plain path) (mark (codes "=") eq_span) tokens);
   attribute = λ tail f. attribute-again trees tail f none;
   again = λ eq_span tail last f.
       let bad = rw (contents-stream tokens) at (shut tail f.stop) in
@@ -215,83 +216,82 @@ is_equals-group (tree ∷ trees) between h = by (out-TokenTree tree) refl
     by (TokenTree-F.Literal it) is = rw is refl
     by (TokenTree-F.Group it) is = rw is refl
 
-module _ (unsigned : Unsigned) (number-expr : NumberExpr) where
-  expr-reads : (trees : Trees) (found : Expr) (count : ℕ) → shortest_run trees ≡ Some (found, count) → ReadsValue (kind.Expr found)
-  unfolding value
-  expr-reads trees found count e = record {
-    tokens = expr_tokens found;
-    place = λ eq_span span. span;
-    is = λ path eq_span span. refl;
-    attribute = λ tail f. rw ((run-again unsigned number-expr trees found count e tail f).hash) refl;
-    again = λ eq_span tail last f.
-        let run = run-again unsigned number-expr trees found count e tail f in
-        let stands = skipped-over (length (expr_tokens found)) (expr_tokens found) tail last refl in
-        record { value = kind.Expr run.value; new = stands.0; is = rw (run.is, stands.1) refl; same = ap kind.Expr run.same };
-  }
+expr-reads : (trees : Trees) (found : Expr) (count : ℕ) → shortest_run trees ≡ Some (found, count) → ReadsValue (kind.Expr found)
+unfolding value
+expr-reads trees found count e = record {
+  tokens = expr_tokens found;
+  place = λ eq_span span. span;
+  is = λ path eq_span span. append_assoc (path_tokens Plain path) (mark (codes "=") span) (expr_tokens found);
+  attribute = λ tail f. rw ((run-again trees found count e tail f).hash) refl;
+  again = λ eq_span tail last f.
+      let run = run-again trees found count e tail f in
+      let stands = skipped-over (length (expr_tokens found)) (expr_tokens found) tail last refl in
+      record { value = kind.Expr run.value; new = stands.0; is = rw (run.is, stands.1) refl; same = ap kind.Expr run.same };
+}
 
-  value-reads : (path : Path) (eq_span span : Span) (input after : Input) (it : Value) → value eq_span input ≡ Some (it, after) → is_attribute input.rest ≡ false → Good (found.Item (with_value path eq_span span it)) → ReadsValue it
-  unfolding value bad_value
-  value-reads path eq_span span input after it e none good = by (shortest_run input.rest) refl
-    where
-      by : (run : Option (Expr × ℕ)) → shortest_run input.rest ≡ run → ReadsValue it
-      by None is =
-          let both = some_pair_parts bad it (skipped (length tokens) input) after (rw is at e) in
-          subst ReadsValue both.0 (bad-reads input.rest (bad_place eq_span tokens) none (subst (λ it. Good (found.Item (with_value path eq_span span it))) (sym both.0) good))
-        where
-          tokens : Trees
-          tokens = before_comma input.rest
+value-reads : (path : Path) (eq_span span : Span) (input after : Input) (it : Value) → value eq_span input ≡ Some (it, after) → is_attribute input.rest ≡ false → Good (found.Item (with_value path eq_span span it)) → ReadsValue it
+unfolding value bad_value
+value-reads path eq_span span input after it e none good = by (shortest_run input.rest) refl
+  where
+    by : (run : Option (Expr × ℕ)) → shortest_run input.rest ≡ run → ReadsValue it
+    by None is =
+        let both = some_pair_parts bad it (skipped (length tokens) input) after (rw is at e) in
+        subst ReadsValue both.0 (bad-reads input.rest (bad_place eq_span tokens) none (subst (λ it. Good (found.Item (with_value path eq_span span it))) (sym both.0) good))
+      where
+        tokens : Trees
+        tokens = before_comma input.rest
 
-          bad : Value
-          bad = kind.Bad (stream tokens) (bad_place eq_span tokens)
-      by (Some run) is =
-          let both = some_pair_parts (kind.Expr run.0) it (skipped run.1 input) after (rw is at e) in
-          subst ReadsValue both.0 (expr-reads input.rest run.0 run.1 is)
+        bad : Value
+        bad = kind.Bad (stream tokens) (bad_place eq_span tokens)
+    by (Some run) is =
+        let both = some_pair_parts (kind.Expr run.0) it (skipped run.1 input) after (rw is at e) in
+        subst ReadsValue both.0 (expr-reads input.rest run.0 run.1 is)
 
-  -- ---- items
+-- ---- items
 
-  behind-reads : (start : Span) (path : Path) (input after : Input) (it : Found) → path_by start path (delimiter_of input.rest) input ≡ Some (it, after) → Good it → ReadsBehind path input.rest it
-  unfolding meta_list name_value attribute_item value_item
-  behind-reads start path input after it e good = by (delimiter_of input.rest) refl
-    where
-      Behind : Found → Type 0
-      Behind it = ReadsBehind path input.rest it
+behind-reads : (start : Span) (path : Path) (input after : Input) (it : Found) → path_by start path (delimiter_of input.rest) input ≡ Some (it, after) → Good it → ReadsBehind path input.rest it
+unfolding meta_list name_value attribute_item value_item
+behind-reads start path input after it e good = by (delimiter_of input.rest) refl
+  where
+    Behind : Found → Type 0
+    Behind it = ReadsBehind path input.rest it
 
-      eq_span : Span
-      eq_span = first_span input.rest
+    eq_span : Span
+    eq_span = first_span input.rest
 
-      item-value : is_equals input.rest ≡ true → is_attribute (next input).rest ≡ false → value_item start path eq_span (next input) ≡ Some (it, after) → Behind it
-      item-value equals none e =
-          let parts = bind-at (value eq_span (next input)) (λ it. upto start >>= (λ span. pure (found.Item (with_value path eq_span span it)))) it after e in
-          let both = some_pair_parts (found.Item (with_value path eq_span (joined start parts.1.last) parts.0)) it parts.1 after parts.3 in
-          let reads = value-reads path eq_span (joined start parts.1.last) (next input) parts.1 parts.0 parts.2 none (subst Good (sym both.0) good) in
-          subst Behind both.0 (valued path input.rest eq_span (joined start parts.1.last) parts.0 equals reads)
+    item-value : is_equals input.rest ≡ true → is_attribute (next input).rest ≡ false → value_item start path eq_span (next input) ≡ Some (it, after) → Behind it
+    item-value equals none e =
+        let parts = bind-at (value eq_span (next input)) (λ it. upto start >>= (λ span. pure (found.Item (with_value path eq_span span it)))) it after e in
+        let both = some_pair_parts (found.Item (with_value path eq_span (joined start parts.1.last) parts.0)) it parts.1 after parts.3 in
+        let reads = value-reads path eq_span (joined start parts.1.last) (next input) parts.1 parts.0 parts.2 none (subst Good (sym both.0) good) in
+        subst Behind both.0 (valued path input.rest eq_span (joined start parts.1.last) parts.0 equals reads)
 
-      attribute : (b : Bool) → is_equals input.rest ≡ true → is_attribute (next input).rest ≡ b → (if b then attribute_item else value_item start path eq_span) (next input) ≡ Some (it, after) → Behind it
-      attribute true equals is e = absurd (subst Good (sym (some_pair_parts (found.Attribute (first_span (next input).rest)) it (skipped (length (next input).rest) (next input)) after e).0) good)
-      attribute false equals is e = item-value equals is e
+    attribute : (b : Bool) → is_equals input.rest ≡ true → is_attribute (next input).rest ≡ b → (if b then attribute_item else value_item start path eq_span) (next input) ≡ Some (it, after) → Behind it
+    attribute true equals is e = absurd (subst Good (sym (some_pair_parts (found.Attribute (first_span (next input).rest)) it (skipped (length (next input).rest) (next input)) after e).0) good)
+    attribute false equals is e = item-value equals is e
 
-      equal : (b : Bool) → is_equals input.rest ≡ b → (if b then name_value start path else pure (found.Item (nested.Meta (meta.Path path)))) input ≡ Some (it, after) → Behind it
-      equal true is e = attribute (is_attribute (next input).rest) is refl e
-      equal false is e = subst Behind (some_pair_parts (found.Item (nested.Meta (meta.Path path))) it input after e).0 (alone path input.rest is)
+    equal : (b : Bool) → is_equals input.rest ≡ b → (if b then name_value start path else pure (found.Item (nested.Meta (meta.Path path)))) input ≡ Some (it, after) → Behind it
+    equal true is e = attribute (is_attribute (next input).rest) is refl e
+    equal false is e = subst Behind (some_pair_parts (found.Item (nested.Meta (meta.Path path))) it input after e).0 (alone path input.rest is)
 
-      by : (o : Option Delimiter) → delimiter_of input.rest ≡ o → Behind it
-      by None is = equal (is_equals input.rest) refl (rw is at e)
-      by (Some between) is =
-          let list = record { path = path; delimiter = between; tokens = stream (contents_of input.rest); span = joined start (next input).last } in
-          subst Behind (some_pair_parts (found.Item (nested.Meta (meta.List list))) it (next input) after (rw is at e)).0 (grouped path between (contents_of input.rest) input.rest (joined start (next input).last) (is_equals-group input.rest between is))
+    by : (o : Option Delimiter) → delimiter_of input.rest ≡ o → Behind it
+    by None is = equal (is_equals input.rest) refl (rw is at e)
+    by (Some between) is =
+        let list : MetaList = record { path = path; delimiter = between; tokens = stream (contents_of input.rest); span = joined start (next input).last } in
+        subst Behind (some_pair_parts (found.Item (nested.Meta (meta.List list))) it (next input) after (rw is at e)).0 (grouped path between (contents_of input.rest) input.rest (joined start (next input).last) (is_equals-group input.rest between is))
 
-  path-item : (input after : Input) (it : Found) → item_start input.rest ≡ start.Path → path_item input ≡ Some (it, after) → Good it → ReadsItem (found_tokens it) it
-  unfolding path_item
-  path-item input after it starts e good =
-      let parts = bind-at (meta_path input) (λ path. test delimiter_of >>= path_by (first_span input.rest) path) it after e in
-      path-reads input parts.1 parts.0 it parts.2 starts (behind-reads (first_span input.rest) parts.0 parts.1 after it parts.3 good)
+path-item : (input after : Input) (it : Found) → item_start input.rest ≡ start.Path → path_item input ≡ Some (it, after) → Good it → ReadsItem (found_tokens it) it
+unfolding path_item
+path-item input after it starts e good =
+    let parts = bind-at (meta_path input) (λ path. test delimiter_of >>= path_by (first_span input.rest) path) it after e in
+    path-reads input parts.1 parts.0 it parts.2 starts (behind-reads (first_span input.rest) parts.0 parts.1 after it parts.3 good)
 
-  -- every item, but for attributes and bad values that are not shut
-  pub item-reads : (input after : Input) (it : Found) → item input ≡ Some (it, after) → Good it → ReadsItem (found_tokens it) it
-  item-reads input after it e good = by (item_start input.rest) refl
-    where
-      by : (which : ItemStart) → item_start input.rest ≡ which → ReadsItem (found_tokens it) it
-      by start.Literal is = literal-item input after it (sym (item-at start.Literal input is) ∙ e)
-      by start.Boolean is = boolean-item input after it (sym (item-at start.Boolean input is) ∙ e)
-      by start.Minus is = signed-item input after it (sym (item-at start.Minus input is) ∙ e)
-      by start.Path is = path-item input after it is (sym (item-at start.Path input is) ∙ e) good
+-- every item, but for attributes and bad values that are not shut
+pub item-reads : (input after : Input) (it : Found) → item input ≡ Some (it, after) → Good it → ReadsItem (found_tokens it) it
+item-reads input after it e good = by (item_start input.rest) refl
+  where
+    by : (which : ItemStart) → item_start input.rest ≡ which → ReadsItem (found_tokens it) it
+    by start.Literal is = literal-item input after it (sym (item-at start.Literal input is) ∙ e)
+    by start.Boolean is = boolean-item input after it (sym (item-at start.Boolean input is) ∙ e)
+    by start.Minus is = signed-item input after it (sym (item-at start.Minus input is) ∙ e)
+    by start.Path is = path-item input after it is (sym (item-at start.Path input is) ∙ e) good

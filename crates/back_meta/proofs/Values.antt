@@ -31,7 +31,8 @@ use Rattle.back_core.specs.Printed.{Again, Reads}
 use Rattle.back_core.proofs.Exprs.{print-Lit}
 use Rattle.back_core.proofs.Within.{within-backs}
 use Rattle.back_items.proofs.Makes.{all-again}
-use Rattle.back_items.proofs.Values.{Unsigned, signed-back}
+use Rattle.back_items.proofs.Signs.{number-expr, unsigned}
+use Rattle.back_items.proofs.Values.{signed-back}
 use Rattle.back_meta.proofs.Beginnings.{no-hash}
 use Rattle.back_meta.proofs.Stops.{Ended}
 
@@ -40,10 +41,6 @@ an_expr = (within max_depth).expr any_level
 
 front : Front Alike an_expr
 front = front-of ((within-fronts max_depth).expr any_level)
-
--- each number with its sign is an expression
-abbrev pub NumberExpr : Type 0
-NumberExpr = (trees : Trees) (found : Lit) → number_in trees ≡ Some found → (e : Expr) × (expr_in trees ≡ Some e)
 
 -- of its printing the value is the shortest run, which no `#` (35) begins
 pub record RunAgain (found : Expr) (tail : Trees) : Type 0 where
@@ -78,64 +75,63 @@ number-again trees found e tail ended =
 
 -- ---- expressions
 
-module _ (unsigned : Unsigned) (number-expr : NumberExpr) where
-  -- an expression that is no number is printed as none
-  stays-unsigned : (trees : Trees) (found : Expr) (after : Input) → an_expr (start_of trees) ≡ Some (found, after) → stops after.rest ≡ true → run_of number_in trees 2 ≡ None → number_in (expr_tokens found) ≡ None
-  stays-unsigned trees found after e stop none =
-      let count : ℕ = length trees - length after.rest in
-      let run = run-parts expr_in trees count found (read-run front trees after found e stop) in
-      unsigned (take count trees) found run.1 (rw run.0 at (number-runs trees none count))
+-- an expression that is no number is printed as none
+stays-unsigned : (trees : Trees) (found : Expr) (after : Input) → an_expr (start_of trees) ≡ Some (found, after) → stops after.rest ≡ true → run_of number_in trees 2 ≡ None → number_in (expr_tokens found) ≡ None
+stays-unsigned trees found after e stop none =
+    let count : ℕ = length trees - length after.rest in
+    let run = run-parts expr_in trees count found (read-run front trees after found e stop) in
+    unsigned (within-backs max_depth) (take count trees) found run.1 (rw run.0 at (number-runs trees none count))
 
-  -- What is read up to the tail is no number, where its tokens are none.
-  number-none : (tokens tail : Trees) (value : Expr) (new : Span) → stops tail ≡ true → an_expr (start_of (tokens ++ tail)) ≡ Some (value, at tail new) → number_in tokens ≡ None → run_of number_in (tokens ++ tail) 2 ≡ None
-  number-none tokens tail value new stop read none = by (run_of number_in (tokens ++ tail) 2) refl
-    where
-      by : (run : Option Lit) → run_of number_in (tokens ++ tail) 2 ≡ run → run_of number_in (tokens ++ tail) 2 ≡ None
-      by None is = is
-      by (Some number) is =
-          let run = number-run (tokens ++ tail) 2 number is in
-          let two : Trees = run.0.minus ∷ run.0.token ∷ [] in
-          let alone = number-expr two number run.3 in
-          let whole = all-parts (an_expr (start_of two)) alone.0 alone.1 in
-          let before = front-before front (start_of two) whole.0 alone.0 whole.1 whole.2 (drop 2 (tokens ++ tail)) CallSite run.2 in
-          let both = some_pair_parts alone.0 value (at (drop 2 (tokens ++ tail)) whole.0.last) (at tail new) (sym before ∙ (ap (λ trees. an_expr (start_of trees)) (sym run.1) ∙ read)) in
-          let behind : drop 2 (tokens ++ tail) ≡ tail = ap (λ (input : Input). input.rest) both.1 in
-          let same : tokens ≡ two = append_cancel_right tokens two tail (run.1 ∙ ap (λ rest. two ++ rest) behind) in
-          let clash = sym none ∙ (ap number_in same ∙ run.3) in
-          absurd cc
+-- What is read up to the tail is no number, where its tokens are none.
+number-none : (tokens tail : Trees) (value : Expr) (new : Span) → stops tail ≡ true → an_expr (start_of (tokens ++ tail)) ≡ Some (value, at tail new) → number_in tokens ≡ None → run_of number_in (tokens ++ tail) 2 ≡ None
+number-none tokens tail value new stop read none = by (run_of number_in (tokens ++ tail) 2) refl
+  where
+    by : (run : Option Lit) → run_of number_in (tokens ++ tail) 2 ≡ run → run_of number_in (tokens ++ tail) 2 ≡ None
+    by None is = is
+    by (Some number) is =
+        let run = number-run (tokens ++ tail) 2 number is in
+        let two : Trees = run.0.minus ∷ run.0.token ∷ [] in
+        let alone = number-expr two number run.3 in
+        let whole = all-parts (an_expr (start_of two)) alone.0 alone.1 in
+        let before = front-before front (start_of two) whole.0 alone.0 whole.1 whole.2 (drop 2 (tokens ++ tail)) CallSite run.2 in
+        let both = some_pair_parts alone.0 value (at (drop 2 (tokens ++ tail)) whole.0.last) (at tail new) (sym before ∙ (ap (λ trees. an_expr (start_of trees)) (sym run.1) ∙ read)) in
+        let behind : drop 2 (tokens ++ tail) ≡ tail = ap (λ (input : Input). input.rest) both.1 in
+        let same : tokens ≡ two = append_cancel_right tokens two tail (run.1 ∙ ap (λ rest. two ++ rest) behind) in
+        let clash = sym none ∙ (ap number_in same ∙ run.3) in
+        absurd cc
 
-  expr-again : (trees : Trees) (found : Expr) (after : Input) → an_expr (start_of trees) ≡ Some (found, after) → stops after.rest ≡ true → run_of number_in trees 2 ≡ None → (tail : Trees) → Ended tail → RunAgain found tail
-  expr-again trees found after e stop none tail ended =
-      let one = ((within-backs max_depth).expr any_level).of (start_of trees) after found e in
-      let more = one.again tail CallSite (ended.expr after.rest) in
-      let unsigned = number-none (expr_tokens found) tail more.value more.new ended.stop more.is (stays-unsigned trees found after e stop none) in
-      let run = shortest_run-expr (expr_tokens found ++ tail) (at tail more.new) more.value unsigned more.is ended.stop in
-      let sizes : length (expr_tokens found ++ tail) - length tail ≡ length (expr_tokens found) = omega (arith, length-append (expr_tokens found) tail) in
-      record {
-        value = more.value;
-        is = run.1 ∙ ap (λ count. Some (more.value, count)) sizes;
-        same = more.same;
-        hash = no-hash (expr_tokens found ++ tail) (one.first tail (ended.expr after.rest)).begins;
-      }
+expr-again : (trees : Trees) (found : Expr) (after : Input) → an_expr (start_of trees) ≡ Some (found, after) → stops after.rest ≡ true → run_of number_in trees 2 ≡ None → (tail : Trees) → Ended tail → RunAgain found tail
+expr-again trees found after e stop none tail ended =
+    let one = ((within-backs max_depth).expr any_level).of (start_of trees) after found e in
+    let more = one.again tail CallSite (ended.expr after.rest) in
+    let none = number-none (expr_tokens found) tail more.value more.new ended.stop more.is (stays-unsigned trees found after e stop none) in
+    let run = shortest_run-expr (expr_tokens found ++ tail) (at tail more.new) more.value none more.is ended.stop in
+    let sizes : length (expr_tokens found ++ tail) - length tail ≡ length (expr_tokens found) = omega (arith, length-append (expr_tokens found) tail) in
+    record {
+      value = more.value;
+      is = run.1 ∙ ap (λ count. Some (more.value, count)) sizes;
+      same = more.same;
+      hash = no-hash (expr_tokens found ++ tail) (one.first tail (ended.expr after.rest)).begins;
+    }
 
-  -- ---- any value
+-- ---- any value
 
-  pub run-again : (trees : Trees) (found : Expr) (count : ℕ) → shortest_run trees ≡ Some (found, count) → (tail : Trees) → Ended tail → RunAgain found tail
-  run-again trees found count e tail ended = by (run_of number_in trees 2) refl
-    where
-      stopped : (value : Expr) (after : Input) (b : Bool) → stops after.rest ≡ b → run_of number_in trees 2 ≡ None → an_expr (start_of trees) ≡ Some (value, after) → RunAgain found tail
-      stopped value after true stop none is =
-          let run = shortest_run-expr trees after value none is stop in
-          let both = some_pair_parts value found (length trees - length after.rest) count (sym run.1 ∙ e) in
-          subst (λ found. RunAgain found tail) both.0 (expr-again trees value after is stop none tail ended)
-      stopped value after false on none is = let clash = sym (shortest_run-on trees after value none is on) ∙ e in absurd cc
+pub run-again : (trees : Trees) (found : Expr) (count : ℕ) → shortest_run trees ≡ Some (found, count) → (tail : Trees) → Ended tail → RunAgain found tail
+run-again trees found count e tail ended = by (run_of number_in trees 2) refl
+  where
+    stopped : (value : Expr) (after : Input) (b : Bool) → stops after.rest ≡ b → run_of number_in trees 2 ≡ None → an_expr (start_of trees) ≡ Some (value, after) → RunAgain found tail
+    stopped value after true stop none is =
+        let run = shortest_run-expr trees after value none is stop in
+        let both = some_pair_parts value found (length trees - length after.rest) count (sym run.1 ∙ e) in
+        subst (λ found. RunAgain found tail) both.0 (expr-again trees value after is stop none tail ended)
+    stopped value after false on none is = let clash = sym (shortest_run-on trees after value none is on) ∙ e in absurd cc
 
-      read : (outcome : Outcome Expr) → an_expr (start_of trees) ≡ outcome → run_of number_in trees 2 ≡ None → RunAgain found tail
-      read None is none = let clash = sym (shortest_run-none trees none is) ∙ e in absurd cc
-      read (Some pair) is none = stopped pair.0 pair.1 (stops pair.1.rest) refl none is
+    read : (outcome : Outcome Expr) → an_expr (start_of trees) ≡ outcome → run_of number_in trees 2 ≡ None → RunAgain found tail
+    read None is none = let clash = sym (shortest_run-none trees none is) ∙ e in absurd cc
+    read (Some pair) is none = stopped pair.0 pair.1 (stops pair.1.rest) refl none is
 
-      by : (run : Option Lit) → run_of number_in trees 2 ≡ run → RunAgain found tail
-      by None is = read (an_expr (start_of trees)) refl is
-      by (Some number) is =
-          let both = some_pair_parts (expr.Lit number) found 2 count (sym (shortest_run-number trees number is) ∙ e) in
-          subst (λ found. RunAgain found tail) both.0 (number-again (take 2 trees) number (run-parts number_in trees 2 number is).1 tail ended)
+    by : (run : Option Lit) → run_of number_in trees 2 ≡ run → RunAgain found tail
+    by None is = read (an_expr (start_of trees)) refl is
+    by (Some number) is =
+        let both = some_pair_parts (expr.Lit number) found 2 count (sym (shortest_run-number trees number is) ∙ e) in
+        subst (λ found. RunAgain found tail) both.0 (number-again (take 2 trees) number (run-parts number_in trees 2 number is).1 tail ended)
