@@ -1,8 +1,7 @@
 -- The tokens of a bad value, before a comma or the end again.
-use Rattle.std.proofs.Common.{◌≡◌, Bool, true, false, ◌&&◌, ◌==◌, if◌then◌else◌, [], ◌∷◌, ◌++◌, refl, ap}
+use Rattle.std.proofs.Common.{◌≡◌, Bool, true, false, if◌then◌else◌, [], ◌∷◌, ◌++◌, refl}
 use Rattle.std.proofs.Math.Bool.{and-false}
-use Rattle.token_core.specs.declared.tree.Delimiter.TheVariants as delimiter
-use Rattle.token_core.specs.declared.tree.TokenTree.{TokenTree, out-TokenTree}
+use Rattle.token_core.specs.declared.tree.TokenTree.{TokenTree}
 use Rattle.grammar_core.specs.Token.{is_comma, is_group, is_mark, mark_of}
 use Rattle.meta_core.specs.Nested.{is_attribute}
 use Rattle.meta_core.specs.Values.{before_comma}

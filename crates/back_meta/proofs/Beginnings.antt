@@ -1,5 +1,5 @@
 -- What printed items begin with.
-use Rattle.std.proofs.Common.{◌≡◌, ℕ, suc, Bool, true, false, ◌&&◌, not, ◌==◌, if◌then◌else◌, List, [], ◌∷◌, ◌++◌, is_some, Option, Some, None, refl, sym, ap, ◌∙◌}
+use Rattle.std.proofs.Common.{◌≡◌, Bool, true, false, ◌&&◌, not, if◌then◌else◌, [], ◌∷◌, ◌++◌, is_some, Some, refl, sym, ap, ◌∙◌}
 use Rattle.std.proofs.Math.Bool.{and-false}
 use Rattle.std.proofs.lemmas.Bool.{and_parts, both_ways, eqb-true}
 use Rattle.std.proofs.lemmas.Option.{some_pair_parts}
@@ -18,10 +18,9 @@ use Rattle.grammar_core.specs.declared.word.Word.TheVariants as word
 use Rattle.grammar_core.specs.Input.{Input, after_eat, first_span, joined_from, next}
 use Rattle.grammar_core.specs.Look.{atom_start, begins_closure, begins_operand, is_bool, operand_start}
 use Rattle.grammar_core.specs.Readers.{any_level}
-use Rattle.grammar_core.specs.Token.{Layer, after_one, ident_of, is_colons, is_equals, is_group, is_joint, is_mark, is_pair, literal_of, mark_of, span_of}
+use Rattle.grammar_core.specs.Token.{Layer, ident_of, is_colons, is_equals, is_group, is_joint, is_mark, is_pair, literal_of, mark_of, span_of}
 use Rattle.grammar_core.specs.Words.{next_word}
 use Rattle.item_core.specs.Attributes.{meta_path, meta_segment}
-use Rattle.meta_core.specs.declared.item.ItemStart.{ItemStart}
 use Rattle.meta_core.specs.declared.item.ItemStart.TheVariants as start
 use Rattle.meta_core.specs.Nested.{is_boolean, is_truth, item_start}
 use Rattle.print_core.specs.declared.path.PathStyle.TheVariants.{Plain}

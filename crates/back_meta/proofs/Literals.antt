@@ -1,13 +1,12 @@
 -- The law of printing for nested items that are literals.
-use Rattle.std.proofs.Common.{◌≡◌, Bool, true, false, ◌&&◌, not, if◌then◌else◌, [], ◌∷◌, ◌++◌, is_some, Option, Some, None, refl, ap, subst, ◌∙◌, codes, sym}
-use Rattle.std.proofs.Math.Bool.{and-false}
+use Rattle.std.proofs.Common.{◌≡◌, Bool, true, false, if◌then◌else◌, [], ◌∷◌, ◌++◌, Option, Some, None, refl, ap, subst, ◌∙◌, codes, sym}
 use Rattle.std.proofs.lemmas.Bool.{eqb-true}
 use Rattle.std.proofs.lemmas.Option.{some_pair_parts}
 use Rattle.std.specs.Str.{chars}
 use Rattle.token_core.specs.declared.span.Span.{Span}
 use Rattle.token_core.specs.declared.span.Span.TheVariants.{CallSite}
 use Rattle.token_core.specs.declared.tree.Literal.{Literal}
-use Rattle.token_core.specs.declared.tree.TokenTree.{TokenTree, out-TokenTree}
+use Rattle.token_core.specs.declared.tree.TokenTree.{out-TokenTree}
 use Rattle.token_core.specs.declared.tree.TokenTree.TheOpen.{TokenTree-F}
 use Rattle.token_core.specs.declared.tree.TokenTree.TheVariants as token
 use Rattle.expr_core.specs.declared.lit.Lit.{Lit}
@@ -16,21 +15,21 @@ use Rattle.grammar_core.specs.declared.word.Word.{Word}
 use Rattle.grammar_core.specs.declared.word.Word.TheVariants as word
 use Rattle.grammar_core.specs.Input.{Input, Parser, ◌<$>◌, first_span, is_end, next, pure, skipped, taken}
 use Rattle.grammar_core.specs.Literals.{lit_of, value_of}
-use Rattle.grammar_core.specs.Token.{Layer, after_one, ident_of, is_equals, is_mark, literal_of, mark_of, span_of}
+use Rattle.grammar_core.specs.Token.{Layer, after_one, ident_of, is_mark, literal_of, mark_of, span_of}
 use Rattle.grammar_core.specs.Words.{named_words, next_word, other_keywords, word_of}
 use Rattle.item_core.specs.Attributes.{signed}
 use Rattle.meta_core.specs.declared.item.Found.{Found}
 use Rattle.meta_core.specs.declared.item.ItemStart.{ItemStart}
 use Rattle.meta_core.specs.declared.item.ItemStart.TheVariants as start
-use Rattle.meta_core.specs.Nested.{as_lit, bool_of, boolean, is_boolean, is_truth, item, item_by, item_start, literal}
+use Rattle.meta_core.specs.Nested.{as_lit, bool_of, boolean, is_truth, item, item_by, item_start, literal}
 use Rattle.print_core.specs.Literals.{lit_tokens}
 use Rattle.print_core.specs.Marks.{Trees, word as printed_word}
 use Rattle.bare_core.specs.Bare.{bare_lit}
 use Rattle.front_core.specs.Front.{at}
-use Rattle.back_core.specs.Printed.{Again, Reads}
+use Rattle.back_core.specs.Printed.{Reads}
 use Rattle.back_core.proofs.AtomStarts.{literal_of-Literal}
 use Rattle.back_core.proofs.Exprs.{lit_tokens-by}
-use Rattle.back_core.proofs.Marks.{out-Ident, out-Literal, word-length}
+use Rattle.back_core.proofs.Marks.{out-Ident, word-length}
 use Rattle.back_core.proofs.Starts.{mark-seen}
 use Rattle.back_core.proofs.Steps.{bind-at}
 use Rattle.back_core.proofs.Takes.{skipped-over}

@@ -11,7 +11,7 @@ use Rattle.expr_core.specs.declared.expr.Expr.{Expr}
 use Rattle.expr_core.specs.declared.path.Path.{Path}
 use Rattle.node_core.specs.declared.attr.Meta.TheVariants as meta
 use Rattle.node_core.specs.declared.attr.MetaList.{MetaList}
-use Rattle.grammar_core.specs.Input.{Input, ◌>>=◌, first_span, is_end, next, pure, skipped, test, upto}
+use Rattle.grammar_core.specs.Input.{Input, ◌>>=◌, first_span, next, pure, skipped, test, upto}
 use Rattle.grammar_core.specs.Token.{Layer, contents_of, is_colons, is_equals, is_mark}
 use Rattle.item_core.specs.Attributes.{delimiter_of, meta_list, meta_path, stream}
 use Rattle.meta_core.specs.declared.item.Found.{Found}
@@ -21,10 +21,10 @@ use Rattle.meta_core.specs.declared.item.ItemStart.TheVariants as start
 use Rattle.meta_core.specs.declared.nested.NestedMeta.TheVariants as nested
 use Rattle.meta_core.specs.declared.value.Value.{Value}
 use Rattle.meta_core.specs.declared.value.Value.TheVariants as kind
-use Rattle.meta_core.specs.Nested.{attribute_item, expected_expression, is_attribute, item, item_start, name_value, path_by, path_item, value_item, with_value}
-use Rattle.meta_core.specs.Values.{bad_place, bad_value, before_comma, shortest_run, value, value_by}
+use Rattle.meta_core.specs.Nested.{attribute_item, is_attribute, item, item_start, name_value, path_by, path_item, value_item, with_value}
+use Rattle.meta_core.specs.Values.{bad_place, bad_value, before_comma, shortest_run, value}
 use Rattle.print_core.specs.declared.path.PathStyle.TheVariants.{Plain}
-use Rattle.print_core.specs.Marks.{Trees, contents, group, mark}
+use Rattle.print_core.specs.Marks.{Trees, group, mark}
 use Rattle.print_core.specs.Nodes.{expr_tokens, path_tokens}
 use Rattle.meta_core.specs.Nodes.{nested_tokens}
 use Rattle.bare_core.specs.Bare.{bare_expr, bare_path, bare_stream}

@@ -1,12 +1,9 @@
 -- The law of printing for values: the shortest run is printed as tokens of which it is the shortest run again.
-use Rattle.std.proofs.Common.{◌≡◌, ℕ, ◌-◌, Bool, true, false, List, [], ◌∷◌, ◌++◌, ◌==◌, if◌then◌else◌, length, take, drop, Option, Some, None, refl, arith, sym, subst, ap, ◌∙◌, length-append}
-use Rattle.std.proofs.lemmas.Bool.{eqb-true}
+use Rattle.std.proofs.Common.{◌≡◌, ℕ, ◌-◌, Bool, true, false, [], ◌∷◌, ◌++◌, length, take, drop, Option, Some, None, refl, arith, sym, subst, ap, ◌∙◌, length-append}
 use Rattle.std.proofs.lemmas.List.{append_cancel_right}
 use Rattle.std.proofs.lemmas.Option.{some_pair_parts}
 use Rattle.token_core.specs.declared.span.Span.{Span}
 use Rattle.token_core.specs.declared.span.Span.TheVariants.{CallSite}
-use Rattle.token_core.specs.declared.tree.TokenTree.{TokenTree, out-TokenTree}
-use Rattle.token_core.specs.declared.tree.TokenTree.TheOpen.{TokenTree-F}
 use Rattle.expr_core.specs.declared.expr.Expr.{Expr}
 use Rattle.expr_core.specs.declared.expr.Expr.TheVariants as expr
 use Rattle.expr_core.specs.declared.lit.Lit.{Lit}
@@ -27,7 +24,6 @@ use Rattle.bare_core.proofs.Made.{bare_expr-Lit}
 use Rattle.front_core.specs.Alike.{Alike, stops}
 use Rattle.front_core.specs.Front.{at, Front}
 use Rattle.front_core.proofs.Within.{front-before, front-of, within-fronts}
-use Rattle.back_core.specs.Printed.{Again, Reads}
 use Rattle.back_core.proofs.Exprs.{print-Lit}
 use Rattle.back_core.proofs.Within.{within-backs}
 use Rattle.back_items.proofs.Makes.{all-again}

@@ -1,5 +1,5 @@
 -- The law of printing for lists of nested items.
-use Rattle.std.proofs.Common.{◌≡◌, true, false, List, [], ◌∷◌, ◌++◌, map, All, Option, Some, None, Result, Ok, Err, refl, ap, sym, subst, ◌∙◌, append-nil, option_and_then}
+use Rattle.std.proofs.Common.{◌≡◌, false, List, [], ◌∷◌, map, All, Option, Some, None, Result, Ok, Err, refl, ap, ◌∙◌, append-nil, option_and_then}
 use Rattle.std.proofs.lemmas.List.Elements.{All-cons, All-head, All-nil, All-tail}
 use Rattle.std.proofs.lemmas.Option.{same_Some}
 use Rattle.std.specs.Result.{result_ok, result_map_both}
@@ -12,10 +12,9 @@ use Rattle.meta_core.specs.declared.item.Found.TheVariants as found
 use Rattle.meta_core.specs.declared.nested.NestedMeta.{NestedMeta}
 use Rattle.meta_core.specs.Nested.{among, found_of, item, nested_of}
 use Rattle.meta_core.specs.Nodes.{nested_tokens}
-use Rattle.print_core.specs.Marks.{Trees, comma, joined}
 use Rattle.bare_nested.specs.Bare.{bare_nested}
 use Rattle.front_core.specs.Front.{at}
-use Rattle.back_core.specs.Printed.{Again, separated, stream}
+use Rattle.back_core.specs.Printed.{separated, stream}
 use Rattle.back_core.proofs.Lists.{items-read}
 use Rattle.back_items.proofs.Makes.{all-parts}
 use Rattle.back_items.proofs.Values.{contents-stream}
@@ -69,7 +68,7 @@ unfolding found_of
 found-again tokens items e shut =
     let parts = all-parts (items_after item [] (start_of (out-TokenStream tokens).trees)) (map found.Item items) e in
     let one = items-read bare_found found_tokens item item Good (λ rest tail. is_end tail ≡ false) (λ rest tail. Ended tail) item-reads (λ rest tail f. f) (λ rest. ended-nothing) (λ rest tail span. ended-comma span tail) CallSite
-        (start_of (out-TokenStream tokens).trees) (at [] parts.0) (map found.Item items) parts.1 (all-good items shut) in
+    (start_of (out-TokenStream tokens).trees) (at [] parts.0) (map found.Item items) parts.1 (all-good items shut) in
     let more = one.again [] CallSite refl in
     let reads = rw append-nil at more.is in
     (more.value, rw (contents-stream (separated nested_tokens items), ← print-items items, reads) refl, more.same)
