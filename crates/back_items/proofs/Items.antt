@@ -61,17 +61,17 @@ unfolding item_start printed_word next_word ident_of word_of named_words other_k
 union-begun rest tail span = (rw (out-Ident (record { text = codes "union"; raw = false; span = span })) refl, word-visible (codes "union") rest tail span (rw (out-Ident (record { text = codes "union"; raw = false; span = span })) refl))
 
 -- the keyword of an item, which is one word
-record Word' (begins : ItemStart) : Type 0 where
+record OneWord (begins : ItemStart) : Type 0 where
   one : (span : Span) → length (start_word begins span) ≡ 1
   begun : (rest tail : Trees) (span : Span) → Begun begins rest (start_word begins span ++ tail)
 
-struct-word : Word' begin.Struct
+struct-word : OneWord begin.Struct
 struct-word = record { one = word-length (codes "struct"); begun = struct-begun }
 
-enum-word : Word' begin.Enum
+enum-word : OneWord begin.Enum
 enum-word = record { one = word-length (codes "enum"); begun = enum-begun }
 
-union-word : Word' begin.Union
+union-word : OneWord begin.Union
 union-word = record { one = word-length (codes "union"); begun = union-begun }
 
 module _ (parts : AllBacks (within max_depth)) (unnamed : UnnamedBack) where
@@ -96,7 +96,7 @@ module _ (parts : AllBacks (within max_depth)) (unnamed : UnnamedBack) where
     abbrev ItemRest : ItemStart → Type 0
     ItemRest begins = Rest {P = Span} {Q = Env} (Bound attrs vis) bare_derive_input derive_input_tokens (λ place tokens. attributes_tokens attrs ++ (visibility_tokens vis ++ tokens)) (Begun begins) Any (item_rest start attrs vis begins) (λ q. item_rest q.0.0.1 q.0.1 q.1 begins)
 
-    item-rest : (begins : ItemStart) → Word' begins → ItemRest begins
+    item-rest : (begins : ItemStart) → OneWord begins → ItemRest begins
     item-rest begins keyword = skip-rest {Second = Any} (λ place. start_word begins place) keyword.one
         (take_as-rest {Second = Any} name_of tree.Ident (λ rest tail it is. name_of-Ident rest tail it is) (λ name.
         then-rest {Second = BeginsBody} (λ place. params-back parts) (λ generics.

@@ -38,11 +38,11 @@ no-equals : is_equals [] ≡ false
 unfolding mark_of
 no-equals = refl
 
-no-group : is_group delimiter.Brace [] ≡ false
+no-braces : is_group delimiter.Brace [] ≡ false
 unfolding is_group
-no-group = refl
+no-braces = refl
 
-no-parentheses : is_group delimiter.Parenthesis [] ≡ false
+pub no-parentheses : is_group delimiter.Parenthesis [] ≡ false
 unfolding is_group
 no-parentheses = refl
 
@@ -50,7 +50,7 @@ variant-end : (rest : Trees) → AfterVariant rest []
 variant-end rest = record {
   expr = expr-end any_level rest;
   equals = never is_equals rest [] no-equals;
-  fields = (never (is_group delimiter.Brace) rest [] no-group, never (is_group delimiter.Parenthesis) rest [] no-parentheses);
+  fields = (never (is_group delimiter.Brace) rest [] no-braces, never (is_group delimiter.Parenthesis) rest [] no-parentheses);
 }
 
 -- a mark is no group

@@ -1,9 +1,8 @@
 -- The law of printing for items over whole lists of tokens.
 use Rattle.std.proofs.Common.{◌≡◌, true, false, [], map, flat_map, refl}
-use Rattle.token_core.specs.declared.tree.Delimiter.TheVariants as delimiter
 use Rattle.grammar_core.specs.declared.word.Word.TheVariants as word
 use Rattle.grammar_core.specs.Grammar.{within, max_depth}
-use Rattle.grammar_core.specs.Token.{ident_of, is_group}
+use Rattle.grammar_core.specs.Token.{ident_of}
 use Rattle.grammar_core.specs.Words.{next_word, sees}
 use Rattle.item_core.specs.Trees.{derive_input_of, items_of, type_param_of, visibility_of, where_of}
 use Rattle.print_core.specs.Items.{derive_input_tokens, type_param_tokens, visibility_tokens, where_tokens}
@@ -17,16 +16,13 @@ use Rattle.back_items.specs.Follow.{AfterVisibility, restricts}
 use Rattle.back_items.proofs.Fields.{UnnamedBack, no-restriction}
 use Rattle.back_items.proofs.Items.{item-back, items-back}
 use Rattle.back_items.proofs.Params.{one_type_param-back}
+use Rattle.back_items.proofs.Variants.{no-parentheses}
 use Rattle.back_items.proofs.Visibilities.{visibility-back}
 use Rattle.back_items.proofs.Wheres.{where_clause-back}
 
 no-pub : sees word.Pub [] ≡ false
 unfolding next_word ident_of
 no-pub = refl
-
-no-group : is_group delimiter.Parenthesis [] ≡ false
-unfolding is_group
-no-group = refl
 
 module _ (parts : AllBacks (within max_depth)) where
   pub where_of-back : ReadBack bare_where where_tokens where_of
@@ -35,7 +31,7 @@ module _ (parts : AllBacks (within max_depth)) where
 
   pub visibility_of-back : ReadBack bare_visibility visibility_tokens visibility_of
   unfolding visibility_of
-  visibility_of-back = whole-back {F = AfterVisibility Any} (λ rest. (never (sees word.Pub) rest [] no-pub, (never restricts rest [] (no-restriction [] no-group), tt))) (visibility-back parts Any (λ rest tail seen. tt))
+  visibility_of-back = whole-back {F = AfterVisibility Any} (λ rest. (never (sees word.Pub) rest [] no-pub, (never restricts rest [] (no-restriction [] no-parentheses), tt))) (visibility-back parts Any (λ rest tail seen. tt))
 
   pub type_param_of-back : ReadBack bare_type_param type_param_tokens type_param_of
   unfolding type_param_of
