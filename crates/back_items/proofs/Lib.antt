@@ -10,6 +10,8 @@ pub mod Params
 pub mod Binders
 pub mod Wheres
 pub mod Always
+pub mod Singles
+pub mod Restricts
 pub mod Fields
 pub mod Variants
 pub mod Bodies

@@ -3,7 +3,7 @@ use Rattle.std.proofs.Common.{◌≡◌, if◌then◌else◌, [], ◌∷◌, ◌
 use Rattle.std.proofs.lemmas.Option.{same_Some, some_pair_parts}
 use Rattle.token_core.specs.declared.span.Span.{Span}
 use Rattle.token_core.specs.declared.span.Span.TheVariants.{CallSite}
-use Rattle.grammar_core.specs.Input.{Input, Outcome, Parser, ◌<$>◌, pure, is_end, start_of}
+use Rattle.grammar_core.specs.Input.{Input, Outcome, Parser, ◌<$>◌, pure, is_end, start_of, finished, inside, next}
 use Rattle.grammar_core.specs.Trees.{all}
 use Rattle.print_core.specs.Marks.{Trees, comma, joined, mark}
 use Rattle.front_core.specs.Alike.{Relation}
@@ -12,6 +12,8 @@ use Rattle.back_core.specs.Printed.{Back}
 use Rattle.back_core.proofs.Steps.{Rest, bind-at, Gives}
 use Rattle.print_core.specs.Paths.{angled}
 use Rattle.grammar_core.specs.Grammar.{kept}
+use Rattle.grammar_core.specs.Token.{contents_of, is_group}
+use Rattle.token_core.specs.declared.tree.Delimiter.{Delimiter}
 
 -- what is made of what a rule gives
 pub made-rest : {A B C D P Q : Type 0} {Ok : Q → Type 0} {bare : A → C} {bare' : B → D} {print : A → Trees} {print' : B → Trees} {wrap : P → Trees → Trees} {G F : Relation} {parser : Parser A} {others : Q → Parser A} (make : A → B)
@@ -75,3 +77,21 @@ kept-read {A} size limit (Some pair) found after e = by (nat_le (size pair.0) li
     by : (b : Bool) → ◌≡◌ {A = Outcome A} (if b then Some pair else None) (Some (found, after)) → ◌≡◌ {A = Outcome A} (Some pair) (Some (found, after))
     by true e = e
     by false e = absurd cc
+
+-- all that stands in a group was read
+pub inside-parts : {A : Type 0} (between : Delimiter) (parser : Parser A) (input after : Input) (found : A) → inside between parser input ≡ Some (found, after)
+    → (is_group between input.rest ≡ true) × (last : Span) × (parser (start_of (contents_of input.rest)) ≡ Some (found, at [] last))
+inside-parts {A} between parser input after found e = by (is_group between input.rest) refl e
+  where
+    ended : (outcome : Outcome A) → finished (next input) outcome ≡ Some (found, after) → (last : Span) × (outcome ≡ Some (found, at [] last))
+    ended None e = absurd cc
+    ended (Some pair) e = by pair.1.rest refl e
+      where
+        by : (rest : Trees) → pair.1.rest ≡ rest → ◌≡◌ {A = Outcome A} (if is_end rest then Some (pair.0, next input) else None) (Some (found, after)) → (last : Span) × (◌≡◌ {A = Outcome A} (Some pair) (Some (found, at [] last)))
+        by [] is e = (pair.1.last, ap (λ rest. Some (pair.0, at rest pair.1.last)) is ∙ ap (λ value. Some (value, at [] pair.1.last)) (some_pair_parts pair.0 found (next input) after e).0)
+        by (tree ∷ trees) is e = absurd cc
+
+    by : (b : Bool) → is_group between input.rest ≡ b → ◌≡◌ {A = Outcome A} (if b then finished (next input) (parser (start_of (contents_of input.rest))) else None) (Some (found, after))
+        → (is_group between input.rest ≡ true) × (last : Span) × (parser (start_of (contents_of input.rest)) ≡ Some (found, at [] last))
+    by true is e = let read = ended (parser (start_of (contents_of input.rest))) e in (is, read.0, read.1)
+    by false is e = absurd cc
