@@ -257,10 +257,7 @@ module _ (parts : AllBacks (within max_depth)) where
       (λ input tail it is f. lifetime-living it input.rest tail)))
 
   -- `: A + B`
-  abbrev Colon : Relation
-  Colon = AfterType true
-
-  colon_bounds-back : (span : Span) → Back (map bare_bound) (λ found. mark (codes ":") span ++ sum_of (map bound_tokens found) span) Colon (AfterType true) colon_bounds
+  colon_bounds-back : (span : Span) → Back (map bare_bound) (λ found. mark (codes ":") span ++ sum_of (map bound_tokens found) span) (AfterType true) (AfterType true) colon_bounds
   colon_bounds-back span = whole {P = Unit {0}} (expect-rest {Second = Some'} 1 is_colon (λ place. mark (codes ":") span) (λ place. mark-length (codes ":") span) (λ place tail. colon-mark tail span)
       (shown-rest tt (λ it. refl) (bounds_here-back parts span))
       (λ input tail place seen f. type_before-colon true input.rest tail span seen))
@@ -276,7 +273,7 @@ module _ (parts : AllBacks (within max_depth)) where
     abbrev Bound : Env → Type 0
     Bound q = (map bare_lifetime q.0.1 ≡ map bare_lifetime lifetimes) × (bare_type q.1 ≡ bare_type ty)
 
-    bounded_type-rest : Rest {P = Span} {Q = Env} Bound bare_predicate predicate_tokens (λ place tokens. predicate_binder lifetimes ty place ++ (type_tokens ty ++ tokens)) Colon (AfterType true) (bounded_type start lifetimes ty) (λ q. bounded_type q.0.0 q.0.1 q.1)
+    bounded_type-rest : Rest {P = Span} {Q = Env} Bound bare_predicate predicate_tokens (λ place tokens. predicate_binder lifetimes ty place ++ (type_tokens ty ++ tokens)) (AfterType true) (AfterType true) (bounded_type start lifetimes ty) (λ q. bounded_type q.0.0 q.0.1 q.1)
     bounded_type-rest = then-rest {Second = AfterType true} (λ place. colon_bounds-back place) (λ found. close-rest start (λ q. q.0.0.0) (λ span. predicate.Ty lifetimes ty found span) (λ q span. predicate.Ty q.0.0.1 q.0.1 q.1 span)
         (λ span. rw (append-nil, append_assoc, append_assoc) refl) (λ span other q ok. rw (ok.0.0, ok.0.1, ok.1) refl))
         (λ rest tail f. f) (λ rest tail f. f)
@@ -363,13 +360,13 @@ module _ (parts : AllBacks (within max_depth)) where
       tokens = predicate_tokens x ++ (comma span ++ two.tokens);
       is = two.is ∙ rw (ended-push (comma span) predicate_tokens found x, append_assoc, append_assoc) refl;
       longer = omega (arith, length-append found (x ∷ []), two.longer);
-      some = some-left' (predicate_tokens x) (comma span ++ two.tokens) (predicate-some input.rest after.rest x one);
+      some = still-some (predicate_tokens x) (comma span ++ two.tokens) (predicate-some input.rest after.rest x one);
       again = go;
     }
       where
-        some-left' : (trees more : Trees) → is_end (trees ++ []) ≡ false → is_end (trees ++ more) ≡ false
-        some-left' [] more h = absurd cc
-        some-left' (tree ∷ trees) more h = refl
+        still-some : (trees more : Trees) → is_end (trees ++ []) ≡ false → is_end (trees ++ more) ≡ false
+        still-some [] more h = absurd cc
+        still-some (tree ∷ trees) more h = refl
 
         go : (turns : ℕ) (others : List WherePredicate) → map bare_predicate others ≡ map bare_predicate found → (tail : Trees) (last : Span) → length (predicate_tokens x ++ (comma span ++ two.tokens)) ≤ turns → ends_where tail ≡ true
             → Again (map bare_predicate) (predicates_from turns others) (at ((predicate_tokens x ++ (comma span ++ two.tokens)) ++ tail) last) tail items
