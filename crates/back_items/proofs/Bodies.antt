@@ -1,5 +1,5 @@
 -- The law of printing for the bodies of items, with the `where` clauses that stand before or in them.
-use Rattle.std.proofs.Common.{◌≡◌, Bool, true, false, ◌||◌, ◌==◌, if◌then◌else◌, [], ◌∷◌, ◌++◌, map, Option, None, refl, option_map, append_assoc, append-nil, codes}
+use Rattle.std.proofs.Common.{◌≡◌, Bool, true, false, ◌||◌, ◌==◌, if◌then◌else◌, [], ◌∷◌, ◌++◌, Option, None, refl, option_map, append_assoc, append-nil, codes}
 use Rattle.std.proofs.lemmas.Bool.{eqb-true}
 use Rattle.token_core.specs.declared.span.Span.{Span}
 use Rattle.token_core.specs.declared.tree.Delimiter.TheVariants as delimiter
@@ -11,6 +11,7 @@ use Rattle.node_core.specs.declared.data.«Data».TheVariants as body
 use Rattle.node_core.specs.declared.data.Fields.TheVariants as made
 use Rattle.node_core.specs.declared.generics.WhereClause.{WhereClause}
 use Rattle.grammar_core.specs.declared.word.Word.TheVariants as word
+use Rattle.grammar_core.specs.Grammar.{within, max_depth}
 use Rattle.grammar_core.specs.Input.{Parser, ◌>>=◌, ◌>>◌, ◌<$>◌, pure, expect, here, inside, is_end, test, upto}
 use Rattle.grammar_core.specs.Token.{Layer, ident_of, is_group, is_less, is_semicolon, mark_of}
 use Rattle.grammar_core.specs.Words.{next_word, sees}
@@ -19,17 +20,20 @@ use Rattle.item_core.specs.declared.look.ItemStart.TheVariants as begin
 use Rattle.item_core.specs.Fields.{fields_named, fields_unnamed, variants}
 use Rattle.item_core.specs.Generics.{ends_where, maybe_where}
 use Rattle.item_core.specs.Items.{body_of, data_by, enum_body, is_tuple_struct, other_struct, tuple_struct, union_body}
-use Rattle.print_core.specs.Items.{body_with, body_word, maybe_where as where_printed, named_tokens, unnamed_tokens, variant_tokens}
-use Rattle.print_core.specs.Marks.{Trees, comma, group, joined, mark, word as printed_word}
-use Rattle.bare_items.specs.Bare.{bare_data, bare_fields_named, bare_fields_unnamed, bare_variant, bare_where}
+use Rattle.print_core.specs.Items.{body_with, body_word, maybe_where as where_printed}
+use Rattle.print_core.specs.Marks.{Trees, mark, word as printed_word}
+use Rattle.bare_items.specs.Bare.{bare_data, bare_where}
 use Rattle.front_core.specs.Alike.{Relation, Any}
+use Rattle.back_core.specs.Parts.{AllBacks}
 use Rattle.back_core.specs.Printed.{Back}
 use Rattle.back_core.proofs.Marks.{is_group-mark, mark-length, mark_of-mark}
 use Rattle.back_core.proofs.Steps.{Free, Rest, close-rest, here-rest, hole, pure-rest, shown-rest, sure-rest, test-rest, then-rest, whole}
 use Rattle.back_core.proofs.Takes.{expect-rest}
 use Rattle.back_items.specs.Follow.{AfterWhere, BeginsWhere}
 use Rattle.back_items.proofs.Always.{Always, if-always, pure-always, refuse-always, so-always, then-always}
-use Rattle.back_items.proofs.Fields.{Grouped, brace-apart}
+use Rattle.back_items.proofs.Fields.{Grouped, brace-apart, fields_named-back, fields_unnamed-back}
+use Rattle.back_items.proofs.Variants.{variants-back}
+use Rattle.back_items.proofs.Wheres.{maybe_where-back}
 
 -- a body, with its clause
 abbrev pub Body : Type 0
@@ -143,14 +147,12 @@ group-unopened (tree ∷ trees) h = by (out-TokenTree tree) refl
 abbrev pub BeginsBody : Relation
 BeginsBody rest tail = is_less tail ≡ false
 
-module _ (fields_named-back : Back bare_fields_named named_tokens (Grouped delimiter.Brace) Any fields_named) (fields_unnamed-back : Back bare_fields_unnamed unnamed_tokens (Grouped delimiter.Parenthesis) Any fields_unnamed)
-    (variants-back : (span : Span) → Back (map bare_variant) (λ items. group delimiter.Brace (joined (comma span) (map variant_tokens items)) span) (Grouped delimiter.Brace) Any (inside delimiter.Brace variants))
-    (maybe_where-back : Back (option_map bare_where) where_printed BeginsWhere AfterWhere maybe_where) where
+module _ (parts : AllBacks (within max_depth)) where
   tuple_struct-back : Back bare_body body_tokens (Grouped delimiter.Parenthesis) Any tuple_struct
   unfolding tuple_struct
   tuple_struct-back = whole (here-rest (λ start.
-      then-rest {Second = BeginsWhere} (λ place. fields_unnamed-back) (λ unnamed.
-      then-rest {Second = AfterWhere} (λ place. maybe_where-back) (λ clause.
+      then-rest {Second = BeginsWhere} (λ place. fields_unnamed-back parts) (λ unnamed.
+      then-rest {Second = AfterWhere} (λ place. maybe_where-back parts) (λ clause.
       expect-rest {Second = Any} 1 is_semicolon (λ place. mark (codes ";") place) (mark-length (codes ";")) (λ place tail. semicolon-mark tail place)
       (close-rest start (λ q. q.0.0.1) (λ span. (clause, body.Struct (record { fields = made.Unnamed unnamed; span = span }))) (λ q span. (q.1, body.Struct (record { fields = made.Unnamed q.0.1; span = span })))
       (λ span. rw (append-nil, append_assoc) refl) (λ span other q ok. rw (ok.0.1, ok.1) refl))
@@ -171,7 +173,7 @@ module _ (fields_named-back : Back bare_fields_named named_tokens (Grouped delim
   braced_struct span braced = if braced then (λ named. body.Struct (record { fields = made.Named named; span = span })) <$> fields_named else expect 1 is_semicolon >> pure (body.Struct (record { fields = made.Unit; span = span }))
 
   braced-rest : (span : Span) (braced : Bool) → Rest {P = Span} {Q = Unit {0} × Span} (λ q. Unit {0}) bare_data (body_with None) hole (Braced braced) Any (braced_struct span braced) (λ q. braced_struct q.1 braced)
-  braced-rest span true = then-rest {Second = Any} (λ place. fields_named-back) (λ it. pure-rest span (body.Struct (record { fields = made.Named it; span = span })) (λ q. body.Struct (record { fields = made.Named q.1; span = q.0.1 })) (rw append-nil refl) (λ q ok. rw (ok.1) refl))
+  braced-rest span true = then-rest {Second = Any} (λ place. fields_named-back parts) (λ it. pure-rest span (body.Struct (record { fields = made.Named it; span = span })) (λ q. body.Struct (record { fields = made.Named q.1; span = q.0.1 })) (rw append-nil refl) (λ q ok. rw (ok.1) refl))
       (λ rest tail f. tt) (λ rest tail f. f)
   braced-rest span false = expect-rest {Second = Any} 1 is_semicolon (λ place. mark (codes ";") place) (mark-length (codes ";")) (λ place tail. semicolon-mark tail place)
       (pure-rest span (body.Struct (record { fields = made.Unit; span = span })) (λ q. body.Struct (record { fields = made.Unit; span = q.1 })) (rw append-nil refl) (λ q ok. refl))
@@ -183,12 +185,12 @@ module _ (fields_named-back : Back bare_fields_named named_tokens (Grouped delim
 
   enum_body-back : Back bare_data (body_with None) AfterWhere Any enum_body
   unfolding enum_body
-  enum_body-back = whole (here-rest (λ span. then-rest {Second = Any} (λ (place : Unit {0}). variants-back span)
+  enum_body-back = whole (here-rest (λ span. then-rest {Second = Any} (λ (place : Unit {0}). variants-back parts span)
       (λ found. pure-rest tt (body.Enum (record { variants = found; span = span })) (λ q. body.Enum (record { variants = q.1; span = q.0.1 })) (rw append-nil refl) (λ q ok. rw (ok.1) refl)) (λ rest tail f. tt) (λ rest tail f. brace-ends tail f.0)))
 
   union_body-back : Back bare_data (body_with None) AfterWhere Any union_body
   unfolding union_body
-  union_body-back = whole (here-rest (λ span. then-rest {Second = Any} (λ (place : Unit {0}). fields_named-back)
+  union_body-back = whole (here-rest (λ span. then-rest {Second = Any} (λ (place : Unit {0}). fields_named-back parts)
       (λ named. pure-rest tt (body.Union (record { fields = named; span = span })) (λ q. body.Union (record { fields = q.1; span = q.0.1 })) (rw append-nil refl) (λ q ok. rw (ok.1) refl)) (λ rest tail f. tt) (λ rest tail f. brace-ends tail f.0)))
 
   data_by-back : (begins : ItemStart) → Back bare_data (body_with None) AfterWhere Any (data_by begins)
@@ -214,7 +216,7 @@ module _ (fields_named-back : Back bare_fields_named named_tokens (Grouped delim
 
   opened-rest : (begins : ItemStart) (unnamed : Bool) → Rest {P = Unit {0}} {Q = Unit {0}} Free bare_body body_tokens hole (Opened unnamed) Any (if unnamed then tuple_struct else other_body begins) (λ q. if unnamed then tuple_struct else other_body begins)
   opened-rest begins true = shown-rest tt (λ it. refl) tuple_struct-back
-  opened-rest begins false = then-rest {Second = AfterWhere} (λ place. maybe_where-back) (λ clause.
+  opened-rest begins false = then-rest {Second = AfterWhere} (λ place. maybe_where-back parts) (λ clause.
       sure-rest {Second = Any} {V = Kind begins} (λ place. data_by-back begins) (data-kind begins).of (λ it known. pure-rest tt (clause, it) (λ q. (q.0.1, q.1)) (rw append-nil (known.behind clause)) (λ q ok. rw (ok.0.1, ok.1) refl))
       (λ rest tail f. tt) (λ rest tail f. f))
       (λ rest tail f. f) (λ rest tail f. f)

@@ -6,6 +6,7 @@ use Rattle.node_core.specs.declared.attr.Attribute.{Attribute}
 use Rattle.node_core.specs.declared.data.Visibility.{Visibility}
 use Rattle.node_core.specs.declared.derive.DeriveInput.{DeriveInput}
 use Rattle.grammar_core.specs.declared.word.Word.TheVariants as word
+use Rattle.grammar_core.specs.Grammar.{within, max_depth}
 use Rattle.grammar_core.specs.Input.{Parser, ◌>>=◌, pure, skip, take_as, upto}
 use Rattle.grammar_core.specs.Token.{ident_of, is_group}
 use Rattle.grammar_core.specs.Words.{name_of, named_words, next_word, other_keywords, sees, word_of}
@@ -20,16 +21,19 @@ use Rattle.print_core.specs.Marks.{Trees, word as printed_word}
 use Rattle.bare_items.specs.Bare.{bare_attribute, bare_derive_input, bare_visibility}
 use Rattle.front_core.specs.Alike.{Relation, Any}
 use Rattle.back_core.specs.Follow.{Some'}
+use Rattle.back_core.specs.Parts.{AllBacks}
 use Rattle.back_core.specs.Printed.{Back}
 use Rattle.back_core.proofs.Follows.{never}
 use Rattle.back_core.proofs.Marks.{mark_of-word, name_of-Ident, out-Ident, word-length}
 use Rattle.back_core.proofs.Steps.{Rest, close-rest, here-rest, sure-rest, test-rest, then-rest, whole}
 use Rattle.back_core.proofs.Takes.{skip-rest, take_as-rest}
-use Rattle.back_items.specs.Follow.{AfterParams, AfterVisibility, AfterWhile, restricts}
+use Rattle.back_items.specs.Follow.{AfterVisibility, AfterWhile, restricts}
 use Rattle.back_items.proofs.Always.{Always, so-always, then-always}
-use Rattle.back_items.proofs.Bodies.{BeginsBody, Body, Keyword, bare_body, body-keyword, body_tokens, no-body, start_word}
-use Rattle.back_items.proofs.Fields.{AttributesBack, Plain, VisibilityBack, mark-some, no-restriction, plain-attributes, pub-plain}
-use Rattle.back_items.proofs.Params.{bare_params, params_tokens}
+use Rattle.back_items.proofs.Attributes.{attributes-back}
+use Rattle.back_items.proofs.Bodies.{BeginsBody, Body, Keyword, body-keyword, body_of-back, no-body, start_word}
+use Rattle.back_items.proofs.Fields.{Plain, mark-some, no-restriction, plain-attributes, pub-plain}
+use Rattle.back_items.proofs.Params.{params-back}
+use Rattle.back_items.proofs.Visibilities.{visibility-back}
 use Rattle.back_items.proofs.Whiles.{while-printed}
 
 -- a keyword stands behind a visibility, and tells which item begins
@@ -57,20 +61,20 @@ unfolding item_start printed_word next_word ident_of word_of named_words other_k
 union-begun rest tail span = (rw (out-Ident (record { text = codes "union"; raw = false; span = span })) refl, word-visible (codes "union") rest tail span (rw (out-Ident (record { text = codes "union"; raw = false; span = span })) refl))
 
 -- the keyword of an item, which is one word
-record Word' (begins : ItemStart) : Type 0 where
+record OneWord (begins : ItemStart) : Type 0 where
   one : (span : Span) → length (start_word begins span) ≡ 1
   begun : (rest tail : Trees) (span : Span) → Begun begins rest (start_word begins span ++ tail)
 
-struct-word : Word' begin.Struct
+struct-word : OneWord begin.Struct
 struct-word = record { one = word-length (codes "struct"); begun = struct-begun }
 
-enum-word : Word' begin.Enum
+enum-word : OneWord begin.Enum
 enum-word = record { one = word-length (codes "enum"); begun = enum-begun }
 
-union-word : Word' begin.Union
+union-word : OneWord begin.Union
 union-word = record { one = word-length (codes "union"); begun = union-begun }
 
-module _ (attributes-back : AttributesBack) (visibility-back : VisibilityBack) (params-back : Back bare_params params_tokens Any AfterParams params) (body_of-back : (begins : ItemStart) → Back bare_body body_tokens BeginsBody Any (body_of begins)) where
+module _ (parts : AllBacks (within max_depth)) where
   -- what comes behind the visibility
   abbrev item_rest : Span → List Attribute → Visibility → ItemStart → Parser DeriveInput
   item_rest start attrs vis begins = skip >>= (λ keyword. take_as name_of >>= (λ ident. params >>= (λ generics. body_of begins >>= (λ found. upto start >>= (λ span. pure (record {
@@ -92,11 +96,11 @@ module _ (attributes-back : AttributesBack) (visibility-back : VisibilityBack) (
     abbrev ItemRest : ItemStart → Type 0
     ItemRest begins = Rest {P = Span} {Q = Env} (Bound attrs vis) bare_derive_input derive_input_tokens (λ place tokens. attributes_tokens attrs ++ (visibility_tokens vis ++ tokens)) (Begun begins) Any (item_rest start attrs vis begins) (λ q. item_rest q.0.0.1 q.0.1 q.1 begins)
 
-    item-rest : (begins : ItemStart) → Word' begins → ItemRest begins
+    item-rest : (begins : ItemStart) → OneWord begins → ItemRest begins
     item-rest begins keyword = skip-rest {Second = Any} (λ place. start_word begins place) keyword.one
         (take_as-rest {Second = Any} name_of tree.Ident (λ rest tail it is. name_of-Ident rest tail it is) (λ name.
-        then-rest {Second = BeginsBody} (λ place. params-back) (λ generics.
-        sure-rest {Second = Any} {V = Keyword begins} (λ place. body_of-back begins) (body-keyword begins).of (λ found known.
+        then-rest {Second = BeginsBody} (λ place. params-back parts) (λ generics.
+        sure-rest {Second = Any} {V = Keyword begins} (λ place. body_of-back parts begins) (body-keyword begins).of (λ found known.
         close-rest start (λ q. q.0.0.0.0.1)
         (λ span. record { attrs = attrs; vis = vis; ident = name; generics = record { params = generics.0; where_clause = found.0; span = generics.1 }; body = found.1; span = span })
         (λ q span. record { attrs = q.0.0.0.1; vis = q.0.0.1; ident = name; generics = record { params = q.0.1.0; where_clause = q.1.0; span = q.0.1.1 }; body = q.1.1; span = span })
@@ -129,8 +133,8 @@ module _ (attributes-back : AttributesBack) (visibility-back : VisibilityBack) (
   pub item-back : Back bare_derive_input derive_input_tokens Some' Any item
   unfolding item
   item-back = whole (here-rest (λ start.
-      then-rest {Second = Plain} (λ place. attributes-back Some' (λ rest tail seen. mark-some 35 tail refl seen)) (λ attrs.
-      then-rest {Second = AfterVisibility Plain} (λ place. visibility-back Plain pub-plain) (λ vis.
+      then-rest {Second = Plain} (λ place. attributes-back parts Some' (λ rest tail seen. mark-some 35 tail refl seen)) (λ attrs.
+      then-rest {Second = AfterVisibility Plain} (λ place. visibility-back parts Plain pub-plain) (λ vis.
       test-rest {by = Begun} item_start (item_by start attrs vis) (λ begins rest tail is f. f))
       (λ rest tail f. f) (λ rest tail f. f))
       (λ rest tail f. plain-attributes rest tail f) (λ rest tail f. f)))

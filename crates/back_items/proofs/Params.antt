@@ -21,7 +21,7 @@ use Rattle.token_core.specs.declared.tree.TokenTree.TheOpen.{TokenTree-F}
 use Rattle.token_core.specs.Span.{joined as joined_spans}
 use Rattle.std.proofs.lemmas.Bool.{eqb-true}
 use Rattle.grammar_core.specs.Grammar.{within, max_depth}
-use Rattle.grammar_core.specs.Input.{Input, Parser, ◌>>=◌, ◌<$>◌, pure, after_eat, is_end, skipped, take_as, eat, first_span, upto}
+use Rattle.grammar_core.specs.Input.{Input, Parser, ◌>>=◌, ◌<$>◌, pure, after_eat, skipped, take_as, eat, first_span, upto}
 use Rattle.grammar_core.specs.Look.{begins_constant, is_there}
 use Rattle.grammar_core.specs.Paths.{joined_bounds, one_bound}
 use Rattle.grammar_core.specs.Readers.{constant_level}
@@ -227,10 +227,10 @@ const-param rest tail span is = record {
   some = refl;
 }
 
-hash-open : (tail : Trees) → is_mark 35 tail ≡ true → (is_end tail ≡ false) × (is_mark 62 tail ≡ false)
+hash-open : (rest tail : Trees) → is_mark 35 tail ≡ true → Open rest tail
 unfolding mark_of
-hash-open [] is = absurd cc
-hash-open (tree ∷ trees) is = (refl, rw (eqb-true (mark_of (tree ∷ trees)) 35 is) refl)
+hash-open rest [] is = absurd cc
+hash-open rest (tree ∷ trees) is = (refl, rw (eqb-true (mark_of (tree ∷ trees)) 35 is) refl)
 
 -- parameters, with where they stand
 abbrev pub Params : Type 0
@@ -339,19 +339,16 @@ module _ (parts : AllBacks (within max_depth)) where
     param_by-rest false true = const_param-rest
     param_by-rest false false = made-rest param.Ty (λ it. refl) (λ one other same. ap param.Ty same) type_param-rest
 
-  begins-open : (rest tail : Trees) → is_mark 35 tail ≡ true → Open rest tail
-  begins-open rest tail is = hash-open tail is
-
   pub generic_param-back : Back bare_generic_param param_tokens Open AfterParam generic_param
   unfolding generic_param
-  generic_param-back = whole (here-rest (λ start. then-rest {Second = BeginsParam} (λ (place : Span). attributes-back parts Open begins-open) (λ attrs.
+  generic_param-back = whole (here-rest (λ start. then-rest {Second = BeginsParam} (λ (place : Span). attributes-back parts Open hash-open) (λ attrs.
       test-rest {by = λ lifetime. BeginsParam} (λ trees. is_there (lifetime_of trees)) (λ lifetime. test-rest {by = λ constant. BeginsParam} (sees word.Const) (λ constant. param_by-rest start attrs lifetime constant)
       (λ constant rest tail is f. (f.constant ∙ is, f))) (λ lifetime rest tail is f. (f.lifetime ∙ is, f)))
       (λ rest tail f. (never (is_mark 35) rest tail f.hash, (f.some, f.greater))) (λ rest tail f. f)))
 
   pub one_type_param-back : Back bare_type_param type_param_tokens Open AfterParam one_type_param
   unfolding one_type_param
-  one_type_param-back = whole (here-rest (λ start. then-rest {Second = BeginsParam} (λ (place : Span). attributes-back parts Open begins-open) (λ attrs. type_param-rest start attrs)
+  one_type_param-back = whole (here-rest (λ start. then-rest {Second = BeginsParam} (λ (place : Span). attributes-back parts Open hash-open) (λ attrs. type_param-rest start attrs)
       (λ rest tail f. (never (is_mark 35) rest tail f.hash, (f.some, f.greater))) (λ rest tail f. f)))
 
   -- ---- all parameters
