@@ -240,6 +240,26 @@ fn printed_items_are_read_back(rt: HostRuntime) -> Tested<()> {
     Ok(())
 }
 
+// A bad value ends at its first comma, but the tokens behind it, once they are printed, may close what it
+// opens: `[x,]` is no type, and its printing `[x]` is one.
+#[test]
+fn a_bad_value_may_be_closed_by_what_is_printed_behind_it(rt: HostRuntime) -> Tested<()> {
+    let alloc = rt.alloc();
+    let text = "a = b::<c, d = [x,] > -1";
+    let Ok(items) = parse(alloc, text)? else {
+        return Err(Fail::new(format_args!("{text} is refused")));
+    };
+    let found = told(alloc, items.as_slice())?;
+    assert_eq!(rt; found.as_str(), "bad 0..9 a = b ::< c 4..5;value 11..24 d = [x] > - 1;");
+    let items = Ok(items);
+    let tokens = listed(items)?.to_token_stream(alloc)?;
+    let Ok(again) = NestedMeta::parse_meta_list(alloc, &tokens) else {
+        return Err(Fail::new(format_args!("its printing is refused")));
+    };
+    assert_eq!(rt; again.len(), 1);
+    Ok(())
+}
+
 /// How a value of so many minus signs and a name is read.
 fn deep(alloc: Global, levels: usize) -> Tested<bool> {
     let mut text = Text::from_str(alloc, "a = ")?;
