@@ -1,5 +1,5 @@
 -- What begins at tokens that are alike is the same.
-use Rattle.std.proofs.Common.{◌≡◌, Bool, true, false, List, ◌∷◌, refl, ap}
+use Rattle.std.proofs.Common.{◌≡◌, ◌==◌, Bool, true, false, List, ◌∷◌, refl, ap}
 use Rattle.std.proofs.lemmas.Bool.{both_ways}
 use Rattle.token_core.specs.declared.tree.Delimiter.TheVariants as delimiter
 use Rattle.token_core.specs.declared.tree.TokenTree.{TokenTree, out-TokenTree}

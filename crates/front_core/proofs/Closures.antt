@@ -1,5 +1,5 @@
 -- The law of fronts for closures.
-use Rattle.std.proofs.Common.{◌≡◌, ℕ, Bool, true, false, if◌then◌else◌, List, [], ◌∷◌, ◌++◌, Some, None, refl, arith, ap, sym, ◌∙◌}
+use Rattle.std.proofs.Common.{◌≡◌, ℕ, Bool, true, false, if◌then◌else◌, List, [], ◌∷◌, Some, None, refl, ap, sym, ◌∙◌}
 use Rattle.std.proofs.lemmas.Option.{some_pair_parts}
 use Rattle.token_core.specs.declared.span.Span.{Span}
 use Rattle.token_core.specs.declared.tree.Delimiter.{Delimiter}
@@ -128,7 +128,7 @@ module _ (readers : Readers) (parts : AllFronts readers) where
   closure_body-front limit = record { at = λ input. by input (is_arrow input.rest) refl }
     where
       by : (input : Input) (b : Bool) → is_arrow input.rest ≡ b → FrontAt limit Bars AlikeBodies false true (closure_body readers) (closure_body readers) input
-      by input true is = weak_at-front (λ rest tail h. h) (alike-mark 124 refl refl) (eaten-front 2 is_arrow is (then_at-front (expect_at-front false 2 is_arrow (λ h. absurd cc) alike-arrow (pair-enough 45 62 refl)) (λ _. typed_body-front limit)))
+      by input true is = weak_at-front (λ rest tail h. h) (alike-mark 124 refl refl) (eaten-front typed_body typed_body (pure any_level) (pure any_level) 2 is_arrow is (then_at-front (expect_at-front false 2 is_arrow (λ h. absurd cc) alike-arrow (pair-enough 45 62 refl)) (λ _. typed_body-front limit)))
       by input false is = weak_at-front (λ rest tail h. h) (λ rest tail same. same.bar) (stay-front any_level (rw is refl) (λ tail last same fits. rw (← same.arrow, is) refl))
 
   pub closure_head-front : (limit : ℕ) → Fronts limit Alike AlikeBodies true true (closure_head readers) (closure_head readers)

@@ -1,5 +1,5 @@
 -- The tokens that a closure keeps are its head, before any body.
-use Rattle.std.proofs.Common.{◌≡◌, ℕ, ◌-◌, List, ◌++◌, length, take, Some, refl, ap, sym, ◌∙◌}
+use Rattle.std.proofs.Common.{◌≡◌, ℕ, ◌-◌, ◌<◌, List, ◌++◌, length, take, Some, refl, ap, sym, ◌∙◌}
 use Rattle.std.proofs.lemmas.Option.{some_pair_parts}
 use Rattle.token_core.specs.Span.{joined}
 use Rattle.token_core.specs.declared.span.Span.{Span}
@@ -24,6 +24,8 @@ pub record ClosureRead (readers : Readers) (input after : Input) (found : Expr) 
   pub between : Input
   pub body : Expr
   pub is : input.rest ≡ kept ++ between.rest
+  pub some : 0 < length kept
+  pub head : closure_head readers input ≡ Some ((start, level), between)
   pub body_is : readers.expr level between ≡ Some (body, after)
   pub found_is : found ≡ make.expr_closure kept body (joined start after.last)
   pub again : (tail : List TokenTree) (last : Span) (other : Expr) (later : Input) → AlikeBodies between.rest tail → readers.expr level (at tail between.last) ≡ Some (other, later)
@@ -49,6 +51,8 @@ module _ (readers : Readers) (parts : AllFronts readers) where
         between = between;
         body = two.0;
         is = took.is;
+        some = took.some;
+        head = one.2;
         body_is = two.2 ∙ ap (λ after. Some (two.0, after)) both.1;
         found_is = sym both.0 ∙ ap (λ after. make.expr_closure took.read two.0 (joined head.0 after.last)) both.1;
         again = λ tail last other later alike e. closure-parts readers (at (took.read ++ tail) last) ∙ rw (took.again tail last alike, take-read took.read tail, e) refl;

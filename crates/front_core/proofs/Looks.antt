@@ -161,10 +161,10 @@ closed (TokenTree-F.Punct punct) h =
 -- ---- a `|`
 
 -- what a rule sees of it
-record Barred (layer : Layer) : Type 0 where
-  mark : mark_in layer ≡ 124
-  word : word_at (ident_in layer) ≡ word.None
-  pair : (first : ℕ) (second : Bool) → (124 == first) ≡ false → (joint_in layer && (mark_in layer == first && second)) ≡ false
+pub record Barred (layer : Layer) : Type 0 where
+  pub mark : mark_in layer ≡ 124
+  pub word : word_at (ident_in layer) ≡ word.None
+  pub pair : (first : ℕ) (second : Bool) → (124 == first) ≡ false → (joint_in layer && (mark_in layer == first && second)) ≡ false
 
 pub barred : (layer : Layer) → (mark_in layer == 124) ≡ true → Barred layer
 barred (TokenTree-F.Ident ident) h = absurd cc
@@ -200,21 +200,21 @@ pub alike-mark : (ch : ℕ) → (0 == ch) ≡ false → (44 == ch) ≡ false →
 unfolding mark_of
 alike-mark ch none comma rest tail (stop _ _ h g) = stop-mark ch rest h none comma ∙ sym (stop-mark ch tail g none comma)
 alike-mark ch none comma _ _ (close one other rest tail like closes) = ap (λ mark. mark == ch) like.mark
-alike-mark ch none comma _ _ (bar one other rest tail like barred same) = ap (λ mark. mark == ch) like.mark
+alike-mark ch none comma _ _ (bar one other rest tail like is same) = ap (λ mark. mark == ch) like.mark
 alike-mark ch none comma _ _ (more one other rest tail like alike) = ap (λ mark. mark == ch) like.mark
 
 pub alike-group : (between : Delimiter) (rest tail : List TokenTree) → Alike rest tail → is_group between rest ≡ is_group between tail
 unfolding is_group
 alike-group between rest tail (stop _ _ h g) = stop-group between rest h ∙ sym (stop-group between tail g)
 alike-group between _ _ (close one other rest tail like closes) = like.group between
-alike-group between _ _ (bar one other rest tail like barred same) = like.group between
+alike-group between _ _ (bar one other rest tail like is same) = like.group between
 alike-group between _ _ (more one other rest tail like alike) = like.group between
 
 pub alike-word : (rest tail : List TokenTree) → Alike rest tail → next_word rest ≡ next_word tail
 unfolding next_word ident_of
 alike-word rest tail (stop _ _ h g) = stop-word rest h ∙ sym (stop-word tail g)
 alike-word _ _ (close one other rest tail like closes) = like.word
-alike-word _ _ (bar one other rest tail like barred same) = like.word
+alike-word _ _ (bar one other rest tail like is same) = like.word
 alike-word _ _ (more one other rest tail like alike) = like.word
 
 pub alike-sees : (wanted : Word) (rest tail : List TokenTree) → Alike rest tail → sees wanted rest ≡ sees wanted tail
@@ -224,14 +224,14 @@ pub alike-lifetime : (rest tail : List TokenTree) → Alike rest tail → is_the
 unfolding lifetime_of
 alike-lifetime rest tail (stop _ _ h g) = stop-lifetime rest h ∙ sym (stop-lifetime tail g)
 alike-lifetime _ _ (close one other rest tail like closes) = like.lifetime
-alike-lifetime _ _ (bar one other rest tail like barred same) = like.lifetime
+alike-lifetime _ _ (bar one other rest tail like is same) = like.lifetime
 alike-lifetime _ _ (more one other rest tail like alike) = like.lifetime
 
 pub alike-literal : (rest tail : List TokenTree) → Alike rest tail → is_there (literal_of rest) ≡ is_there (literal_of tail)
 unfolding literal_of
 alike-literal rest tail (stop _ _ h g) = stop-literal rest h ∙ sym (stop-literal tail g)
 alike-literal _ _ (close one other rest tail like closes) = like.literal
-alike-literal _ _ (bar one other rest tail like barred same) = like.literal
+alike-literal _ _ (bar one other rest tail like is same) = like.literal
 alike-literal _ _ (more one other rest tail like alike) = like.literal
 
 name-word : (w : Word) (ident : Ident) → is_there (name_at w (Some ident)) ≡ is_name w
@@ -284,8 +284,8 @@ alike-pair first second none comma semicolon apart none' comma' rest tail (stop 
     pair-first first second rest (stop-mark first rest h none comma) ∙ sym (pair-first first second tail (stop-mark first tail g none comma))
 alike-pair first second none comma semicolon apart none' comma' _ _ (close one other rest tail like closes) =
     pair-closed first second one rest semicolon closes ∙ sym (pair-like first second one other tail semicolon like closes)
-alike-pair first second none comma semicolon apart none' comma' _ _ (bar one other rest tail like barred same) =
-    pair-barred first second one rest apart barred ∙ sym (pair-barred first second other tail apart (like-barred one other rest tail like barred))
+alike-pair first second none comma semicolon apart none' comma' _ _ (bar one other rest tail like is same) =
+    pair-barred first second one rest apart is ∙ sym (pair-barred first second other tail apart (like-barred one other rest tail like is))
 alike-pair first second none comma semicolon apart none' comma' _ _ (more one other rest tail like alike) =
     rw (like.joint, like.mark, alike-mark second none' comma' rest tail alike) refl
 
@@ -306,8 +306,8 @@ alike-closed_dots rest tail (stop _ _ h g) =
     and_left _ _ (pair-first 46 46 rest (stop-mark 46 rest h refl refl)) ∙ sym (and_left _ _ (pair-first 46 46 tail (stop-mark 46 tail g refl refl)))
 alike-closed_dots _ _ (close one other rest tail like closes) =
     and_left _ _ (pair-closed 46 46 one rest refl closes) ∙ sym (and_left _ _ (pair-like 46 46 one other tail refl like closes))
-alike-closed_dots _ _ (bar one other rest tail like barred same) =
-    and_left _ _ (pair-barred 46 46 one rest refl barred) ∙ sym (and_left _ _ (pair-barred 46 46 other tail refl (like-barred one other rest tail like barred)))
+alike-closed_dots _ _ (bar one other rest tail like is same) =
+    and_left _ _ (pair-barred 46 46 one rest refl is) ∙ sym (and_left _ _ (pair-barred 46 46 other tail refl (like-barred one other rest tail like is)))
 alike-closed_dots _ _ (more one other rest tail like alike) =
     rw (alike-dots (one ∷ rest) (other ∷ tail) (more one other rest tail like alike), alike-pair 46 61 refl refl refl refl refl refl rest tail alike) refl
 
@@ -335,8 +335,8 @@ alike-turbofish rest tail (stop _ _ h g) =
     and_left _ _ (pair-first 58 58 rest (stop-mark 58 rest h refl refl)) ∙ sym (and_left _ _ (pair-first 58 58 tail (stop-mark 58 tail g refl refl)))
 alike-turbofish _ _ (close one other rest tail like closes) =
     and_left _ _ (pair-closed 58 58 one rest refl closes) ∙ sym (and_left _ _ (pair-like 58 58 one other tail refl like closes))
-alike-turbofish _ _ (bar one other rest tail like barred same) =
-    and_left _ _ (pair-barred 58 58 one rest refl barred) ∙ sym (and_left _ _ (pair-barred 58 58 other tail refl (like-barred one other rest tail like barred)))
+alike-turbofish _ _ (bar one other rest tail like is same) =
+    and_left _ _ (pair-barred 58 58 one rest refl is) ∙ sym (and_left _ _ (pair-barred 58 58 other tail refl (like-barred one other rest tail like is)))
 alike-turbofish _ _ (more one other rest tail like alike) = fish-more one other rest tail like alike
 
 -- ---- operators
@@ -345,7 +345,7 @@ alike-double : (first : ℕ) (rest tail : List TokenTree) → Alike rest tail �
 unfolding mark_of
 alike-double first rest tail (stop _ _ h g) = stop-double first rest h ∙ sym (stop-double first tail g)
 alike-double first _ _ (close one other rest tail like closes) = ap (double_of first) like.mark
-alike-double first _ _ (bar one other rest tail like barred same) = ap (double_of first) like.mark
+alike-double first _ _ (bar one other rest tail like is same) = ap (double_of first) like.mark
 alike-double first _ _ (more one other rest tail like alike) = ap (double_of first) like.mark
 
 pub alike-operator : (rest tail : List TokenTree) → Alike rest tail → operator_of rest ≡ operator_of tail

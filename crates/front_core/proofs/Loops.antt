@@ -47,4 +47,4 @@ module _ {A : Type 0} (closing : ℕ) (item : Parser A) {End : Relation} (none :
   until_before-front limit = turns-front {loop = λ turns. until_from closing item turns []} (λ limit turns. until_from-front limit turns [])
 
 pub until-front : {A : Type 0} (closing : ℕ) (item : Parser A) → (0 == closing) ≡ false → Rule true item → Rule true (until closing item)
-until-front closing item none rule limit = until_before-front closing item none any-before rule limit
+until-front closing item none rule limit = until_before-front closing item none (any-before (is_mark closing)) rule limit

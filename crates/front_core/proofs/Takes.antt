@@ -228,8 +228,8 @@ eat_as-front {A} {B} {limit} {End} {next} {following} of none same h = record { 
 abbrev pub Before : Relation → (List TokenTree → Bool) → Type 0
 Before Behind holds = (tree : TokenTree) (rest tail : List TokenTree) → holds (tree ∷ rest) ≡ true → Behind rest tail → Alike (tree ∷ rest) (tree ∷ tail)
 
-pub any-before : {holds : List TokenTree → Bool} → Before Alike holds
-any-before tree rest tail is alike = alike-one tree rest tail alike
+pub any-before : (holds : List TokenTree → Bool) → Before Alike holds
+any-before holds tree rest tail is alike = alike-one tree rest tail alike
 
 -- a token that may be there, and else more is read
 pub eat_or_before-front : {A : Type 0} {limit : ℕ} {Behind End : Relation} {any : Bool} {one one' two two' : Parser A} (holds : List TokenTree → Bool) → holds [] ≡ false
@@ -278,7 +278,7 @@ pub eat_or-front : {A : Type 0} {limit : ℕ} {End : Relation} {any : Bool} {one
     → Fronts limit Alike End false any one one'
     → Fronts limit Alike End true true two two'
     → Fronts limit Alike End true true (eat 1 holds >>= (λ b. if b then one else two)) (eat 1 holds >>= (λ b. if b then one' else two'))
-eat_or-front holds none same h g = eat_or_before-front holds none same any-before h g
+eat_or-front holds none same h g = eat_or_before-front holds none same (any-before holds) h g
 
 -- ---- groups, behind which anything may follow
 
@@ -459,11 +459,11 @@ expected : {A : Type 0} (b : Bool) (stands input after : Input) (found : A) (one
 expected true stands input after found one two e = e
 expected false stands input after found one two e = absurd cc
 
-pub eaten-front : {A : Type 0} {limit : ℕ} {End : Relation} {some any : Bool} {one one' two two' : Parser A} {input : Input} (count : ℕ) (holds : List TokenTree → Bool) → holds input.rest ≡ true
+pub eaten-front : {A : Type 0} {limit : ℕ} {End : Relation} {some any : Bool} {input : Input} (one one' two two' : Parser A) (count : ℕ) (holds : List TokenTree → Bool) → holds input.rest ≡ true
     → FrontAt limit Alike End some any (expect count holds >>= (λ _. one)) (expect count holds >>= (λ _. one')) input
     → FrontAt limit Alike End some any (eat count holds >>= (λ b. if b then one else two)) (eat count holds >>= (λ b. if b then one' else two')) input
 unfolding after_eat
-eaten-front {one' = one'} {two' = two'} {input = input} count holds is h = record {
+eaten-front {input = input} one one' two two' count holds is h = record {
   of = λ after found e.
       let took = h.of after found (rw is (rw is at e)) in
       record {
