@@ -17,7 +17,7 @@ use Rattle.print_core.specs.Marks.{Trees, comma, ident}
 use Rattle.print_core.specs.Nodes.{expr_tokens, path_tokens, type_tokens}
 use Rattle.bare_core.specs.Bare.{bare_expr, bare_fn_arg, bare_ident, bare_path, bare_type}
 use Rattle.front_core.specs.Alike.{Relation, Any}
-use Rattle.back_core.specs.Follow.{Some'}
+use Rattle.back_core.specs.Follow.{Some', begins_expr}
 use Rattle.back_core.specs.Parts.{AllBacks}
 use Rattle.back_core.specs.Printed.{Back, ReadBack, separated}
 use Rattle.back_core.proofs.AtomStarts.{expr-some}
@@ -75,6 +75,10 @@ pub idents_of-back : ReadBack (map bare_ident) (separated ident) idents_of
 unfolding idents_of
 idents_of-back = list-back name-back (λ rest tail f. f) (λ rest. tt) (λ rest tail span. tt)
 
+-- some token begins an expression
+pub any-some : (tail : Trees) → begins_expr any_level tail ≡ true → is_end tail ≡ false
+any-some = expr-some any_level
+
 module _ (parts : AllBacks (within max_depth)) where
   pub type_of-back : ReadBack bare_type type_tokens type_of
   unfolding type_of
@@ -98,4 +102,4 @@ module _ (parts : AllBacks (within max_depth)) where
 
   pub exprs_of-back : ReadBack (map bare_expr) (separated expr_tokens) exprs_of
   unfolding exprs_of
-  exprs_of-back = list-back (parts.expr any_level) (λ rest tail f. expr-some any_level tail f.begins) (expr-end any_level) (expr_before-comma any_level)
+  exprs_of-back = list-back (parts.expr any_level) (λ rest tail f. any-some tail f.begins) (expr-end any_level) (expr_before-comma any_level)
