@@ -19,7 +19,7 @@ use std::alloc::Global;
 
 /// What stands in a list.
 #[derive(Drop)]
-pub(crate) enum Found {
+pub enum Found {
     Item(NestedMeta),
     /// The `#` of an attribute that takes the place of a value.
     Attribute(Span),
@@ -27,7 +27,7 @@ pub(crate) enum Found {
 
 /// How an item begins.
 #[derive(Clone, Copy, Debug, PartialEq, Eq)]
-pub(crate) enum ItemStart {
+pub enum ItemStart {
     Literal,
     /// `true` or `false`, and no `=` behind it.
     Boolean,

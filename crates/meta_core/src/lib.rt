@@ -9,4 +9,6 @@ mod nested;
 mod nodes;
 mod value;
 
+pub use item::{Found, ItemStart};
 pub use nested::{MetaNameValueInvalidExpr, NestedMeta};
+pub use value::Value;

@@ -15,7 +15,7 @@ use std::alloc::{AllocError, Global};
 
 /// A value, or tokens in its place and where the fault is.
 #[derive(Drop)]
-pub(crate) enum Value {
+pub enum Value {
     Expr(Expr),
     Bad(TokenStream, Span),
 }

@@ -1,0 +1,7 @@
+pub mod Alls
+pub mod Attributes
+pub mod Visibilities
+pub mod Generics
+pub mod Fields
+pub mod Items
+pub mod Wholes

@@ -1,0 +1,6 @@
+//! Nested items without their places, and that reading them does not see places.
+#![tactic(auto)]
+
+mod laws;
+
+pub use laws::nested_items_see_no_spans;
