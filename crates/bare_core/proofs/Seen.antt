@@ -232,7 +232,7 @@ pub is_there-map : {A B : Type 0} (f : A → B) (found : Option A) → is_there 
 is_there-map f None = refl
 is_there-map f (Some value) = refl
 
-if-map : {A B : Type 0} (f : A → B) (holds : Bool) (found : Option A) → (if holds then option_map f found else None) ≡ option_map f (if holds then found else None)
+pub if-map : {A B : Type 0} (f : A → B) (holds : Bool) (found : Option A) → (if holds then option_map f found else None) ≡ option_map f (if holds then found else None)
 if-map f true found = refl
 if-map f false found = refl
 

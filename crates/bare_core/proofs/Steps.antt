@@ -122,6 +122,10 @@ taken-bare : {A B : Type 0} (bare : A → B) (found : Option A) (after : Input) 
 taken-bare bare None after = refl
 taken-bare bare (Some value) after = refl
 
+-- a value that is there or not
+pub taken-blind : {A B : Type 0} {bare : A → B} (found : Option A) (also : Option B) → option_map bare found ≡ also → Blind bare (taken found) (taken also)
+taken-blind {bare = bare} found also e = record { at = λ input. rw (← e) (taken-bare bare found input) }
+
 pub take_as-blind : {A B : Type 0} {bare : A → B} (of : List TokenTree → Option A) (also : List TokenTree → Option B) → Reads bare of also → Blind bare (take_as of) (take_as also)
 take_as-blind {bare = bare} of also e = record { at = λ input. rw (e input.rest, next-bare input) (taken-bare bare (of input.rest) (next input)) }
 

@@ -1,6 +1,7 @@
 -- Reading all of some tokens does not see places.
-use Rattle.std.proofs.Common.{◌≡◌, Bool, true, false, if◌then◌else◌, [], map, Option, Some, None, option_map, refl, ap, ◌∙◌}
+use Rattle.std.proofs.Common.{◌≡◌, true, List, [], map, Some, None, option_map, refl, ap, ◌∙◌}
 use Rattle.token_core.specs.declared.tree.TokenStream.{TokenStream, roll-TokenStream, out-TokenStream}
+use Rattle.token_core.specs.declared.tree.TokenTree.{TokenTree}
 use Rattle.grammar_core.specs.Arguments.{fn_arg}
 use Rattle.grammar_core.specs.Grammar.{within, max_depth}
 use Rattle.grammar_core.specs.Input.{Input, Outcome, Parser, start_of, is_end}
@@ -8,11 +9,11 @@ use Rattle.grammar_core.specs.Paths.{list}
 use Rattle.grammar_core.specs.Patterns.{max_pattern}
 use Rattle.grammar_core.specs.Readers.{Readers, any_level}
 use Rattle.grammar_core.specs.Trees.{all, whole, type_of, expr_of, path_of, ident_of, exprs_of, idents_of, paths_of, fn_args_of}
-use Rattle.bare_core.specs.Bare.{bare_stream, bare_ident, bare_expr, bare_type, bare_path, bare_fn_arg}
+use Rattle.bare_core.specs.Bare.{bare_stream, bare_tree, bare_ident, bare_expr, bare_type, bare_path, bare_fn_arg}
 use Rattle.bare_core.specs.Blind.{bare_outcome, Blind}
 use Rattle.bare_core.proofs.Paths.{AllBlind, name-blind, path-blind}
 use Rattle.bare_core.proofs.Patterns.{pattern-blind}
-use Rattle.bare_core.proofs.Seen.{bare_stream-roll, out-bare_stream, is_end-bare, is_colon-bare}
+use Rattle.bare_core.proofs.Seen.{bare_stream-roll, out-bare_stream, is_end-bare, is_colon-bare, if-map}
 use Rattle.bare_core.proofs.Steps.{then-blind, so-blind, here-blind, close-blind, expect-blind, state-blind, read_since-blind, items_after-blind}
 use Rattle.bare_core.proofs.Within.{within-blind}
 
@@ -30,18 +31,17 @@ fn_arg-blind readers parts = then-blind state-blind (λ before before' b. here-b
 
 all-bare : {A B : Type 0} (bare : A → B) (outcome : Outcome A) → all (bare_outcome bare outcome) ≡ option_map bare (all outcome)
 all-bare bare None = refl
-all-bare {A} {B} bare (Some found) = rw (is_end-bare found.1.rest) (go (is_end found.1.rest))
-  where
-    go : (ended : Bool) → ◌≡◌ {A = Option B} (if ended then Some (bare found.0) else None) (option_map bare (if ended then Some found.0 else None))
-    go true = refl
-    go false = refl
+all-bare bare (Some found) = rw (is_end-bare found.1.rest) (if-map bare (is_end found.1.rest) (Some found.0))
 
-whole-bare : {A B : Type 0} {bare : A → B} {parser : Parser A} {other : Parser B} → Blind bare parser other → (tokens : TokenStream) → whole other (bare_stream tokens) ≡ option_map bare (whole parser tokens)
-whole-bare {bare = bare} {parser = parser} {other = other} h tokens =
-    ap (λ trees. all (other (start_of trees))) (out-bare_stream tokens) ∙ ap all (h.at (start_of (out-TokenStream tokens).trees)) ∙ all-bare bare (parser (start_of (out-TokenStream tokens).trees))
+-- what a parser gives for all of a list of tokens
+pub all_of-bare : {A B : Type 0} {bare : A → B} {parser : Parser A} {other : Parser B} → Blind bare parser other → (trees : List TokenTree) → all (other (start_of (map bare_tree trees))) ≡ option_map bare (all (parser (start_of trees)))
+all_of-bare {bare = bare} {parser = parser} h trees = ap all (h.at (start_of trees)) ∙ all-bare bare (parser (start_of trees))
+
+pub whole-bare : {A B : Type 0} {bare : A → B} {parser : Parser A} {other : Parser B} → Blind bare parser other → (tokens : TokenStream) → whole other (bare_stream tokens) ≡ option_map bare (whole parser tokens)
+whole-bare {other = other} h tokens = ap (λ trees. all (other (start_of trees))) (out-bare_stream tokens) ∙ all_of-bare h (out-TokenStream tokens).trees
 
 -- a list of them
-list-blind : {A B : Type 0} {bare : A → B} {item : Parser A} {other : Parser B} → Blind bare item other → Blind (map bare) (list item) (list other)
+pub list-blind : {A B : Type 0} {bare : A → B} {item : Parser A} {other : Parser B} → Blind bare item other → Blind (map bare) (list item) (list other)
 list-blind h = items_after-blind h [] [] refl
 
 pub type_of-bare : (tokens : TokenStream) → type_of (bare_stream tokens) ≡ option_map bare_type (type_of tokens)

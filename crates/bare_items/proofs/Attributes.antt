@@ -27,10 +27,11 @@ use Rattle.bare_core.specs.Bare.{bare_ident, bare_lit, bare_tree, bare_expr, bar
 use Rattle.bare_core.specs.Blind.{Blind}
 use Rattle.bare_core.proofs.Made.{bare_arguments-None, bare_expr-Lit, bare_expr-Verbatim, bare_path-make, bare_segment-make}
 use Rattle.bare_core.proofs.Seen.{bare_layer, out-bare_tree, bare_stream-roll, contents_of-bare, ident_of-bare, literal_of-bare, lit_of-bare, is_mark-bare, is_pair-bare}
-use Rattle.bare_core.proofs.Steps.{pure-blind, refuse-blind, then-blind, so-blind, if-blind, test-blind, here-blind, upto-blind, close-blind, skip-blind, eat-blind, expect-blind, take_as-blind, at_end-blind, inside-blind, joined_by-blind}
+use Rattle.bare_core.proofs.Steps.{pure-blind, refuse-blind, then-blind, so-blind, if-blind, test-blind, here-blind, upto-blind, close-blind, skip-blind, eat-blind, expect-blind, taken-blind, take_as-blind, at_end-blind, inside-blind, joined_by-blind}
+use Rattle.bare_core.proofs.Wholes.{all_of-bare}
 use Rattle.bare_core.proofs.Within.{within-blind}
 use Rattle.bare_items.specs.Bare.{bare_meta, bare_attribute}
-use Rattle.bare_items.proofs.Alls.{all_of-bare, taken-blind, take_all-blind, each_while-blind, goes_on-bare}
+use Rattle.bare_items.proofs.Lists.{take_all-blind, each_while-blind, goes_on-bare}
 
 -- ---- paths of any words
 

@@ -10,8 +10,8 @@ use Rattle.bare_core.specs.Blind.{Blind}
 use Rattle.bare_core.proofs.Paths.{name-blind}
 use Rattle.bare_core.proofs.Seen.{is_colon-bare, is_group-bare, is_mark-bare}
 use Rattle.bare_core.proofs.Steps.{pure-blind, then-blind, so-blind, map-blind, test-blind, here-blind, close-blind, expect-blind, inside-blind}
+use Rattle.bare_core.proofs.Wholes.{list-blind}
 use Rattle.bare_items.specs.Bare.{bare_field, bare_fields_named, bare_fields_unnamed, bare_fields, bare_variant}
-use Rattle.bare_items.proofs.Alls.{list-blind}
 use Rattle.bare_items.proofs.Attributes.{attributes-blind}
 use Rattle.bare_items.proofs.Generics.{any_type-blind, expr_at-blind, some-blind}
 use Rattle.bare_items.proofs.Visibilities.{visibility-blind}

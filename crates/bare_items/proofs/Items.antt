@@ -19,7 +19,7 @@ use Rattle.bare_core.proofs.Paths.{name-blind}
 use Rattle.bare_core.proofs.Seen.{ident_of-bare, is_group-bare, is_mark-bare, next_word-bare}
 use Rattle.bare_core.proofs.Steps.{Sees, pure-blind, refuse-blind, then-blind, so-blind, map-blind, if-blind, test-blind, here-blind, close-blind, skip-blind, expect-blind, inside-blind}
 use Rattle.bare_items.specs.Bare.{bare_where, bare_data, bare_derive_input}
-use Rattle.bare_items.proofs.Alls.{each_while-blind, goes_on-bare}
+use Rattle.bare_items.proofs.Lists.{each_while-blind, goes_on-bare}
 use Rattle.bare_items.proofs.Attributes.{attributes-blind}
 use Rattle.bare_items.proofs.Fields.{fields_named-blind, fields_unnamed-blind, variants-blind}
 use Rattle.bare_items.proofs.Generics.{maybe_where-blind, params-blind}

@@ -1,4 +1,4 @@
-pub mod Alls
+pub mod Lists
 pub mod Attributes
 pub mod Visibilities
 pub mod Generics

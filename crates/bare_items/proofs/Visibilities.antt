@@ -17,11 +17,11 @@ use Rattle.bare_core.specs.Bare.{bare_ident, bare_path, bare_tree}
 use Rattle.bare_core.specs.Blind.{Blind}
 use Rattle.bare_core.proofs.Made.{bare_path-make}
 use Rattle.bare_core.proofs.Paths.{path-blind}
-use Rattle.bare_core.proofs.Seen.{contents_of-bare, ident_of-bare, is_group-bare, sees-bare}
+use Rattle.bare_core.proofs.Seen.{contents_of-bare, ident_of-bare, is_group-bare, sees-bare, if-map}
 use Rattle.bare_core.proofs.Steps.{pure-blind, then-blind, so-blind, map-blind, if-blind, test-blind, here-blind, close-blind, skip-blind, eat-blind, take_as-blind}
+use Rattle.bare_core.proofs.Wholes.{all_of-bare}
 use Rattle.bare_core.proofs.Within.{within-blind}
 use Rattle.bare_items.specs.Bare.{bare_visibility}
-use Rattle.bare_items.proofs.Alls.{all_of-bare, if-map}
 use Rattle.bare_items.proofs.Attributes.{bare_segment-word}
 
 -- ---- `crate`, `self`, `super`

@@ -3,8 +3,8 @@ use Rattle.std.proofs.Common.{◌≡◌, map, option_map}
 use Rattle.token_core.specs.declared.tree.TokenStream.{TokenStream}
 use Rattle.item_core.specs.Trees.{items_of, derive_input_of, where_of, visibility_of, type_param_of}
 use Rattle.bare_core.specs.Bare.{bare_stream}
+use Rattle.bare_core.proofs.Wholes.{whole-bare}
 use Rattle.bare_items.specs.Bare.{bare_derive_input, bare_type_param, bare_visibility, bare_where}
-use Rattle.bare_items.proofs.Alls.{whole-bare}
 use Rattle.bare_items.proofs.Generics.{one_type_param-blind, where_clause-blind}
 use Rattle.bare_items.proofs.Items.{item-blind, items-blind}
 use Rattle.bare_items.proofs.Visibilities.{visibility-blind}

@@ -27,8 +27,9 @@ use Rattle.bare_core.specs.Bare.{bare_lit, bare_path, bare_stream, bare_tree}
 use Rattle.bare_core.specs.Blind.{Blind}
 use Rattle.bare_core.proofs.Seen.{after_one-bare, is_group-bare, is_mark-bare, lit_of-bare, literal_of-bare, mark_of-bare, next_word-bare}
 use Rattle.bare_core.proofs.Steps.{Sees, pure-blind, then-blind, so-blind, map-blind, if-blind, test-blind, here-blind, close-blind, skip-blind, take_as-blind}
-use Rattle.bare_items.proofs.Alls.{list-blind, take_all-blind, whole-bare}
+use Rattle.bare_core.proofs.Wholes.{list-blind, whole-bare}
 use Rattle.bare_items.proofs.Attributes.{delimiter_of-bare, meta_list-blind, meta_path-blind, signed-blind}
+use Rattle.bare_items.proofs.Lists.{take_all-blind}
 use Rattle.bare_nested.specs.Bare.{bare_nested, bare_place}
 use Rattle.bare_nested.proofs.Values.{bare_value, value-blind}
 

@@ -16,9 +16,8 @@ use Rattle.meta_core.specs.Values.{either_value, value_in, run_of, or_else, leas
 use Rattle.bare_core.specs.Bare.{bare_tree, bare_lit, bare_expr, bare_stream}
 use Rattle.bare_core.specs.Blind.{Blind}
 use Rattle.bare_core.proofs.Made.{bare_expr-Lit}
-use Rattle.bare_core.proofs.Seen.{bare_stream-roll, is_mark-bare, span_of-bare}
+use Rattle.bare_core.proofs.Seen.{bare_stream-roll, is_mark-bare, span_of-bare, if-map}
 use Rattle.bare_core.proofs.Steps.{same, Sees, pure-blind, then-blind, so-blind, test-blind, skip_by-blind}
-use Rattle.bare_items.proofs.Alls.{if-map}
 use Rattle.bare_items.proofs.Attributes.{number_in-bare, expr_in-bare}
 
 -- ---- runs
