@@ -250,7 +250,10 @@ fn a_bad_value_may_be_closed_by_what_is_printed_behind_it(rt: HostRuntime) -> Te
         return Err(Fail::new(format_args!("{text} is refused")));
     };
     let found = told(alloc, items.as_slice())?;
-    assert_eq!(rt; found.as_str(), "bad 0..9 a = b ::< c 4..5;value 11..24 d = [x] > - 1;");
+    assert_eq!(rt;
+        found.as_str(),
+        "bad 0..9 a = b ::< c 4..5;value 11..24 d = [x] > - 1;"
+    );
     let items = Ok(items);
     let tokens = listed(items)?.to_token_stream(alloc)?;
     let Ok(again) = NestedMeta::parse_meta_list(alloc, &tokens) else {
