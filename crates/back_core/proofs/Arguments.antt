@@ -203,7 +203,7 @@ module _ (readers : Readers) (parts : AllBacks readers) where
       (then-rest {Second = AfterArgument} (λ place. parts.expr constant_level) (λ value. close-rest start (λ q. q.0.1) (λ span. generic.AssocConst name value span) (λ q span. generic.AssocConst name q.1 span)
       (λ span. rw (print-AssocConst, append-nil, append_assoc) refl) (λ span other q ok. rw (bare_argument-AssocConst, bare_argument-AssocConst, ok.1) refl))
       (λ rest tail f other. absurd cc) (λ rest tail f. f))
-      (λ input tail place f. equals-name tail place true (f.1 refl)))
+      (λ input tail place f. equals-name tail place true f.begins))
       (λ input tail name is f. name-begin argument.AssocConst name input.rest input.rest tail is f)))
 
   assoc_type-back : Back bare_argument argument_tokens (Argument argument.AssocType) AfterArgument (assoc_type readers)
@@ -239,7 +239,7 @@ module _ (readers : Readers) (parts : AllBacks readers) where
   argument_by-rest argument.Lifetime = take_as-rest {Second = AfterArgument} lifetime_of tree.Lifetime (λ rest tail it is. lifetime_of-Lifetime it tail)
       (λ it. pure-rest tt (generic.Lifetime it) (λ q. generic.Lifetime it) (rw (print-Lifetime) refl) (λ q ok. refl)) (λ input tail it is f. lifetime-begin it input.rest tail)
   argument_by-rest argument.Constant = then-rest {Second = AfterArgument} (λ place. parts.expr constant_level)
-      (λ it. pure-rest tt (generic.Const it) (λ q. generic.Const q.1) (rw (print-Const, append-nil) refl) (λ q ok. rw (bare_argument-Const, bare_argument-Const, ok.1) refl)) (λ rest tail f other. absurd cc) (λ rest tail f. constant-begin rest tail (f.1 refl))
+      (λ it. pure-rest tt (generic.Const it) (λ q. generic.Const q.1) (rw (print-Const, append-nil) refl) (λ q ok. rw (bare_argument-Const, bare_argument-Const, ok.1) refl)) (λ rest tail f other. absurd cc) (λ rest tail f. constant-begin rest tail f.begins)
   argument_by-rest argument.AssocConst = shown-rest tt (λ it. refl) assoc_const-back
   argument_by-rest argument.AssocType = shown-rest tt (λ it. refl) assoc_type-back
   argument_by-rest argument.Constraint = shown-rest tt (λ it. refl) constraint-back

@@ -152,8 +152,8 @@ looser-end level rest = record {
   called = λ h. absurd cc;
   postfix = λ h. absurd cc;
   operator = λ tighter within h. absurd cc;
-  dots = λ h. absurd cc;
-  operand = λ h. absurd cc;
+  dots = λ within h. absurd cc;
+  operand = λ within h. absurd cc;
 }
 
 pub no-semicolon : is_mark 59 [] ≡ false

@@ -32,15 +32,10 @@ use Rattle.back_core.proofs.Arguments.{generic_arguments-back, parenthesized-bac
 use Rattle.back_core.proofs.Follows.{fish-colons, group-seen, keep-false, never, no-colons, segment-seen, type-end, unnamed}
 use Rattle.back_core.proofs.Joints.{joined-printed}
 use Rattle.back_core.proofs.Marks.{segment-word, segment_word-Ident, mark_of-mark, is_joint-mark, is_group-mark, mark-length, next_word-mark, next_word-Ident, is_colons-colons}
-use Rattle.back_core.specs.Parts.{AllBacks}
+use Rattle.back_core.specs.Parts.{AllBacks, style_of}
 use Rattle.back_core.proofs.Prints.{print-AngleBracketed, print-None, print-segment, path_parts-make}
 use Rattle.back_core.proofs.Steps.{bind-at, whole, here-rest, then-rest, close-rest}
 use Rattle.back_core.proofs.Takes.{skipped-over, take_as-rest, eat-rest}
-
--- how a path prints its arguments, in a type or an expression
-abbrev pub style_of : Bool → PathStyle
-style_of true = Plain
-style_of false = Turbofish
 
 less-start : (tail : Trees) (span : Span) → arguments_start true (mark (codes "<") span ++ tail) ≡ begin.Less
 unfolding arguments_start is_pair
@@ -56,7 +51,7 @@ styled [] style = refl
 styled (it ∷ items) style = ap (λ more. segment_tokens it style ∷ more) (styled items style)
 
 -- what stands behind the next token
-next-behind : (input : Input) → (next input).rest ≡ after_one input.rest
+pub next-behind : (input : Input) → (next input).rest ≡ after_one input.rest
 unfolding next
 next-behind input = by input.rest
   where

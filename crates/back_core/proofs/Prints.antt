@@ -5,7 +5,10 @@ use Rattle.token_core.specs.declared.ident.Ident.{Ident}
 use Rattle.token_core.specs.declared.ident.Lifetime.{Lifetime}
 use Rattle.token_core.specs.declared.span.Span.{Span}
 use Rattle.token_core.specs.declared.tree.Delimiter.TheVariants as delimiter
+use Rattle.expr_core.specs.declared.expr.BinOp.{BinOp}
 use Rattle.expr_core.specs.declared.expr.Expr.{Expr, the_lemmas}
+use Rattle.expr_core.specs.declared.expr.Expr.TheVariants as expr
+use Rattle.expr_core.specs.declared.expr.UnOp.{UnOp}
 use Rattle.expr_core.specs.declared.generics.TypeParamBound.{TypeParamBound}
 use Rattle.expr_core.specs.declared.generics.TypeParamBound.TheVariants as bound
 use Rattle.expr_core.specs.declared.path.GenericArgument.{GenericArgument}
@@ -22,6 +25,7 @@ use Rattle.expr_core.specs.declared.ty.ReturnType.TheVariants as return
 use Rattle.grammar_core.specs.Make as make
 use Rattle.print_core.specs.declared.path.PathStyle.{PathStyle}
 use Rattle.print_core.specs.declared.path.PathStyle.TheVariants.{Plain}
+use Rattle.print_core.specs.Exprs.{bin_op_tokens, un_op_tokens}
 use Rattle.print_core.specs.Kinds.{printed_arg, printed_return, named_arg_tokens}
 use Rattle.print_core.specs.Marks.{Trees, ident, lifetime, mark, word, group, comma, joined, tuple, optional}
 use Rattle.print_core.specs.Nodes.{expr_tokens, bound_tokens, argument_tokens, arguments_tokens, type_tokens, path_parts, segment_tokens, path_tokens}
@@ -80,6 +84,24 @@ fn_ptr lifetimes inputs (return.Ty it) span = search the_lemmas
 pub print-fn_ptr : (lifetimes : List Lifetime) (inputs : List (NamedArg Ty)) (output : ReturnType Ty) (span : Span) → type_tokens (make.type_fn_ptr lifetimes inputs output span)
     ≡ binder lifetimes span ++ word (codes "fn") span ++ group delimiter.Parenthesis (joined (comma span) (map named_arg_tokens inputs)) span ++ return_of (printed_return output) span
 print-fn_ptr lifetimes inputs output span = rw (fn_ptr lifetimes inputs output span, print-inputs inputs) refl
+
+-- ---- operators
+
+pub print-unary : (it : UnOp) (operand : Expr) (span : Span) → expr_tokens (expr.Unary it operand span) ≡ un_op_tokens it span ++ expr_tokens operand
+print-unary it operand span = search the_lemmas
+
+pub print-expr_reference : (mutable : Bool) (operand : Expr) (span : Span) → expr_tokens (expr.Reference mutable operand span) ≡ mark (codes "&") span ++ mutability mutable span ++ expr_tokens operand
+print-expr_reference mutable operand span = search the_lemmas
+
+pub print-binary : (left : Expr) (it : BinOp) (right : Expr) (span : Span) → expr_tokens (expr.Binary left it right span) ≡ expr_tokens left ++ bin_op_tokens it span ++ expr_tokens right
+print-binary left it right span = search the_lemmas
+
+pub print-range : (start end : Option Expr) (closed : Bool) (span : Span)
+    → expr_tokens (make.expr_range start end closed span) ≡ optional (option_map expr_tokens start) ++ mark (if closed then codes "..=" else codes "..") span ++ optional (option_map expr_tokens end)
+print-range None None closed span = search the_lemmas
+print-range None (Some end) closed span = search the_lemmas
+print-range (Some start) None closed span = search the_lemmas
+print-range (Some start) (Some end) closed span = search the_lemmas
 
 -- ---- paths
 

@@ -31,8 +31,8 @@ use Rattle.back_core.specs.Printed.{Back}
 use Rattle.back_core.proofs.Follows.{segment-seen, type_before-mark, type_before-word, unnamed}
 use Rattle.back_core.proofs.Joints.{joined-some}
 use Rattle.back_core.proofs.Marks.{is_colons-colons, is_group-mark, mark-length, mark_of-mark, next_word-mark, out-Ident, word-length}
-use Rattle.back_core.specs.Parts.{AllBacks}
-use Rattle.back_core.proofs.Paths.{segments-back, style_of, styled}
+use Rattle.back_core.specs.Parts.{AllBacks, style_of}
+use Rattle.back_core.proofs.Paths.{segments-back, styled}
 use Rattle.back_core.proofs.Prints.{path_parts-make}
 use Rattle.back_core.proofs.Steps.{Rest, whole, pure-rest, here-rest, upto-rest, then-rest, sure-rest}
 use Rattle.back_core.proofs.Takes.{eat-rest, eat_or-rest, expect-rest}

@@ -9,6 +9,11 @@ use Rattle.front_core.specs.Alike.{Relation}
 use Rattle.front_core.specs.Front.{at}
 use Rattle.back_core.specs.Printed.{Again, Reads, Printed}
 
+pub bind-at : {A B : Type 0} (outcome : Outcome A) (next : A → Parser B) (found : B) (after : Input) → and_then outcome next ≡ Some (found, after)
+    → (value : A) × (between : Input) × (outcome ≡ Some (value, between)) × (next value between ≡ Some (found, after))
+bind-at None next found after e = absurd cc
+bind-at (Some one) next found after e = (one.0, one.1, refl, e)
+
 -- ---- what is left of a rule
 
 -- The printing is what was printed so far, with the tokens in its hole, for some place. Each of the parsers that are told reads the tokens.
@@ -88,6 +93,23 @@ module _ {A B P Q : Type 0} {Ok : Q → Type 0} {bare : A → B} {print : A → 
         record { place = one.place; tokens = one.tokens; is = one.is ∙ same one.place one.tokens; again = one.again; first = one.first };
   }
 
+  -- other parsers that come to the same where the tokens begin so
+  pub instead-rest : {G F : Relation} {p : Parser A} {p' other : Q → Parser A} → ((q : Q) (rest tail : Trees) (last : Span) → G rest tail → other q (at tail last) ≡ p' q (at tail last)) → Rest Ok bare print wrap G F p p'
+      → Rest Ok bare print wrap G F p other
+  instead-rest same h = record {
+    of = λ input after found e.
+        let one = h.of input after found e in
+        record {
+          place = one.place;
+          tokens = one.tokens;
+          is = one.is;
+          again = λ q ok tail last f.
+              let more = one.again q ok tail last f in
+              record { value = more.value; new = more.new; is = same q input.rest (one.tokens ++ tail) last (one.first tail f) ∙ more.is; same = more.same };
+          first = one.first;
+        };
+  }
+
   pub refuse-rest : {G F : Relation} {p' : Q → Parser A} → Rest Ok bare print wrap G F refuse p'
   refuse-rest = record { of = λ input after found e. absurd cc }
 
@@ -108,6 +130,21 @@ module _ {A B P Q : Type 0} {Ok : Q → Type 0} {bare : A → B} {print : A → 
           again = λ q ok tail last f. record { value = x' q; new = last; is = refl; same = same q ok };
           first = λ tail f. rw both.1 f;
         });
+  }
+
+  -- nothing is done with what was made
+  pub returned-rest : {G F : Relation} {p : Parser A} {p' : Q → Parser A} → Rest Ok bare print wrap G F p p' → Rest Ok bare print wrap G F (p >>= pure) (λ q. p' q >>= pure)
+  returned-rest {p = p} h = record {
+    of = λ input after found e.
+        let parts = bind-at (p input) pure found after e in
+        let one = h.of input after found (parts.2 ∙ parts.3) in
+        record {
+          place = one.place;
+          tokens = one.tokens;
+          is = one.is;
+          again = λ q ok tail last f. let more = one.again q ok tail last f in record { value = more.value; new = more.new; is = rw (more.is) refl; same = more.same };
+          first = one.first;
+        };
   }
 
   -- ---- places
@@ -142,11 +179,13 @@ module _ {A B P Q : Type 0} {Ok : Q → Type 0} {bare : A → B} {print : A → 
 
   -- ---- what was seen
 
-  pub test-rest : {V : Type 0} {by : V → Relation} {G F : Relation} {f : V → Parser A} {g : Q → V → Parser A} (look : Trees → V) → ((value : V) → Rest Ok bare print wrap (by value) F (f value) (λ q. g q value))
-      → ((value : V) (rest tail : Trees) → look rest ≡ value → by value rest tail → (look tail ≡ value) × G rest tail) → Rest Ok bare print wrap G F (test look >>= f) (λ q. test look >>= g q)
-  test-rest {g = g} look h sees = record {
+  -- what can be seen at all has a law
+  pub sure_test-rest : {V : Type 0} {Valid : V → Type 0} {by : V → Relation} {G F : Relation} {f : V → Parser A} {g : Q → V → Parser A} (look : Trees → V) → ((trees : Trees) → Valid (look trees))
+      → ((value : V) → Valid value → Rest Ok bare print wrap (by value) F (f value) (λ q. g q value)) → ((value : V) (rest tail : Trees) → look rest ≡ value → by value rest tail → (look tail ≡ value) × G rest tail)
+      → Rest Ok bare print wrap G F (test look >>= f) (λ q. test look >>= g q)
+  sure_test-rest {g = g} look valid h sees = record {
     of = λ input after found e.
-        let one = (h (look input.rest)).of input after found e in
+        let one = (h (look input.rest) (valid input.rest)).of input after found e in
         record {
           place = one.place;
           tokens = one.tokens;
@@ -159,6 +198,19 @@ module _ {A B P Q : Type 0} {Ok : Q → Type 0} {bare : A → B} {print : A → 
         };
   }
 
+  pub test-rest : {V : Type 0} {by : V → Relation} {G F : Relation} {f : V → Parser A} {g : Q → V → Parser A} (look : Trees → V) → ((value : V) → Rest Ok bare print wrap (by value) F (f value) (λ q. g q value))
+      → ((value : V) (rest tail : Trees) → look rest ≡ value → by value rest tail → (look tail ≡ value) × G rest tail) → Rest Ok bare print wrap G F (test look >>= f) (λ q. test look >>= g q)
+  test-rest look h sees = sure_test-rest {Valid = λ value. Unit {0}} look (λ trees. tt) (λ value valid. h value) sees
+
+-- whatever the place was, of which the printing so far does not speak
+pub placed-rest : {A B P Q : Type 0} {Ok : Q → Type 0} {bare : A → B} {print : A → Trees} {wrap : Trees → Trees} {G F : Relation} {p : Parser A} {p' : Q → Parser A} → Rest {P = P} Ok bare print (λ place tokens. wrap tokens) G F p p'
+    → Rest {P = Unit {0}} Ok bare print (λ place tokens. wrap tokens) G F p p'
+placed-rest h = record {
+  of = λ input after found e.
+      let one = h.of input after found e in
+      record { place = tt; tokens = one.tokens; is = one.is; again = one.again; first = one.first };
+}
+
 -- what a rule ends with
 pub close-rest : {A B Q : Type 0} {Ok : Q → Type 0} {bare : A → B} {print : A → Trees} {wrap : Span → Trees → Trees} {F : Relation} (start : Span) (start' : Q → Span) (make : Span → A) (make' : Q → Span → A)
     → ((span : Span) → print (make span) ≡ wrap span []) → ((span other : Span) (q : Q) → Ok q → bare (make' q other) ≡ bare (make span))
@@ -166,11 +218,6 @@ pub close-rest : {A B Q : Type 0} {Ok : Q → Type 0} {bare : A → B} {print : 
 close-rest start start' make make' is same = upto-rest start start' (λ span. pure-rest span (make span) (λ q. make' q.0 q.1) (is span) (λ q ok. same span q.1 q.0 ok))
 
 -- ---- one step behind another
-
-pub bind-at : {A B : Type 0} (outcome : Outcome A) (next : A → Parser B) (found : B) (after : Input) → and_then outcome next ≡ Some (found, after)
-    → (value : A) × (between : Input) × (outcome ≡ Some (value, between)) × (next value between ≡ Some (found, after))
-bind-at None next found after e = absurd cc
-bind-at (Some one) next found after e = (one.0, one.1, refl, e)
 
 module _ {A B C D P Q : Type 0} {Ok : Q → Type 0} {bare₁ : A → C} {bare : B → D} {print₁ : P → A → Trees} {print : B → Trees} {wrap : P → Trees → Trees} {Start Middle Second G F : Relation} where
   -- a part that looks at what was bound, and what comes after it

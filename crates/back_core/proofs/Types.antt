@@ -1,5 +1,5 @@
 -- The law of printing for types.
-use Rattle.std.proofs.Common.{◌≡◌, ℕ, Bool, true, false, if◌then◌else◌, List, [], ◌++◌, Some, None, refl, ap, append_assoc, append-nil, codes, option_map}
+use Rattle.std.proofs.Common.{◌≡◌, inl, ℕ, Bool, true, false, if◌then◌else◌, List, [], ◌++◌, Some, None, refl, ap, append_assoc, append-nil, codes, option_map}
 use Rattle.token_core.specs.declared.span.Span.{Span}
 use Rattle.token_core.specs.declared.tree.Delimiter.TheVariants as delimiter
 use Rattle.token_core.specs.declared.tree.TokenTree.TheVariants as tree
@@ -13,7 +13,7 @@ use Rattle.grammar_core.specs.Readers.{Readers, any_level}
 use Rattle.grammar_core.specs.Token.{ident_of, is_colon, is_equals, is_group, is_joint, is_pair, is_semicolon, lifetime_of, mark_of}
 use Rattle.grammar_core.specs.Types.{type_bracket, type_in_brackets, type_reference, type_pointer, type_trait_object, type_impl_trait, type_path, type_qualified, type_group, type_in_parentheses, type_by, type_step}
 use Rattle.grammar_core.specs.Words.{is_name, named_words, next_word, other_keywords, sees, word_of}
-use Rattle.print_core.specs.Marks.{Trees, group, lifetime, mark, optional, word as printed_word}
+use Rattle.print_core.specs.Marks.{Trees, group, lifetime, mark, optional, tuple, word as printed_word}
 use Rattle.print_core.specs.Nodes.{type_tokens}
 use Rattle.bare_core.specs.Bare.{bare_type}
 use Rattle.bare_core.proofs.Made.{bare_type-Tuple, bare_type-Paren, bare_type-Ptr, bare_type-TraitObject, bare_type-ImplTrait, bare_type-Path, bare_type_path-make, bare_type-Never, bare_type-Infer, bare_type-Array, bare_array-make, bare_type-Slice, bare_type-Reference}
@@ -23,7 +23,7 @@ use Rattle.back_core.specs.Printed.{Back}
 use Rattle.back_core.proofs.Bounds.{bounds-back}
 use Rattle.back_core.proofs.Follows.{never, path-seen, type-end, type_before-mark, type-seen, unnamed, looser-end, no-semicolon, one_bound, Unliving}
 use Rattle.back_core.proofs.Functions.{type_fn_ptr-back}
-use Rattle.back_core.proofs.Groups.{inner-rest}
+use Rattle.back_core.proofs.Groups.{inner-rest, tuple-long, tuple-single}
 use Rattle.back_core.proofs.Marks.{mark_of-mark, is_group-mark, next_word-mark, mark-length, word-length, sees-mut, lifetime_of-Lifetime, lifetime_of-word, next_word-group, no-group, out-Ident, sees-const}
 use Rattle.back_core.specs.Parts.{AllBacks}
 use Rattle.back_core.proofs.Paths.{path-back}
@@ -183,7 +183,7 @@ module _ (readers : Readers) (parts : AllBacks readers) where
   unfolding type_in_parentheses type_group
   type_in_parentheses-back many = whole (here-rest (λ span. inside-rest {Inner = Any} delimiter.Parenthesis (λ (place : Unit {0}). span)
       (inner-rest bare_type type_tokens (readers.ty true) (parts.ty true) (λ rest tail f. (type-seen tail f.0).some) (type-end true) (λ rest tail span. type_before-mark 44 refl refl refl refl span rest tail true)
-      make.type_tuple make.type_paren print-tuple print-paren
+      delimiter.Parenthesis tuple (λ span. refl) tuple-long make.type_tuple make.type_paren (inl tuple-single) print-tuple print-paren
       (λ one two span other same. rw (bare_type-Tuple, bare_type-Tuple, same) refl) (λ one two span other same. rw (bare_type-Paren, bare_type-Paren, same) refl) span)
       (λ rest inner tail span' seen f. group-begin rest inner tail span')))
 

@@ -1,22 +1,23 @@
--- The law of printing for trees of every depth, from the law of one level of expressions.
+-- The law of printing for trees of every depth.
 use Rattle.std.proofs.Common.{◌≡◌, ℕ, zero, suc, nat_le, Bool, true, false, if◌then◌else◌, List, [], ◌∷◌, map, Some, None, refl, ap, sym, ◌∙◌}
 use Rattle.std.proofs.lemmas.Option.{same_Some}
 use Rattle.expr_core.specs.declared.expr.Expr.{Expr}
 use Rattle.expr_core.specs.declared.generics.TypeParamBound.{TypeParamBound}
 use Rattle.expr_core.specs.declared.ty.«Type».{«Type» as Ty}
 use Rattle.depth_core.specs.Depth.{bound_depth, deepest, expr_depth, type_depth}
-use Rattle.grammar_core.specs.Expressions.{expr_step}
 use Rattle.grammar_core.specs.Grammar.{bounds_depth, kept, within}
 use Rattle.grammar_core.specs.Input.{Input, Outcome, Parser, refuse}
-use Rattle.grammar_core.specs.Readers.{Readers}
 use Rattle.print_core.specs.Marks.{Trees}
-use Rattle.print_core.specs.Nodes.{expr_tokens}
 use Rattle.bare_core.specs.Bare.{bare_bound, bare_expr, bare_type}
 use Rattle.bare_core.proofs.Depths.{bound_depth-bare, expr_depth-bare, type_depth-bare}
 use Rattle.front_core.specs.Alike.{Relation}
-use Rattle.back_core.specs.Follow.{AfterExpr, BeginsExpr}
 use Rattle.back_core.specs.Printed.{Reads, Back}
+use Rattle.front_core.proofs.Within.{within-fronts}
+use Rattle.back_core.proofs.Blocks.{constant-back}
 use Rattle.back_core.proofs.Bounds.{bounds-back}
+use Rattle.back_core.proofs.Closures.{closure-back}
+use Rattle.back_core.proofs.Postfixes.{postfixed-back}
+use Rattle.back_core.proofs.Ranges.{expr_step-back}
 use Rattle.back_core.specs.Parts.{AllBacks}
 use Rattle.back_core.proofs.Types.{type_step-back}
 
@@ -61,15 +62,14 @@ bound-depths (it ∷ found) = rw (bound_depth-bare it, bound-depths found) refl
 bounds-blind : (one two : List TypeParamBound) → map bare_bound one ≡ map bare_bound two → bounds_depth one ≡ bounds_depth two
 bounds-blind one two same = ap (λ depths. suc (deepest depths)) (sym (bound-depths one) ∙ ap (map bound_depth) same ∙ bound-depths two)
 
--- the law of one level of expressions, over parts that have the law
-abbrev pub ExprsBack : Type 0
-ExprsBack = (readers : Readers) → AllBacks readers → (level : ℕ) → Back bare_expr expr_tokens (BeginsExpr level) (AfterExpr level) (expr_step readers level)
-
-pub within-backs : ExprsBack → (depth : ℕ) → AllBacks (within depth)
+pub within-backs : (depth : ℕ) → AllBacks (within depth)
 unfolding within
-within-backs exprs zero = record { ty = λ many. refuse-back; expr = λ level. refuse-back; bounds = λ span. refuse-back }
-within-backs exprs (suc below) = record {
-  ty = λ many. kept-back type_depth (suc below) type-blind (type_step-back (within below) (within-backs exprs below) many);
-  expr = λ level. kept-back expr_depth (suc below) expr-blind (exprs (within below) (within-backs exprs below) level);
-  bounds = λ span. kept-back bounds_depth (suc below) bounds-blind (bounds-back (within below) (within-backs exprs below) true span);
-}
+within-backs zero = record { ty = λ many. refuse-back; expr = λ level. refuse-back; bounds = λ span. refuse-back }
+within-backs (suc below) =
+    let readers = within below in
+    let parts = within-backs below in
+    record {
+      ty = λ many. kept-back type_depth (suc below) type-blind (type_step-back readers parts many);
+      expr = λ level. kept-back expr_depth (suc below) expr-blind (expr_step-back readers parts (postfixed-back readers parts) (closure-back readers parts (within-fronts below)) (constant-back readers parts) level);
+      bounds = λ span. kept-back bounds_depth (suc below) bounds-blind (bounds-back readers parts true span);
+    }

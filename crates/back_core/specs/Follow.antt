@@ -1,17 +1,20 @@
 -- What may follow what is printed, and what begins it, beside the tokens that the source had there.
-use Rattle.std.specs.Prelude.{◌≡◌, ℕ, ◌≤◌, Bool, true, false, ◌&&◌, ◌||◌, ◌==◌}
+use Rattle.std.specs.Prelude.{◌≡◌, ℕ, ◌≤◌, Bool, true, false, ◌&&◌, ◌||◌, ◌==◌, if◌then◌else◌}
 use Rattle.token_core.specs.declared.tree.Delimiter.TheVariants as delimiter
+use Rattle.grammar_core.specs.declared.look.AtomStart.{AtomStart}
+use Rattle.grammar_core.specs.declared.look.OperandStart.TheVariants as start
 use Rattle.grammar_core.specs.declared.look.PostfixStart.{PostfixStart}
 use Rattle.grammar_core.specs.declared.look.PostfixStart.TheVariants as postfix
 use Rattle.grammar_core.specs.declared.look.TypeStart.{TypeStart}
 use Rattle.grammar_core.specs.declared.look.TypeStart.TheVariants as ty
 use Rattle.grammar_core.specs.Input.{is_end}
-use Rattle.grammar_core.specs.Look.{at_level, begins_constant, begins_operand, is_there, operator_of, postfix_start, type_start}
-use Rattle.grammar_core.specs.Readers.{constant_level}
+use Rattle.grammar_core.specs.Look.{at_level, begins_closure, begins_constant, begins_operand, is_there, operand_start, operator_of, postfix_start, type_start}
+use Rattle.grammar_core.specs.Readers.{any_level, constant_level, range_level}
 use Rattle.grammar_core.specs.Token.{after_one, is_arrow, is_colon, is_colons, is_dots, is_equals, is_group, is_less, is_mark, is_plus, is_turbofish}
 use Rattle.grammar_core.specs.Words.{begins_segment, is_name, next_word}
 use Rattle.print_core.specs.Marks.{Trees}
 use Rattle.front_core.specs.Alike.{Relation, Any}
+use Rattle.front_core.specs.Closures.{AlikeBodies}
 
 -- the printed tokens have this only where the source had it
 abbrev pub Keep : (Trees → Bool) → Relation
@@ -91,19 +94,45 @@ abbrev pub goes_on : PostfixStart → Bool
 goes_on postfix.Nothing = false
 goes_on _ = true
 
--- what goes on with an expression of a level
+-- an operator of this level
+abbrev pub operates : ℕ → Trees → Bool
+operates level trees = is_there (at_level level (operator_of trees))
+
+-- What goes on with an expression of a level. A range goes on with its dots, and with an end.
 pub record Looser (level : ℕ) (rest tail : Trees) : Type 0 where
   pub colons : Keep is_colons rest tail
   pub turbofish : Keep is_turbofish rest tail
   pub called : Keep (is_group delimiter.Parenthesis) rest tail
   pub postfix : Keep (λ trees. goes_on (postfix_start trees)) rest tail
-  pub operator : (tighter : ℕ) → tighter ≤ level → Keep (λ trees. is_there (at_level tighter (operator_of trees))) rest tail
-  pub dots : Keep is_dots rest tail
-  pub operand : Keep begins_operand rest tail
+  pub operator : (tighter : ℕ) → tighter ≤ level → Keep (operates tighter) rest tail
+  pub dots : range_level ≤ level → Keep is_dots rest tail
+  pub operand : range_level ≤ level → Keep begins_operand rest tail
 
 -- a literal or a block ends by itself
 abbrev pub AfterExpr : ℕ → Relation
 AfterExpr level rest tail = (level == constant_level) ≡ false → Looser level rest tail
 
-abbrev pub BeginsExpr : ℕ → Relation
-BeginsExpr level rest tail = (is_end tail ≡ false) × ((level == constant_level) ≡ true → begins_constant tail ≡ true)
+abbrev pub begins_range : Trees → Bool
+begins_range trees = is_dots trees || begins_operand trees
+
+-- what begins an expression of a level
+abbrev pub begins_expr : ℕ → Trees → Bool
+begins_expr level trees =
+    if level == any_level then begins_closure trees || begins_range trees
+    else (if level == range_level then begins_range trees
+    else (if level == constant_level then begins_constant trees
+    else begins_operand trees))
+
+-- The source had an expression too, and both are the same body to the head of a closure.
+pub record BeginsExpr (level : ℕ) (rest tail : Trees) : Type 0 where
+  pub source : begins_expr level rest ≡ true
+  pub begins : begins_expr level tail ≡ true
+  pub bodies : AlikeBodies rest tail
+
+-- an operand that is an atom of this kind, with what stands behind it
+abbrev pub BeginsAtom : AtomStart → Relation
+BeginsAtom begins rest tail = operand_start tail ≡ start.Atom begins
+
+-- a closure, where one was
+abbrev pub BeginsClosure : Relation
+BeginsClosure rest tail = begins_closure rest ≡ true → (begins_closure tail ≡ true) × AlikeBodies rest tail

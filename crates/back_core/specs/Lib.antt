@@ -1,3 +1,4 @@
 pub mod Printed
 pub mod Follow
 pub mod Parts
+pub mod Kinds

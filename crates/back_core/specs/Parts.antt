@@ -1,14 +1,21 @@
--- The law of printing for the readers of the parts of a rule.
-use Rattle.std.specs.Prelude.{ℕ, Bool, true, List, map}
+-- The law of printing for the readers of the parts of a rule, and how parts print.
+use Rattle.std.specs.Prelude.{ℕ, Bool, true, false, List, map}
 use Rattle.token_core.specs.declared.span.Span.{Span}
 use Rattle.expr_core.specs.declared.generics.TypeParamBound.{TypeParamBound}
 use Rattle.grammar_core.specs.Readers.{Readers}
+use Rattle.print_core.specs.declared.path.PathStyle.{PathStyle}
+use Rattle.print_core.specs.declared.path.PathStyle.TheVariants.{Plain, Turbofish}
 use Rattle.print_core.specs.Marks.{Trees}
 use Rattle.print_core.specs.Nodes.{bound_tokens, expr_tokens, type_tokens}
 use Rattle.print_core.specs.Paths.{sum_of}
 use Rattle.bare_core.specs.Bare.{bare_bound, bare_expr, bare_type}
 use Rattle.back_core.specs.Follow.{AfterExpr, AfterType, BeginsExpr, BeginsType, Some'}
 use Rattle.back_core.specs.Printed.{Back}
+
+-- how a path prints its arguments, in a type or an expression
+abbrev pub style_of : Bool → PathStyle
+style_of true = Plain
+style_of false = Turbofish
 
 -- bounds, with `+` of this place between them
 abbrev pub bounds_tokens : Span → List TypeParamBound → Trees

@@ -1,8 +1,10 @@
 -- That the printing of what was read is read as the same value but for places.
-use Rattle.std.specs.Prelude.{◌≡◌, ◌++◌, Some}
+use Rattle.std.specs.Prelude.{◌≡◌, List, ◌++◌, map, Option, Some}
 use Rattle.token_core.specs.declared.span.Span.{Span}
+use Rattle.token_core.specs.declared.span.Span.TheVariants.{CallSite}
+use Rattle.token_core.specs.declared.tree.TokenStream.{TokenStream, roll-TokenStream}
 use Rattle.grammar_core.specs.Input.{Input, Parser}
-use Rattle.print_core.specs.Marks.{Trees}
+use Rattle.print_core.specs.Marks.{Trees, comma, joined}
 use Rattle.front_core.specs.Alike.{Relation}
 use Rattle.front_core.specs.Front.{at}
 
@@ -25,3 +27,17 @@ pub record Printed {A B : Type 0} (bare : A → B) (print : A → Trees) (Begins
 -- what the parser reads, it reads from its printing
 abbrev pub Back : {A B : Type 0} → (A → B) → (A → Trees) → Relation → Relation → Parser A → Type 0
 Back bare print Begins After parser = Printed bare print Begins After parser parser
+
+-- ---- whole lists of tokens
+
+-- these tokens as one list
+abbrev pub stream : Trees → TokenStream
+stream trees = roll-TokenStream (record { trees = trees })
+
+-- a list with commas and no node around it
+abbrev pub separated : {A : Type 0} → (A → Trees) → List A → Trees
+separated print items = joined (comma CallSite) (map print items)
+
+-- Whatever the reader gives of all of the tokens, it gives of the printing of that.
+pub record ReadBack {A B : Type 0} (bare : A → B) (print : A → Trees) (reader : TokenStream → Option A) : Type 0 where
+  pub of : (tokens : TokenStream) (tree : A) → reader tokens ≡ Some tree → (again : A) × (reader (stream (print tree)) ≡ Some again) × (bare again ≡ bare tree)

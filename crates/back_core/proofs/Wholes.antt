@@ -1,0 +1,105 @@
+-- The law of printing over whole lists of tokens, and for lists of trees.
+use Rattle.std.proofs.Common.{◌≡◌, Bool, true, false, if◌then◌else◌, [], ◌++◌, map, Option, Some, None, refl, ap, append-nil}
+use Rattle.std.proofs.lemmas.Option.{same_Some}
+use Rattle.token_core.specs.declared.span.Span.{Span}
+use Rattle.token_core.specs.declared.span.Span.TheVariants.{CallSite}
+use Rattle.token_core.specs.declared.tree.TokenStream.{out-TokenStream}
+use Rattle.token_core.specs.declared.tree.TokenTree.TheVariants as tree
+use Rattle.grammar_core.specs.Grammar.{within, max_depth}
+use Rattle.grammar_core.specs.Input.{Input, Outcome, Parser, is_end, start_of, take_as}
+use Rattle.grammar_core.specs.Paths.{list}
+use Rattle.grammar_core.specs.Readers.{any_level}
+use Rattle.grammar_core.specs.Trees.{all, whole, expr_of, exprs_of, fn_args_of, ident_of, idents_of, path_of, paths_of, type_of}
+use Rattle.grammar_core.specs.Words.{name_of}
+use Rattle.print_core.specs.declared.path.PathStyle.TheVariants.{Plain}
+use Rattle.print_core.specs.Items.{fn_arg_tokens}
+use Rattle.print_core.specs.Marks.{Trees, comma, ident}
+use Rattle.print_core.specs.Nodes.{expr_tokens, path_tokens, type_tokens}
+use Rattle.bare_core.specs.Bare.{bare_expr, bare_fn_arg, bare_ident, bare_path, bare_type}
+use Rattle.front_core.specs.Alike.{Relation, Any}
+use Rattle.back_core.specs.Follow.{Some', begins_expr}
+use Rattle.back_core.specs.Parts.{AllBacks}
+use Rattle.back_core.specs.Printed.{Back, ReadBack, separated}
+use Rattle.back_core.proofs.AtomStarts.{expr-some}
+use Rattle.back_core.proofs.FnArgs.{contents-stream, fn_arg-back}
+use Rattle.back_core.proofs.Follows.{path-seen, type-end, type_before-mark}
+use Rattle.back_core.proofs.Infix.{expr-end, expr_before-comma}
+use Rattle.back_core.proofs.Lists.{items-printed}
+use Rattle.back_core.proofs.Marks.{name_of-Ident}
+use Rattle.back_core.proofs.Paths.{path-back}
+use Rattle.back_core.proofs.Takes.{take_as-printed}
+
+all-parts : {A : Type 0} (outcome : Outcome A) (tree : A) → all outcome ≡ Some tree → (after : Input) × (outcome ≡ Some (tree, after))
+all-parts None tree e = absurd cc
+all-parts {A} (Some found) tree e = by (is_end found.1.rest) e
+  where
+    by : (b : Bool) → ◌≡◌ {A = Option A} (if b then Some found.0 else None) (Some tree) → (after : Input) × (Some found ≡ Some (tree, after))
+    by true e = (found.1, ap (λ it. Some (it, found.1)) (same_Some found.0 tree e))
+    by false e = absurd cc
+
+-- a rule that nothing has to follow
+pub whole-back : {A B : Type 0} {bare : A → B} {print : A → Trees} {G F : Relation} {parser : Parser A} → ((rest : Trees) → F rest []) → Back bare print G F parser → ReadBack bare print (whole parser)
+whole-back {print = print} {parser = parser} ends rule = record {
+  of = λ tokens tree e.
+      let parts = all-parts (parser (start_of (out-TokenStream tokens).trees)) tree e in
+      let one = rule.of (start_of (out-TokenStream tokens).trees) parts.0 tree parts.1 in
+      let more = one.again [] CallSite (ends parts.0.rest) in
+      let reads = rw append-nil at more.is in
+      (more.value, rw (contents-stream (print tree), reads) refl, more.same);
+}
+
+-- a list with commas
+pub list-back : {A B : Type 0} {bare : A → B} {print : A → Trees} {G F : Relation} {item : Parser A} → Back bare print G F item → ((rest tail : Trees) → G rest tail → is_end tail ≡ false) → ((rest : Trees) → F rest [])
+    → ((rest tail : Trees) (span : Span) → F rest (comma span ++ tail)) → ReadBack (map bare) (separated print) (whole (list item))
+list-back {bare = bare} {print = print} {item = item} rule starts ends commas = whole-back (λ rest. refl) (items-printed bare print item item rule starts ends commas CallSite)
+
+-- what is read exactly is read as the same without its places
+exactly : {A B : Type 0} (bare : A → B) {print : A → Trees} {G F : Relation} {parser : Parser A} → Back (λ (it : A). it) print G F parser → Back bare print G F parser
+exactly bare h = record {
+  of = λ input after found e.
+      let one = h.of input after found e in
+      record {
+        again = λ tail last f. let more = one.again tail last f in record { value = more.value; new = more.new; is = more.is; same = ap bare more.same };
+        first = one.first;
+      };
+}
+
+pub name-back : Back bare_ident ident Some' Any (take_as name_of)
+name-back = exactly bare_ident (take_as-printed name_of tree.Ident (λ rest tail it is. name_of-Ident rest tail it is) (λ input tail it is f. refl))
+
+pub ident_of-back : ReadBack bare_ident ident ident_of
+unfolding ident_of
+ident_of-back = whole-back (λ rest. tt) name-back
+
+pub idents_of-back : ReadBack (map bare_ident) (separated ident) idents_of
+unfolding idents_of
+idents_of-back = list-back name-back (λ rest tail f. f) (λ rest. tt) (λ rest tail span. tt)
+
+-- some token begins an expression
+pub any-some : (tail : Trees) → begins_expr any_level tail ≡ true → is_end tail ≡ false
+any-some = expr-some any_level
+
+module _ (parts : AllBacks (within max_depth)) where
+  pub type_of-back : ReadBack bare_type type_tokens type_of
+  unfolding type_of
+  type_of-back = whole-back (type-end true) (parts.ty true)
+
+  pub path_of-back : ReadBack bare_path (path_tokens Plain) path_of
+  unfolding path_of
+  path_of-back = whole-back (λ rest. (type-end false rest).0) (path-back (within max_depth) parts true)
+
+  pub paths_of-back : ReadBack (map bare_path) (separated (path_tokens Plain)) paths_of
+  unfolding paths_of
+  paths_of-back = list-back (path-back (within max_depth) parts true) (λ rest tail f. (path-seen tail f.0).some) (λ rest. (type-end false rest).0) (λ rest tail span. (type_before-mark 44 refl refl refl refl span rest tail false).0)
+
+  pub fn_args_of-back : ReadBack (map bare_fn_arg) (separated fn_arg_tokens) fn_args_of
+  unfolding fn_args_of
+  fn_args_of-back = list-back (fn_arg-back (within max_depth) parts) (λ rest tail f. f) (type-end true) (λ rest tail span. type_before-mark 44 refl refl refl refl span rest tail true)
+
+  pub expr_of-back : ReadBack bare_expr expr_tokens expr_of
+  unfolding expr_of
+  expr_of-back = whole-back (expr-end any_level) (parts.expr any_level)
+
+  pub exprs_of-back : ReadBack (map bare_expr) (separated expr_tokens) exprs_of
+  unfolding exprs_of
+  exprs_of-back = list-back (parts.expr any_level) (λ rest tail f. any-some tail f.begins) (expr-end any_level) (expr_before-comma any_level)
