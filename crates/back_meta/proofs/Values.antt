@@ -26,7 +26,7 @@ use Rattle.front_core.specs.Front.{at, Front}
 use Rattle.front_core.proofs.Within.{front-before, front-of, within-fronts}
 use Rattle.back_core.proofs.Exprs.{print-Lit}
 use Rattle.back_core.proofs.Within.{within-backs}
-use Rattle.back_items.proofs.Makes.{all-again}
+use Rattle.back_core.proofs.Wholes.{all-again}
 use Rattle.back_items.proofs.Signs.{number-expr, unsigned}
 use Rattle.back_items.proofs.Values.{signed-back}
 use Rattle.back_meta.proofs.Beginnings.{no-hash}

@@ -16,7 +16,7 @@ use Rattle.bare_nested.specs.Bare.{bare_nested}
 use Rattle.front_core.specs.Front.{at}
 use Rattle.back_core.specs.Printed.{separated, stream}
 use Rattle.back_core.proofs.Lists.{items-read}
-use Rattle.back_items.proofs.Makes.{all-parts}
+use Rattle.back_core.proofs.Wholes.{all-parts}
 use Rattle.back_items.proofs.Values.{contents-stream}
 use Rattle.back_meta.specs.Found.{Good, bare_found, found_tokens}
 use Rattle.back_meta.specs.Shut.{AllShut, Shut}

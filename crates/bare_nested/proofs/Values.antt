@@ -1,5 +1,6 @@
 -- The rules of values of nested items do not see places.
 use Rattle.std.proofs.Common.{◌≡◌, ℕ, zero, suc, Bool, true, false, if◌then◌else◌, List, [], ◌∷◌, length, take, drop, map, Option, Some, None, option_map, refl, ap, sym, subst, ◌∙◌}
+use Rattle.std.specs.Option.{option_or}
 use Rattle.std.proofs.lemmas.List.{drop-map, length-map, take-map}
 use Rattle.token_core.specs.declared.span.Span.{Span}
 use Rattle.token_core.specs.declared.span.Span.TheVariants.{CallSite}
@@ -12,7 +13,7 @@ use Rattle.grammar_core.specs.Token.{is_comma}
 use Rattle.item_core.specs.Attributes.{number_in, expr_in, stream}
 use Rattle.meta_core.specs.declared.value.Value.{Value}
 use Rattle.meta_core.specs.declared.value.Value.TheVariants as kind
-use Rattle.meta_core.specs.Values.{either_value, value_in, run_of, or_else, least, shortest_run, before_comma, bad_place, bad_value, value_by, value}
+use Rattle.meta_core.specs.Values.{either_value, value_in, run_of, least, shortest_run, before_comma, bad_place, bad_value, value_by, value}
 use Rattle.bare_core.specs.Bare.{bare_tree, bare_lit, bare_expr, bare_stream}
 use Rattle.bare_core.specs.Blind.{Blind}
 use Rattle.bare_core.proofs.Made.{bare_expr-Lit}
@@ -45,9 +46,9 @@ run_of-bare trees count =
 abbrev bare_run : Expr × ℕ → Expr × ℕ
 bare_run run = (bare_expr run.0, run.1)
 
-or_else-map : {A B : Type 0} (f : A → B) (one other : Option A) → or_else (option_map f one) (option_map f other) ≡ option_map f (or_else one other)
-or_else-map f (Some found) other = refl
-or_else-map f None other = refl
+option_or-map : {A B : Type 0} (f : A → B) (one other : Option A) → option_or (option_map f one) (option_map f other) ≡ option_map f (option_or one other)
+option_or-map f (Some found) other = refl
+option_or-map f None other = refl
 
 counted-bare : (found : Option Expr) (count : ℕ) → option_map (λ found. (found, count)) (option_map bare_expr found) ≡ option_map bare_run (option_map (λ found. (found, count)) found)
 counted-bare None count = refl
@@ -56,7 +57,7 @@ counted-bare (Some found) count = refl
 least-bare : (of also : ℕ → Option Expr) → ((count : ℕ) → also count ≡ option_map bare_expr (of count)) → (number : ℕ) → least also number ≡ option_map bare_run (least of number)
 least-bare of also e zero = rw (e 0) (counted-bare (of 0) 0)
 least-bare of also e (suc number) =
-    rw (least-bare of also e number, e (suc number), counted-bare (of (suc number)) (suc number)) (or_else-map bare_run (least of number) (option_map (λ found. (found, suc number)) (of (suc number))))
+    rw (least-bare of also e number, e (suc number), counted-bare (of (suc number)) (suc number)) (option_or-map bare_run (least of number) (option_map (λ found. (found, suc number)) (of (suc number))))
 
 shortest_run-bare : (trees : List TokenTree) → shortest_run (map bare_tree trees) ≡ option_map bare_run (shortest_run trees)
 shortest_run-bare trees =

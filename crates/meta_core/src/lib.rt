@@ -9,6 +9,8 @@ mod nested;
 mod nodes;
 mod value;
 
-pub use item::{Found, ItemStart};
 pub use nested::{MetaNameValueInvalidExpr, NestedMeta};
+
+// The definitions speak of these, so proofs of other crates have to name them.
+pub use item::{Found, ItemStart};
 pub use value::Value;

@@ -1,4 +1,4 @@
-use crate::alike::{Tested, is_read, refused, tokens};
+use node_checks::{Tested, is_read, refused, tokens};
 use std::alloc::Global;
 use syn_core::{parse_expr, parse_type};
 use tok_core::Text;

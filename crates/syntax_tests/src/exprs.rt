@@ -1,9 +1,9 @@
-use crate::alike::{Tested, both, is_read, refused, tokens};
+use node_checks::{Tested, both, is_read, refused, tokens};
 use std::alloc::Global;
 use syn_core::{parse_expr, parse_expr_array, parse_expr_path, parse_expr_range};
 
 // Expressions that are printed as they stand.
-const EXPRS: [&str; 96] = [
+pub const EXPRS: [&str; 96] = [
     "1",
     "0x1Fu8",
     "1.5",
@@ -103,7 +103,7 @@ const EXPRS: [&str; 96] = [
 ];
 
 // Expressions that are printed otherwise.
-const PRINTED: [(&str, &str); 14] = [
+pub const PRINTED: [(&str, &str); 14] = [
     ("a<<b", "a << b"),
     ("a<b", "a < b"),
     ("a<=b", "a <= b"),

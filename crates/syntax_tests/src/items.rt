@@ -1,4 +1,4 @@
-use crate::alike::{Tested, both, count, first_prints, is_read, refused, tokens};
+use node_checks::{Tested, both, count, first_prints, is_read, refused, tokens};
 use std::alloc::Global;
 use std::test::Fail;
 use syn_core::{
@@ -7,7 +7,7 @@ use syn_core::{
 use tok_core::{Items, TokenStream, TryClone};
 
 // Items that are printed as they stand.
-const ITEMS: [&str; 46] = [
+pub const ITEMS: [&str; 46] = [
     "struct S ;",
     "struct S {}",
     "struct S () ;",
@@ -57,7 +57,7 @@ const ITEMS: [&str; 46] = [
 ];
 
 // Items that are printed otherwise.
-const PRINTED: [(&str, &str); 9] = [
+pub const PRINTED: [(&str, &str); 9] = [
     ("struct S<>;", "struct S ;"),
     ("struct S<T,>{a:A,}", "struct S < T > {a : A}"),
     ("struct S(A,);", "struct S (A) ;"),
@@ -227,7 +227,7 @@ fn cut_items_are_refused(rt: HostRuntime) -> Tested<()> {
     Ok(())
 }
 
-const WHERES: [&str; 9] = [
+pub const WHERES: [&str; 9] = [
     "where",
     "where T : A",
     "where T : A + B + 'a",
@@ -250,7 +250,7 @@ const NO_WHERES: [&str; 8] = [
     "where 'a: T",
 ];
 
-const VISIBILITIES: [&str; 7] = [
+pub const VISIBILITIES: [&str; 7] = [
     "",
     "pub",
     "pub (crate)",
@@ -271,7 +271,7 @@ const NO_VISIBILITIES: [&str; 8] = [
     "pub (in)",
 ];
 
-const TYPE_PARAMS: [&str; 6] = [
+pub const TYPE_PARAMS: [&str; 6] = [
     "T",
     "T : A + 'a",
     "T = u8",

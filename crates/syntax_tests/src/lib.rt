@@ -3,7 +3,7 @@
 #![tactic(auto)]
 
 #[cfg(test)]
-mod alike;
+mod back;
 #[cfg(test)]
 mod deep;
 #[cfg(test)]

@@ -1,4 +1,4 @@
-use crate::alike::{Tested, count, first_prints, refused, tokens};
+use node_checks::{Tested, count, first_prints, refused, tokens};
 use print_core::ToTokens;
 use syn_core::{parse_exprs, parse_fn_args, parse_idents, parse_paths};
 use tok_core::to_text;
@@ -50,7 +50,7 @@ fn what_is_no_list_is_refused(rt: HostRuntime) -> Tested<()> {
 }
 
 // Arguments of functions: the first is printed so.
-const FN_ARGS: [(&str, &str); 6] = [
+pub const FN_ARGS: [(&str, &str); 6] = [
     ("a: A", "a : A"),
     ("a: A,", "a : A"),
     ("_: A, b: B", "_ : A"),

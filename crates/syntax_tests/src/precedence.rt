@@ -1,7 +1,7 @@
 //! Which operators bind tighter: where the sides of the outermost operator of an expression stand.
 
-use crate::alike::{Tested, given, tokens};
 use expr_core::Expr;
+use node_checks::{Tested, given, tokens};
 use span_core::Spanned;
 use std::alloc::Global;
 use std::test::Fail;

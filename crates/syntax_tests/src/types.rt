@@ -1,11 +1,11 @@
-use crate::alike::{Tested, both, is_read, refused, tokens};
+use node_checks::{Tested, both, is_read, refused, tokens};
 use std::alloc::Global;
 use std::test::Fail;
 use syn_core::{Parse, ParseFail, parse_ident, parse_path, parse_type};
 use tok_core::{Span, TokenStream};
 
 // Types that are printed as they stand.
-const TYPES: [&str; 56] = [
+pub const TYPES: [&str; 56] = [
     "()",
     "(A ,)",
     "(A , B)",
@@ -65,7 +65,7 @@ const TYPES: [&str; 56] = [
 ];
 
 // Types that are printed otherwise.
-const PRINTED: [(&str, &str); 12] = [
+pub const PRINTED: [(&str, &str); 12] = [
     ("A::<B>", "A < B >"),
     ("A<B<C>>", "A < B < C > >"),
     ("A<B<C<D>>>", "A < B < C < D > > >"),
@@ -164,11 +164,11 @@ fn what_is_no_type_is_refused(rt: HostRuntime) -> Tested<()> {
 }
 
 // Paths that are printed as they stand, and what is none.
-const PATHS: [&str; 5] = ["a", ":: a", "a :: b < C > :: d", "Fn (A) -> B", "Self"];
+pub const PATHS: [&str; 5] = ["a", ":: a", "a :: b < C > :: d", "Fn (A) -> B", "Self"];
 
 const NO_PATHS: [&str; 7] = ["", "a b", "a::", "<A>::b", "&a", "fn", "a."];
 
-const NAMES: [&str; 3] = ["a", "union", "r#fn"];
+pub const NAMES: [&str; 3] = ["a", "union", "r#fn"];
 
 const NO_NAMES: [&str; 6] = ["", "fn", "self", "_", "a b", "1"];
 

@@ -1,12 +1,15 @@
-//! What holds of every node that a parser gives.
+//! What holds of every node that a parser gives, as tests ask it.
+#![tactic(auto)]
 
+use node_core::{Comma, Punctuated};
 use print_core::ToTokens;
 use span_core::Spanned;
 use std::alloc::Global;
 use std::hash::{DefaultHasher, Hash, Hasher};
+use std::marker::PhantomData;
 use std::test::Fail;
 use syn_core::{Parse, ParseFail};
-use tok_core::{Items, TokenStream, TryClone, lex, to_text};
+use tok_core::{Items, Mem, Span, TokenStream, TryClone, lex, to_text};
 
 pub type Tested<T> = Result<T, Fail>;
 
@@ -127,8 +130,134 @@ fn holds(fact: bool, text: &str, otherwise: &str) -> Tested<()> {
     Err(Fail::new(format_args!("{text}: {otherwise}")))
 }
 
-fn hash<N: Hash>(node: &N) -> u64 {
+pub fn hash<N: Hash>(node: &N) -> u64 {
     let mut state = DefaultHasher::new();
     node.hash(&mut state);
     state.finish()
+}
+
+/// What stands at a place of two lists.
+pub fn both_at<'a, T>(one: &'a Items<T>, other: &'a Items<T>, at: usize) -> Tested<(&'a T, &'a T)> {
+    match (one.get(at), other.get(at)) {
+        (Some(one), Some(other)) => Ok((one, other)),
+        _ => Err(Fail::new(format_args!("nothing stands at {at}"))),
+    }
+}
+
+/// What two readings have that may have nothing.
+pub fn both_of<'a, T>(one: &'a Option<T>, other: &'a Option<T>) -> Tested<(&'a T, &'a T)> {
+    match (one, other) {
+        (Some(one), Some(other)) => Ok((one, other)),
+        _ => Err(Fail::new(format_args!("nothing is there"))),
+    }
+}
+
+/// Where the part stands in the text.
+fn place(text: &str, part: &str) -> Tested<Span> {
+    let Some(at) = text.find(part) else {
+        return Err(Fail::new(format_args!("{part} is not there")));
+    };
+    match (
+        u32::try_from(at),
+        u32::try_from(at.saturating_add(part.len())),
+    ) {
+        (Ok(start), Ok(end)) => Ok(Span::At {
+            source: 0,
+            start,
+            end,
+        }),
+        _ => Err(Fail::new(format_args!("the text is too long"))),
+    }
+}
+
+/// A node by itself, of the text and of another reading, whose printing stands where the node does.
+pub fn part<N: TryClone + PartialEq + Hash + Spanned + ToTokens + Drop>(
+    alloc: Global,
+    text: &str,
+    nodes: (&N, &N),
+    printed: &str,
+) -> Tested<()> {
+    stands(alloc, text, nodes, printed)?;
+    holds(
+        hash(nodes.1) == hash(nodes.0),
+        printed,
+        "equal nodes hash apart",
+    )?;
+    prints(alloc, nodes.0, printed)
+}
+
+/// [`part`] of nodes that are made for it.
+pub fn part_of<N: TryClone + PartialEq + Hash + Spanned + ToTokens + Drop>(
+    alloc: Global,
+    text: &str,
+    one: Mem<N>,
+    other: Mem<N>,
+    printed: &str,
+) -> Tested<()> {
+    let one = one?;
+    let other = other?;
+    part(alloc, text, (&one, &other), printed)
+}
+
+/// A node by itself, of the text and of another reading: a copy equals it and stands where it does,
+/// the other equals it, and it stands where `part` first stands in the text.
+pub fn stands<N: TryClone + PartialEq + Spanned + Drop>(
+    alloc: Global,
+    text: &str,
+    nodes: (&N, &N),
+    part: &str,
+) -> Tested<()> {
+    let (node, other) = nodes;
+    let copy = node.try_clone(alloc)?;
+    holds(copy == *node, part, "its copy differs")?;
+    holds(
+        copy.spanned() == node.spanned(),
+        part,
+        "its copy stands elsewhere",
+    )?;
+    holds(*other == *node, part, "another place makes a difference")?;
+    holds(
+        node.spanned() == place(text, part)?,
+        part,
+        "it stands elsewhere",
+    )
+}
+
+/// Two readings, which are let go here.
+pub fn read_twice<N: Drop, P: Fn(&N, &N) -> Tested<()>>(
+    first: Parse<N>,
+    second: Parse<N>,
+    text: &str,
+    look: P,
+) -> Tested<()>
+where
+    P: Drop,
+    requires { P.IsAlwaysCallable look }
+{
+    let one = given(first, text)?;
+    let other = given(second, text)?;
+    look(&one, &other)
+}
+
+/// The tree that a parser gives is read from its printing too.
+pub fn comes_back<N: PartialEq + ToTokens + Drop, P: Fn(&TokenStream) -> Parse<N>>(
+    alloc: Global,
+    text: &str,
+    parser: P,
+) -> Tested<()>
+where
+    P: Drop,
+    requires { P.IsAlwaysCallable parser }
+{
+    let tree = given(parser(&tokens(alloc, 0, text)?), text)?;
+    let printed = tree.to_token_stream(alloc)?;
+    let again = given(parser(&printed), text)?;
+    holds(again == tree, text, "its printing is another tree")
+}
+
+/// A parsed list as it is printed.
+pub fn listed<T: Drop>(parsed: Parse<Items<T>>) -> Parse<Punctuated<T, Comma>> {
+    let items = parsed?;
+    let by = PhantomData;
+    Ok(Punctuated { items, by })
 }
