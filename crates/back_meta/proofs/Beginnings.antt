@@ -60,7 +60,7 @@ truth-same word.True = refl
 truth-same word.False = refl
 truth-same _ = refl
 
--- where an item starts as a path, no literal stands
+-- where an item starts as a path, no `true` or `false` stands but before a `=`
 pub path-boolean : (trees : Trees) → item_start trees ≡ start.Path → is_boolean trees ≡ false
 path-boolean trees h = by (is_some (literal_of trees)) (is_boolean trees) (is_mark 45 trees) h
   where
@@ -69,7 +69,7 @@ path-boolean trees h = by (is_some (literal_of trees)) (is_boolean trees) (is_ma
     by false true minus h = absurd cc
     by false false minus h = refl
 
--- where it starts as a truth, one stands
+-- where it starts as a truth, `true` or `false` stands
 pub boolean-truth : (trees : Trees) → item_start trees ≡ start.Boolean → is_truth (next_word trees) ≡ true
 boolean-truth trees h = by (is_some (literal_of trees)) (is_boolean trees) (is_mark 45 trees) refl h
   where

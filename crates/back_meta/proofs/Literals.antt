@@ -34,7 +34,7 @@ use Rattle.back_core.proofs.Starts.{mark-seen}
 use Rattle.back_core.proofs.Steps.{bind-at}
 use Rattle.back_core.proofs.Takes.{skipped-over}
 use Rattle.back_items.proofs.Values.{signed-back}
-use Rattle.back_meta.specs.Found.{bare_found, found_tokens}
+use Rattle.back_meta.proofs.Found.{bare_found, found_tokens}
 use Rattle.back_meta.proofs.Stops.{Ended}
 
 -- an item is read by where it starts

@@ -32,7 +32,7 @@ use Rattle.back_items.proofs.Values.{signed-back}
 use Rattle.back_meta.proofs.Beginnings.{no-hash}
 use Rattle.back_meta.proofs.Stops.{Ended}
 
-abbrev an_expr : Parser Expr
+abbrev pub an_expr : Parser Expr
 an_expr = (within max_depth).expr any_level
 
 front : Front Alike an_expr
@@ -78,21 +78,27 @@ stays-unsigned trees found after e stop none =
     let run = run-parts expr_in trees count found (read-run front trees after found e stop) in
     unsigned (within-backs max_depth) (take count trees) found run.1 (rw run.0 at (number-runs trees none count))
 
+-- a number at the front is an expression
+pub number-read : (trees : Trees) (number : Lit) → run_of number_in trees 2 ≡ Some number → (value : Expr) × (last : Span) × (an_expr (start_of trees) ≡ Some (value, at (drop 2 trees) last))
+number-read trees number e =
+    let run = number-run trees 2 number e in
+    let two : Trees = run.0.minus ∷ run.0.token ∷ [] in
+    let alone = number-expr two number run.3 in
+    let whole = all-parts (an_expr (start_of two)) alone.0 alone.1 in
+    (alone.0, whole.0.last, ap (λ trees. an_expr (start_of trees)) run.1 ∙ front-before front (start_of two) whole.0 alone.0 whole.1 whole.2 (drop 2 trees) CallSite run.2)
+
 -- What is read up to the tail is no number, where its tokens are none.
-number-none : (tokens tail : Trees) (value : Expr) (new : Span) → stops tail ≡ true → an_expr (start_of (tokens ++ tail)) ≡ Some (value, at tail new) → number_in tokens ≡ None → run_of number_in (tokens ++ tail) 2 ≡ None
-number-none tokens tail value new stop read none = by (run_of number_in (tokens ++ tail) 2) refl
+number-none : (tokens tail : Trees) (value : Expr) (new : Span) → an_expr (start_of (tokens ++ tail)) ≡ Some (value, at tail new) → number_in tokens ≡ None → run_of number_in (tokens ++ tail) 2 ≡ None
+number-none tokens tail value new read none = by (run_of number_in (tokens ++ tail) 2) refl
   where
     by : (run : Option Lit) → run_of number_in (tokens ++ tail) 2 ≡ run → run_of number_in (tokens ++ tail) 2 ≡ None
     by None is = is
     by (Some number) is =
         let run = number-run (tokens ++ tail) 2 number is in
+        let one = number-read (tokens ++ tail) number is in
+        let both = some_pair_parts one.0 value (at (drop 2 (tokens ++ tail)) one.1) (at tail new) (sym one.2 ∙ read) in
         let two : Trees = run.0.minus ∷ run.0.token ∷ [] in
-        let alone = number-expr two number run.3 in
-        let whole = all-parts (an_expr (start_of two)) alone.0 alone.1 in
-        let before = front-before front (start_of two) whole.0 alone.0 whole.1 whole.2 (drop 2 (tokens ++ tail)) CallSite run.2 in
-        let both = some_pair_parts alone.0 value (at (drop 2 (tokens ++ tail)) whole.0.last) (at tail new) (sym before ∙ (ap (λ trees. an_expr (start_of trees)) (sym run.1) ∙ read)) in
-        let behind : drop 2 (tokens ++ tail) ≡ tail = ap (λ (input : Input). input.rest) both.1 in
-        let same : tokens ≡ two = append_cancel_right tokens two tail (run.1 ∙ ap (λ rest. two ++ rest) behind) in
+        let same : tokens ≡ two = append_cancel_right tokens two tail (run.1 ∙ ap (λ (input : Input). two ++ input.rest) both.1) in
         let clash = sym none ∙ (ap number_in same ∙ run.3) in
         absurd cc
 
@@ -100,7 +106,7 @@ expr-again : (trees : Trees) (found : Expr) (after : Input) → an_expr (start_o
 expr-again trees found after e stop none tail ended =
     let one = ((within-backs max_depth).expr any_level).of (start_of trees) after found e in
     let more = one.again tail CallSite (ended.expr after.rest) in
-    let none = number-none (expr_tokens found) tail more.value more.new ended.stop more.is (stays-unsigned trees found after e stop none) in
+    let none = number-none (expr_tokens found) tail more.value more.new more.is (stays-unsigned trees found after e stop none) in
     let run = shortest_run-expr (expr_tokens found ++ tail) (at tail more.new) more.value none more.is ended.stop in
     let sizes : length (expr_tokens found ++ tail) - length tail ≡ length (expr_tokens found) = omega (arith, length-append (expr_tokens found) tail) in
     record {

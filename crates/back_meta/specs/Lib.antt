@@ -1,2 +1,1 @@
 pub mod Shut
-pub mod Found

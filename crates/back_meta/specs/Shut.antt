@@ -1,8 +1,10 @@
 -- Bad values that stay bad whatever stands behind them.
-use Rattle.std.specs.Prelude.{◌≡◌, true, List, ◌++◌, None, All}
+use Rattle.std.specs.Prelude.{◌≡◌, true, false, List, ◌++◌, None, All}
 use Rattle.token_core.specs.declared.tree.TokenStream.{TokenStream}
+use Rattle.grammar_core.specs.Readers.{any_level}
 use Rattle.print_core.specs.Marks.{Trees, contents}
 use Rattle.front_core.specs.Alike.{stops}
+use Rattle.back_core.specs.Follow.{begins_expr}
 use Rattle.meta_core.specs.declared.nested.NestedMeta.{NestedMeta}
 use Rattle.meta_core.specs.declared.nested.NestedMeta.TheVariants as nested
 use Rattle.meta_core.specs.Values.{shortest_run}
@@ -11,6 +13,11 @@ use Rattle.meta_core.specs.Values.{shortest_run}
 abbrev pub IsShut : TokenStream → Type 0
 IsShut tokens = (tail : Trees) → stops tail ≡ true → shortest_run (contents tokens ++ tail) ≡ None
 
+-- no expression begins with the tokens, nor with what stands behind them where they are none
+abbrev pub BeginsNoExpr : TokenStream → Type 0
+BeginsNoExpr tokens = (tail : Trees) → stops tail ≡ true → begins_expr any_level (contents tokens ++ tail) ≡ false
+
+-- a nested item has no bad value, or one that is shut
 abbrev pub Shut : NestedMeta → Type 0
 Shut (nested.Meta it) = Unit {0}
 Shut (nested.Lit it) = Unit {0}
