@@ -50,7 +50,7 @@ unfolding literal
 literal-back = whole {P = Unit {0}} (take_as-rest {Second = Any} literal_of tree.Literal (λ rest tail it is. literal_of-Literal it tail)
     (λ it. pure-rest tt (expr.Lit (lit_of it)) (λ q. expr.Lit (lit_of it)) (print-literal it) (λ q ok. refl)) (λ input tail it is f. literal-atom it tail))
 
-abbrev is_true : Word → Bool
+abbrev pub is_true : Word → Bool
 is_true word.True = true
 is_true _ = false
 
@@ -62,13 +62,21 @@ lit_bool-is word.True span = refl
 lit_bool-is _ span = refl
 
 -- `true` or `false` as it is printed
-abbrev truth_tokens : Bool → Span → Trees
+abbrev pub truth_tokens : Bool → Span → Trees
 truth_tokens value span = printed_word (if value then codes "true" else codes "false") span
 
-sees-truth : (value : Bool) (span : Span) (tail : Trees) → is_true (next_word (truth_tokens value span ++ tail)) ≡ value
+abbrev pub truth_word : Bool → Word
+truth_word true = word.True
+truth_word false = word.False
+
+pub sees-truth : (value : Bool) (span : Span) (tail : Trees) → next_word (truth_tokens value span ++ tail) ≡ truth_word value
 unfolding printed_word next_word ident_of word_of named_words other_keywords
 sees-truth true span tail = rw (out-Ident (record { text = codes "true"; raw = false; span = span })) refl
 sees-truth false span tail = rw (out-Ident (record { text = codes "false"; raw = false; span = span })) refl
+
+is_true-truth : (value : Bool) → is_true (truth_word value) ≡ value
+is_true-truth true = refl
+is_true-truth false = refl
 
 truth-atom : (value : Bool) (span : Span) (tail : Trees) → atom_start (truth_tokens value span ++ tail) ≡ atom.Bool
 unfolding word_of named_words other_keywords
@@ -92,7 +100,7 @@ expr_bool-back = record {
             value = lit_bool (next_word (tokens ++ tail)) (first_span (tokens ++ tail));
             new = stands.0;
             is = ap (λ input. Some (lit_bool (next_word (tokens ++ tail)) (first_span (tokens ++ tail)), input)) stands.1;
-            same = rw (lit_bool-is (next_word (tokens ++ tail)) (first_span (tokens ++ tail)), sees-truth value span tail, bare_expr-Lit, bare_expr-Lit) refl;
+            same = rw (lit_bool-is (next_word (tokens ++ tail)) (first_span (tokens ++ tail)), sees-truth value span tail, is_true-truth value, bare_expr-Lit, bare_expr-Lit) refl;
           };
       first = λ tail f. truth-atom value span tail;
     })

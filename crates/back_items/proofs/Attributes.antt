@@ -1,5 +1,5 @@
 -- The law of printing for attributes.
-use Rattle.std.proofs.Common.{◌≡◌, Bool, true, false, if◌then◌else◌, [], ◌∷◌, ◌++◌, length, map, Option, Some, None, refl, rules, ap, subst, append-nil, codes, append_assoc}
+use Rattle.std.proofs.Common.{◌≡◌, ℕ, Bool, true, false, if◌then◌else◌, [], ◌∷◌, ◌++◌, length, map, Option, Some, None, refl, rules, ap, subst, append-nil, codes, append_assoc}
 use Rattle.std.proofs.lemmas.Bool.{and_parts, eqb-true}
 use Rattle.std.proofs.lemmas.Option.{some_pair_parts}
 use Rattle.token_core.specs.Span.{joined as joined_spans}
@@ -100,9 +100,9 @@ pub group-grouped : (between : Delimiter) (inner rest tail : Trees) (span : Span
 unfolding delimiter_of group is_pair is_joint
 group-grouped between inner rest tail span = (search (rules, the_lemmas), search (rules, the_lemmas))
 
-pub equals-grouped : (rest tail : Trees) (span : Span) → Grouped None rest (mark (codes "=") span ++ tail)
+pub mark-grouped : (ch : ℕ) (rest tail : Trees) (span : Span) → Grouped None rest (mark (ch ∷ []) span ++ tail)
 unfolding delimiter_of mark is_pair is_joint
-equals-grouped rest tail span = (rw (out-Punct (record { ch = 61; joint = false; span = span })) refl, rw (out-Punct (record { ch = 61; joint = false; span = span })) refl)
+mark-grouped ch rest tail span = (rw (out-Punct (record { ch = ch; joint = false; span = span })) refl, rw (out-Punct (record { ch = ch; joint = false; span = span })) refl)
 
 none-grouped : (rest tail : Trees) → tail ≡ [] → Grouped None rest tail
 unfolding delimiter_of
@@ -115,7 +115,7 @@ Done false = λ rest tail. (is_end tail ≡ false) × Grouped None rest tail
 
 equals-done : (rest tail : Trees) (span : Span) → Done false rest (mark (codes "=") span ++ tail)
 unfolding mark
-equals-done rest tail span = (refl, equals-grouped rest tail span)
+equals-done rest tail span = (refl, mark-grouped 61 rest tail span)
 
 -- 35 is the `#`
 hash-mark : (tail : Trees) (span : Span) → is_mark 35 (mark (codes "#") span ++ tail) ≡ true

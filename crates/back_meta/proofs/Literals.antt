@@ -27,6 +27,7 @@ use Rattle.print_core.specs.Marks.{Trees, word as printed_word}
 use Rattle.bare_core.specs.Bare.{bare_lit}
 use Rattle.front_core.specs.Front.{at}
 use Rattle.back_core.specs.Printed.{Reads}
+use Rattle.back_core.proofs.Atoms.{is_true, sees-truth, truth_tokens, truth_word}
 use Rattle.back_core.proofs.AtomStarts.{literal_of-Literal}
 use Rattle.back_core.proofs.Exprs.{lit_tokens-by}
 use Rattle.back_core.proofs.Marks.{out-Ident, word-length}
@@ -83,10 +84,6 @@ literal-reads input after found e = by (literal_of input.rest) refl e
 
 -- ---- truths
 
-abbrev is_true : Word → Bool
-is_true word.True = true
-is_true _ = false
-
 abbrev truth : Bool → Span → Lit
 truth value span = lit.Bool (record { value = value; span = span })
 
@@ -94,43 +91,34 @@ bool_of-is : (it : Word) (span : Span) → bool_of it span ≡ truth (is_true it
 bool_of-is word.True span = refl
 bool_of-is _ span = refl
 
-abbrev word_for : Bool → Word
-word_for true = word.True
-word_for false = word.False
-
-sees-truth : (value : Bool) (span : Span) (tail : Trees) → next_word (lit_tokens (truth value span) ++ tail) ≡ word_for value
-unfolding printed_word next_word ident_of word_of named_words other_keywords
-sees-truth true span tail = rw (out-Ident (record { text = codes "true"; raw = false; span = span })) refl
-sees-truth false span tail = rw (out-Ident (record { text = codes "false"; raw = false; span = span })) refl
-
-truth-literal : (value : Bool) (span : Span) (tail : Trees) → literal_of (lit_tokens (truth value span) ++ tail) ≡ None
+truth-literal : (value : Bool) (span : Span) (tail : Trees) → literal_of (truth_tokens value span ++ tail) ≡ None
 unfolding printed_word literal_of
 truth-literal value span tail = rw (out-Ident (record { text = (if value then codes "true" else codes "false"); raw = false; span = span })) refl
 
-truth-after : (value : Bool) (span : Span) (tail : Trees) → after_one (lit_tokens (truth value span) ++ tail) ≡ tail
+truth-after : (value : Bool) (span : Span) (tail : Trees) → after_one (truth_tokens value span ++ tail) ≡ tail
 unfolding printed_word
 truth-after value span tail = refl
 
-truth-some : (value : Bool) (span : Span) (tail : Trees) → is_end (lit_tokens (truth value span) ++ tail) ≡ false
+truth-some : (value : Bool) (span : Span) (tail : Trees) → is_end (truth_tokens value span ++ tail) ≡ false
 unfolding printed_word
 truth-some value span tail = refl
 
-truth-for : (value : Bool) → is_truth (word_for value) ≡ true
+truth-for : (value : Bool) → is_truth (truth_word value) ≡ true
 truth-for true = refl
 truth-for false = refl
 
-for-truth : (value : Bool) (span : Span) → bool_of (word_for value) span ≡ truth value span
+for-truth : (value : Bool) (span : Span) → bool_of (truth_word value) span ≡ truth value span
 for-truth true span = refl
 for-truth false span = refl
 
-truth-starts : (value : Bool) (span : Span) (tail : Trees) → Ended tail → Starts start.Boolean (lit_tokens (truth value span) ++ tail)
+truth-starts : (value : Bool) (span : Span) (tail : Trees) → Ended tail → Starts start.Boolean (truth_tokens value span ++ tail)
 truth-starts value span tail ended = (rw (truth-literal value span tail, sees-truth value span tail, truth-for value, truth-after value span tail, ended.equals) refl, truth-some value span tail)
 
 truth-reads : (value : Bool) (span : Span) → ReadsLit start.Boolean boolean (truth value span)
 unfolding boolean next skipped
 truth-reads value span = record {
   again = λ tail last f.
-      let tokens = lit_tokens (truth value span) in
+      let tokens = truth_tokens value span in
       let stands = skipped-over 1 tokens tail last (word-length (if value then codes "true" else codes "false") span) in
       record {
         value = truth value (first_span (tokens ++ tail));

@@ -33,12 +33,11 @@ use Rattle.front_core.specs.Front.{at}
 use Rattle.back_core.specs.Follow.{Keep}
 use Rattle.back_core.specs.Printed.{Again, Reads}
 use Rattle.back_core.proofs.Follows.{never}
-use Rattle.back_core.proofs.Infix.{pair-apart}
 use Rattle.back_core.proofs.Marks.{mark-length, mark_of-mark}
 use Rattle.back_core.proofs.Steps.{bind-at}
 use Rattle.back_core.proofs.Takes.{contents_of-group, group-length, skipped-over}
 use Rattle.back_items.specs.Follow.{StartsPath}
-use Rattle.back_items.proofs.Attributes.{equals-grouped, group-grouped, meta_path-back}
+use Rattle.back_items.proofs.Attributes.{group-grouped, mark-grouped, meta_path-back}
 use Rattle.back_items.proofs.Values.{contents-stream}
 use Rattle.back_meta.proofs.Found.{Good, bare_found, found_tokens}
 use Rattle.back_meta.specs.Shut.{IsShut}
@@ -155,7 +154,7 @@ unfolding skipped
 valued path rest eq_span span it equals reads = record {
   tokens = equal ++ reads.tokens;
   is = reads.is path eq_span span;
-  colons = λ tail f. rw (append_assoc equal reads.tokens tail) (pair-apart 61 [] place (reads.tokens ++ tail) 58 58 refl);
+  colons = λ tail f. rw (append_assoc equal reads.tokens tail) (mark-grouped 61 tail (reads.tokens ++ tail) place).1;
   equals = λ tail f. rw (append_assoc equal reads.tokens tail) (seen tail ∙ sym equals);
   again = read;
 }
@@ -178,7 +177,7 @@ valued path rest eq_span span it equals reads = record {
         record {
           value = found.Item (with_value other (first_span (equal ++ behind)) (joined start more.new) more.value);
           new = more.new;
-          is = rw (append_assoc equal reads.tokens tail, (equals-grouped behind behind place).0, seen tail) (name_value-at start other behind tail (at (equal ++ behind) last) stands.0 more.new more.value stands.1 (reads.attribute tail f) more.is);
+          is = rw (append_assoc equal reads.tokens tail, (mark-grouped 61 behind behind place).0, seen tail) (name_value-at start other behind tail (at (equal ++ behind) last) stands.0 more.new more.value stands.1 (reads.attribute tail f) more.is);
           same = ap found.Item (bare-with other (first_span (equal ++ behind)) (joined start more.new) more.value ∙ (rw (same, more.same) refl ∙ sym (bare-with path eq_span span it)));
         }
 

@@ -8,7 +8,7 @@ use Rattle.grammar_core.specs.Grammar.{max_depth}
 use Rattle.grammar_core.specs.Input.{Input, Outcome, start_of}
 use Rattle.grammar_core.specs.Readers.{any_level}
 use Rattle.item_core.specs.Attributes.{number_in}
-use Rattle.meta_core.specs.Values.{run_of, shortest_run}
+use Rattle.meta_core.specs.Values.{run_of}
 use Rattle.meta_core.proofs.Runs.{shortest_run-none}
 use Rattle.print_core.specs.Marks.{Trees, contents}
 use Rattle.front_core.specs.Front.{at}

@@ -8,8 +8,9 @@ use Rattle.item_core.specs.Attributes.{delimiter_of}
 use Rattle.print_core.specs.Marks.{Trees, comma, mark}
 use Rattle.front_core.specs.Alike.{stops}
 use Rattle.back_core.specs.Follow.{AfterExpr}
-use Rattle.back_core.proofs.Infix.{expr-end, expr_before-comma, pair-apart}
-use Rattle.back_core.proofs.Marks.{is_comma-comma, is_group-mark, mark_of-mark, out-Punct}
+use Rattle.back_core.proofs.Infix.{expr-end, expr_before-comma}
+use Rattle.back_core.proofs.Marks.{is_comma-comma, is_group-mark, mark_of-mark}
+use Rattle.back_items.proofs.Attributes.{mark-grouped}
 
 -- where no item goes on, and no attribute begins (35 is its `#`)
 pub record Ended (tail : Trees) : Type 0 where
@@ -29,17 +30,13 @@ comma-stops : (span : Span) (tail : Trees) → stops (comma span ++ tail) ≡ tr
 unfolding mark
 comma-stops span tail = is_comma-comma tail span
 
-pub mark-grouped : (ch : ℕ) (span : Span) (tail : Trees) → delimiter_of (mark (ch ∷ []) span ++ tail) ≡ None
-unfolding mark delimiter_of
-mark-grouped ch span tail = rw (out-Punct (record { ch = ch; joint = false; span = span })) refl
-
 pub ended-comma : (span : Span) (tail : Trees) → Ended (comma span ++ tail)
 ended-comma span tail = record {
   stop = comma-stops span tail;
   expr = λ rest. expr_before-comma any_level rest tail span;
-  colons = pair-apart 44 [] span tail 58 58 refl;
+  colons = (mark-grouped 44 tail tail span).1;
   equals = rw (mark_of-mark 44 [] span tail) refl;
   hash = rw (mark_of-mark 44 [] span tail) refl;
-  grouped = mark-grouped 44 span tail;
+  grouped = (mark-grouped 44 tail tail span).0;
   bracket = is_group-mark 44 [] span tail delimiter.Bracket;
 }

@@ -1,4 +1,4 @@
-//! What is read of the printing of nested items. The function does nothing: its clause is the law.
+//! What is read of the printing of nested items. The function does nothing: its clauses are the law.
 
 ghost use Rattle.back_core.specs.Printed.{separated, stream};
 ghost use Rattle.back_meta.specs.Shut.{AllShut, BeginsNoExpr, IsShut};
