@@ -15,8 +15,8 @@ use Rattle.grammar_core.specs.declared.word.Word.{Word}
 use Rattle.grammar_core.specs.declared.word.Word.TheVariants as word
 use Rattle.grammar_core.specs.Input.{Input, Parser, ◌<$>◌, first_span, is_end, next, pure, skipped, taken}
 use Rattle.grammar_core.specs.Literals.{lit_of, value_of}
-use Rattle.grammar_core.specs.Token.{Layer, after_one, ident_of, is_mark, literal_of, mark_of, span_of}
-use Rattle.grammar_core.specs.Words.{named_words, next_word, other_keywords, word_of}
+use Rattle.grammar_core.specs.Token.{Layer, after_one, is_mark, literal_of, mark_of, span_of}
+use Rattle.grammar_core.specs.Words.{next_word}
 use Rattle.item_core.specs.Attributes.{signed}
 use Rattle.meta_core.specs.declared.item.Found.{Found}
 use Rattle.meta_core.specs.declared.item.ItemStart.{ItemStart}

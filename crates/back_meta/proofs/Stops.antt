@@ -1,5 +1,5 @@
 -- What a printed item stands before: nothing, or a comma.
-use Rattle.std.proofs.Common.{◌≡◌, ℕ, true, false, [], ◌∷◌, ◌++◌, None, refl}
+use Rattle.std.proofs.Common.{◌≡◌, true, false, [], ◌++◌, None, refl}
 use Rattle.token_core.specs.declared.span.Span.{Span}
 use Rattle.token_core.specs.declared.tree.Delimiter.TheVariants as delimiter
 use Rattle.grammar_core.specs.Readers.{any_level}
