@@ -1,0 +1,107 @@
+-- The law of printing for the value of an attribute.
+use Rattle.std.proofs.Common.{◌≡◌, true, false, [], ◌∷◌, ◌++◌, Option, Some, None, refl, ◌∙◌, codes, rules}
+use Rattle.std.specs.Str.{chars}
+use Rattle.token_core.specs.declared.span.Span.{Span}
+use Rattle.token_core.specs.declared.tree.Literal.{Literal}
+use Rattle.token_core.specs.declared.tree.TokenTree.{the_lemmas as tree_lemmas}
+use Rattle.token_core.specs.declared.tree.TokenTree.TheVariants as tree
+use Rattle.expr_core.specs.declared.expr.Expr.{Expr, the_lemmas}
+use Rattle.expr_core.specs.declared.expr.Expr.TheVariants as expr
+use Rattle.expr_core.specs.declared.lit.Lit.{Lit}
+use Rattle.expr_core.specs.declared.lit.Lit.TheVariants as lit
+use Rattle.lit_core.specs.declared.value.Value.{Value}
+use Rattle.lit_core.specs.declared.value.Value.TheVariants as value
+use Rattle.grammar_core.specs.Grammar.{within, max_depth}
+use Rattle.grammar_core.specs.Input.{taken, is_end}
+use Rattle.grammar_core.specs.Literals as literals
+use Rattle.grammar_core.specs.Readers.{any_level}
+use Rattle.grammar_core.specs.Token.{is_mark, literal_of}
+use Rattle.print_core.specs.Literals.{lit_tokens}
+use Rattle.print_core.specs.Marks.{Trees, contents, mark}
+use Rattle.print_core.specs.Nodes.{expr_tokens}
+use Rattle.bare_core.specs.Bare.{bare_expr, bare_lit}
+use Rattle.bare_core.proofs.Made.{bare_expr-Lit}
+use Rattle.front_core.specs.Alike.{Any}
+use Rattle.item_core.specs.Attributes.{expr_in, negative, number_in, signed, stream, value_by, value_of}
+use Rattle.back_core.specs.Follow.{Some'}
+use Rattle.back_core.specs.Parts.{AllBacks}
+use Rattle.back_core.specs.Printed.{Back}
+use Rattle.back_core.proofs.AtomStarts.{expr-some}
+use Rattle.back_core.proofs.Follows.{looser-end}
+use Rattle.back_core.proofs.Marks.{mark-length, mark_of-mark, out-Literal}
+use Rattle.back_core.proofs.Steps.{Free, Rest, whole, here-rest, pure-rest, refuse-rest, upto-rest}
+use Rattle.back_core.proofs.Takes.{expect-rest, take_as-rest}
+use Rattle.back_items.proofs.Makes.{all-again, all-first}
+use Rattle.back_items.proofs.Signs.{unsigned}
+
+-- ---- numbers with a minus
+
+literal_of-Literal : (it : Literal) (tail : Trees) → literal_of (tree.Literal it ∷ tail) ≡ Some it
+unfolding literal_of
+literal_of-Literal it tail = rw (out-Literal it) refl
+
+negative-rest : {Q : Type 0} (Ok : Q → Type 0) (found : Option Value) (token : Literal) (span : Span)
+    → Rest {P = Span} {Q = Q × Span} (λ q. Ok q.0) bare_lit lit_tokens (λ place more. mark (codes "-") place ++ (tree.Literal token ∷ more)) Any Any (taken (negative span (literals.lit_by token found))) (λ q. taken (negative q.1 (literals.lit_by token found)))
+negative-rest Ok (Some (value.Int digits)) token span =
+    pure-rest span (lit.Int (record { negative = true; digits = digits; token = token; span = span })) (λ q. lit.Int (record { negative = true; digits = digits; token = token; span = q.1 })) refl (λ q ok. refl)
+negative-rest Ok (Some value.Float) token span =
+    pure-rest span (lit.Float (record { negative = true; token = token; span = span })) (λ q. lit.Float (record { negative = true; token = token; span = q.1 })) refl (λ q ok. refl)
+negative-rest Ok (Some (value.Str text)) token span = refuse-rest
+negative-rest Ok (Some (value.ByteStr bytes)) token span = refuse-rest
+negative-rest Ok (Some (value.Byte byte)) token span = refuse-rest
+negative-rest Ok (Some (value.Char ch)) token span = refuse-rest
+negative-rest Ok None token span = refuse-rest
+
+minus-some : (rest tail : Trees) (span : Span) → Some' rest (mark (codes "-") span ++ tail)
+unfolding mark
+minus-some rest tail span = refl
+
+pub signed-back : Back bare_lit lit_tokens Some' Any signed
+unfolding signed literals.lit_of
+signed-back = whole (here-rest (λ start. expect-rest {Second = Any} 1 (is_mark 45) (λ place. mark (codes "-") place) (mark-length (codes "-")) (λ place tail. rw (mark_of-mark 45 [] place tail) refl)
+    (take_as-rest {Second = Any} literal_of tree.Literal (λ rest tail it is. literal_of-Literal it tail) (λ token.
+    upto-rest start (λ q. q.1) (λ span. negative-rest Free (literals.value_of (chars token.text)) token span))
+    (λ input tail it is f. tt))
+    (λ input tail place seen f. minus-some input.rest tail place)))
+
+-- ---- values
+
+pub contents-stream : (trees : Trees) → contents (stream trees) ≡ trees
+contents-stream trees = search (rules, tree_lemmas)
+
+print-Lit : (it : Lit) → expr_tokens (expr.Lit it) ≡ lit_tokens it
+print-Lit it = search the_lemmas
+
+print-Verbatim : (trees : Trees) → expr_tokens (expr.Verbatim (stream trees)) ≡ trees
+print-Verbatim trees = verbatim ∙ contents-stream trees
+  where
+    verbatim : expr_tokens (expr.Verbatim (stream trees)) ≡ contents (stream trees)
+    verbatim = search the_lemmas
+
+-- the printing of the value that the tokens are is no empty list, and is the same value
+pub record ValueAgain (found : Expr) : Type 0 where
+  pub some : is_end (expr_tokens found) ≡ false
+  pub same : bare_expr (value_of (expr_tokens found)) ≡ bare_expr found
+
+module _ (parts : AllBacks (within max_depth)) where
+  pub value-again : (trees : Trees) → is_end trees ≡ false → ValueAgain (value_of trees)
+  unfolding value_of
+  value-again trees some = by (number_in trees) (expr_in trees) refl refl
+    where
+      by : (number : Option Lit) (found : Option Expr) → number_in trees ≡ number → expr_in trees ≡ found → ValueAgain (value_by trees number found)
+      by (Some it) found number_is is =
+          let again = all-again signed-back tt trees it number_is in
+          record {
+            some = rw (print-Lit it) (all-first signed-back tt trees it number_is);
+            same = rw (print-Lit it, again.1, bare_expr-Lit, bare_expr-Lit, again.2) refl;
+          }
+      by None (Some it) number_is is =
+          let again = all-again (parts.expr any_level) (λ other. looser-end any_level []) trees it is in
+          record {
+            some = expr-some any_level (expr_tokens it) (all-first (parts.expr any_level) (λ other. looser-end any_level []) trees it is).begins;
+            same = rw (unsigned parts trees it is number_is, again.1) again.2;
+          }
+      by None None number_is is = record {
+        some = rw (print-Verbatim trees) some;
+        same = rw (print-Verbatim trees, number_is, is) refl;
+      }

@@ -1,0 +1,47 @@
+-- The law of printing for items over whole lists of tokens.
+use Rattle.std.proofs.Common.{◌≡◌, true, false, [], map, flat_map, refl}
+use Rattle.grammar_core.specs.declared.word.Word.TheVariants as word
+use Rattle.grammar_core.specs.Grammar.{within, max_depth}
+use Rattle.grammar_core.specs.Token.{ident_of}
+use Rattle.grammar_core.specs.Words.{next_word, sees}
+use Rattle.item_core.specs.Trees.{derive_input_of, items_of, type_param_of, visibility_of, where_of}
+use Rattle.print_core.specs.Items.{derive_input_tokens, type_param_tokens, visibility_tokens, where_tokens}
+use Rattle.bare_items.specs.Bare.{bare_derive_input, bare_type_param, bare_visibility, bare_where}
+use Rattle.front_core.specs.Alike.{Any}
+use Rattle.back_core.specs.Parts.{AllBacks}
+use Rattle.back_core.specs.Printed.{ReadBack}
+use Rattle.back_core.proofs.Follows.{never, type-end}
+use Rattle.back_core.proofs.Wholes.{whole-back}
+use Rattle.back_items.specs.Follow.{AfterVisibility, restricts}
+use Rattle.back_items.proofs.Fields.{UnnamedBack, no-restriction}
+use Rattle.back_items.proofs.Items.{item-back, items-back}
+use Rattle.back_items.proofs.Params.{one_type_param-back}
+use Rattle.back_items.proofs.Variants.{no-parentheses}
+use Rattle.back_items.proofs.Visibilities.{visibility-back}
+use Rattle.back_items.proofs.Wheres.{where_clause-back}
+
+no-pub : sees word.Pub [] ≡ false
+unfolding next_word ident_of
+no-pub = refl
+
+module _ (parts : AllBacks (within max_depth)) where
+  pub where_of-back : ReadBack bare_where where_tokens where_of
+  unfolding where_of
+  where_of-back = whole-back (λ rest. refl) (where_clause-back parts)
+
+  pub visibility_of-back : ReadBack bare_visibility visibility_tokens visibility_of
+  unfolding visibility_of
+  visibility_of-back = whole-back {F = AfterVisibility Any} (λ rest. (never (sees word.Pub) rest [] no-pub, (never restricts rest [] (no-restriction [] no-parentheses), tt))) (visibility-back parts Any (λ rest tail seen. tt))
+
+  pub type_param_of-back : ReadBack bare_type_param type_param_tokens type_param_of
+  unfolding type_param_of
+  type_param_of-back = whole-back (type-end true) (one_type_param-back parts)
+
+  module _ (unnamed : UnnamedBack) where
+    pub derive_input_of-back : ReadBack bare_derive_input derive_input_tokens derive_input_of
+    unfolding derive_input_of
+    derive_input_of-back = whole-back (λ rest. tt) (item-back parts unnamed)
+
+    pub items_of-back : ReadBack (map bare_derive_input) (flat_map derive_input_tokens) items_of
+    unfolding items_of
+    items_of-back = whole-back (λ rest. ((λ h. absurd cc), tt)) (items-back parts unnamed)
