@@ -1,14 +1,11 @@
 -- The law of printing for what is made of a part, and for all tokens of a list.
-use Rattle.std.proofs.Common.{◌≡◌, if◌then◌else◌, [], ◌∷◌, ◌++◌, Option, Some, None, refl, ap, ◌∙◌, append-nil, List, append_assoc, codes, ℕ, nat_le, Bool, true, false}
-use Rattle.std.proofs.lemmas.Option.{same_Some, some_pair_parts}
+use Rattle.std.proofs.Common.{◌≡◌, if◌then◌else◌, [], ◌∷◌, ◌++◌, Some, None, refl, ap, ◌∙◌, List, append_assoc, codes, ℕ, nat_le, Bool, true, false}
+use Rattle.std.proofs.lemmas.Option.{some_pair_parts}
 use Rattle.token_core.specs.declared.span.Span.{Span}
-use Rattle.token_core.specs.declared.span.Span.TheVariants.{CallSite}
 use Rattle.grammar_core.specs.Input.{Input, Outcome, Parser, ◌<$>◌, pure, is_end, start_of, finished, inside, next}
-use Rattle.grammar_core.specs.Trees.{all}
 use Rattle.print_core.specs.Marks.{Trees, comma, joined, mark}
 use Rattle.front_core.specs.Alike.{Relation}
 use Rattle.front_core.specs.Front.{at}
-use Rattle.back_core.specs.Printed.{Back}
 use Rattle.back_core.proofs.Steps.{Rest, bind-at, Gives}
 use Rattle.print_core.specs.Paths.{angled}
 use Rattle.grammar_core.specs.Grammar.{kept}

@@ -16,7 +16,7 @@ use Rattle.grammar_core.specs.declared.look.TypeStart.TheVariants as begin
 use Rattle.grammar_core.specs.declared.word.Word.{Word}
 use Rattle.grammar_core.specs.declared.word.Word.TheVariants as word
 use Rattle.grammar_core.specs.Grammar.{max_depth, within}
-use Rattle.grammar_core.specs.Input.{Input, Outcome, Parser, ◌>>=◌, ◌<$>◌, pure, after_eat, eat, first_span, is_end, items_after, next, start_of, taken, upto, at_end, items_from}
+use Rattle.grammar_core.specs.Input.{Input, Parser, ◌>>=◌, ◌<$>◌, pure, after_eat, eat, first_span, is_end, items_after, next, start_of, taken, upto, items_from}
 use Rattle.grammar_core.specs.Look.{is_there, type_start, type_word}
 use Rattle.grammar_core.specs.Make as make
 use Rattle.grammar_core.specs.Paths.{path}
@@ -27,16 +27,16 @@ use Rattle.grammar_core.specs.Words.{begins_segment, is_word, named_words, next_
 use Rattle.item_core.specs.Generics.{any_type}
 use Rattle.item_core.specs.Visibility.{is_scope, path_of_word, restriction, restriction_in, scope_in, scope_word}
 use Rattle.print_core.specs.declared.path.PathStyle.TheVariants.{Plain}
-use Rattle.print_core.specs.Marks.{Trees, comma, ended, group, joined, tuple}
+use Rattle.print_core.specs.Marks.{Trees, comma, tuple}
 use Rattle.print_core.specs.Nodes.{path_tokens, type_tokens}
 use Rattle.bare_core.specs.Bare.{bare_type}
 use Rattle.back_core.specs.Follow.{AfterType, BeginsType, Keep, is_type}
-use Rattle.back_core.specs.Printed.{Back, Reads}
+use Rattle.back_core.specs.Printed.{Back}
 use Rattle.front_core.specs.Front.{at}
 use Rattle.back_core.proofs.Follows.{type-end, type-seen, type_before-mark}
 use Rattle.back_core.proofs.Groups.{tuple-long, tuple-single}
 use Rattle.back_core.proofs.Lists.{ItemsMore, items_from-more, some-length, comma-length}
-use Rattle.back_core.proofs.Marks.{out-Ident, segment-word}
+use Rattle.back_core.proofs.Marks.{out-Ident}
 use Rattle.back_core.proofs.Prints.{print-paren, print-tuple, print-type_path}
 use Rattle.back_core.proofs.Steps.{bind-at}
 use Rattle.back_core.proofs.Takes.{contents_of-group}
@@ -44,7 +44,7 @@ use Rattle.back_core.proofs.Types.{type_start-back}
 use Rattle.back_core.proofs.Within.{within-backs}
 use Rattle.back_items.specs.Follow.{restricts}
 use Rattle.back_items.proofs.Makes.{inside-parts, kept-read}
-use Rattle.back_items.proofs.Singles.{Single, path-single}
+use Rattle.back_items.proofs.Singles.{path-single}
 use Rattle.expr_core.specs.declared.path.Path.{Path}
 use Rattle.grammar_core.specs.Readers.{Readers}
 use Rattle.back_core.specs.Parts.{AllBacks}
