@@ -1,5 +1,5 @@
 -- The law of printing for types.
-use Rattle.std.proofs.Common.{◌≡◌, inl, ℕ, Bool, true, false, if◌then◌else◌, List, [], ◌++◌, Some, None, refl, ap, append_assoc, append-nil, codes, option_map}
+use Rattle.std.proofs.Common.{◌≡◌, inl, ℕ, Bool, true, false, if◌then◌else◌, List, [], ◌++◌, Some, None, refl, ap, append_assoc, append-nil, codes, option_map, sym, ◌∙◌}
 use Rattle.token_core.specs.declared.span.Span.{Span}
 use Rattle.token_core.specs.declared.tree.Delimiter.TheVariants as delimiter
 use Rattle.token_core.specs.declared.tree.TokenTree.TheVariants as tree
@@ -225,3 +225,8 @@ module _ (readers : Readers) (parts : AllBacks readers) where
   pub type_step-back : (many : Bool) → Back bare_type type_tokens BeginsType (AfterType many) (type_step readers many)
   unfolding type_step
   type_step-back many = whole (test-rest {by = Begun} type_start (type_by-rest many) (λ begins rest tail is f. begun begins rest tail is f))
+
+  -- a type begins as the source's did
+  pub type_start-back : (many : Bool) → Back bare_type type_tokens (λ rest tail. type_start tail ≡ type_start rest) (AfterType many) (type_step readers many)
+  unfolding type_step
+  type_start-back many = whole (test-rest {by = Begun} type_start (type_by-rest many) (λ begins rest tail is f. let begin = begun begins rest tail is f in (begin.0, begin.0 ∙ sym is)))

@@ -1,12 +1,12 @@
 -- The law of printing over whole lists of tokens, and for lists of trees.
-use Rattle.std.proofs.Common.{◌≡◌, Bool, true, false, if◌then◌else◌, [], ◌++◌, map, Option, Some, None, refl, ap, append-nil}
+use Rattle.std.proofs.Common.{◌≡◌, true, false, if◌then◌else◌, [], ◌∷◌, ◌++◌, map, Option, Some, None, refl, ap, ◌∙◌, append-nil}
 use Rattle.std.proofs.lemmas.Option.{same_Some}
 use Rattle.token_core.specs.declared.span.Span.{Span}
 use Rattle.token_core.specs.declared.span.Span.TheVariants.{CallSite}
 use Rattle.token_core.specs.declared.tree.TokenStream.{out-TokenStream}
 use Rattle.token_core.specs.declared.tree.TokenTree.TheVariants as tree
 use Rattle.grammar_core.specs.Grammar.{within, max_depth}
-use Rattle.grammar_core.specs.Input.{Input, Outcome, Parser, is_end, start_of, take_as}
+use Rattle.grammar_core.specs.Input.{Outcome, Parser, is_end, start_of, take_as}
 use Rattle.grammar_core.specs.Paths.{list}
 use Rattle.grammar_core.specs.Readers.{any_level}
 use Rattle.grammar_core.specs.Trees.{all, whole, expr_of, exprs_of, fn_args_of, ident_of, idents_of, path_of, paths_of, type_of}
@@ -17,6 +17,7 @@ use Rattle.print_core.specs.Marks.{Trees, comma, ident}
 use Rattle.print_core.specs.Nodes.{expr_tokens, path_tokens, type_tokens}
 use Rattle.bare_core.specs.Bare.{bare_expr, bare_fn_arg, bare_ident, bare_path, bare_type}
 use Rattle.front_core.specs.Alike.{Relation, Any}
+use Rattle.front_core.specs.Front.{at}
 use Rattle.back_core.specs.Follow.{Some', begins_expr}
 use Rattle.back_core.specs.Parts.{AllBacks}
 use Rattle.back_core.specs.Printed.{Back, ReadBack, separated}
@@ -29,29 +30,44 @@ use Rattle.back_core.proofs.Marks.{name_of-Ident}
 use Rattle.back_core.proofs.Paths.{path-back}
 use Rattle.back_core.proofs.Takes.{take_as-printed}
 
-all-parts : {A : Type 0} (outcome : Outcome A) (tree : A) → all outcome ≡ Some tree → (after : Input) × (outcome ≡ Some (tree, after))
-all-parts None tree e = absurd cc
-all-parts {A} (Some found) tree e = by (is_end found.1.rest) e
+-- ---- all tokens
+
+pub all-parts : {A : Type 0} (outcome : Outcome A) (found : A) → all outcome ≡ Some found → (last : Span) × (outcome ≡ Some (found, at [] last))
+all-parts None found e = absurd cc
+all-parts {A} (Some pair) found e = by pair.1.rest refl e
   where
-    by : (b : Bool) → ◌≡◌ {A = Option A} (if b then Some found.0 else None) (Some tree) → (after : Input) × (Some found ≡ Some (tree, after))
-    by true e = (found.1, ap (λ it. Some (it, found.1)) (same_Some found.0 tree e))
-    by false e = absurd cc
+    by : (rest : Trees) → pair.1.rest ≡ rest → ◌≡◌ {A = Option A} (if is_end rest then Some pair.0 else None) (Some found) → (last : Span) × (◌≡◌ {A = Outcome A} (Some pair) (Some (found, at [] last)))
+    by [] is e = (pair.1.last, ap (λ rest. Some (pair.0, at rest pair.1.last)) is ∙ ap (λ value. Some (value, at [] pair.1.last)) (same_Some pair.0 found e))
+    by (tree ∷ trees) is e = absurd cc
+
+pub all-again : {A B : Type 0} {bare : A → B} {print : A → Trees} {G F : Relation} {parser : Parser A} → Back bare print G F parser → F [] [] → (trees : Trees) (found : A) → all (parser (start_of trees)) ≡ Some found
+    → (value : A) × (all (parser (start_of (print found))) ≡ Some value) × (bare value ≡ bare found)
+all-again {A} {B} {bare} {print} {G} {F} {parser} rule ends trees found e =
+    let source = all-parts (parser (start_of trees)) found e in
+    let one = rule.of (start_of trees) (at [] source.0) found source.1 in
+    let more = one.again [] CallSite ends in
+    let reads = rw append-nil at more.is in
+    (more.value, rw reads refl, more.same)
+
+-- what the printing begins with
+pub all-first : {A B : Type 0} {bare : A → B} {print : A → Trees} {G F : Relation} {parser : Parser A} → Back bare print G F parser → F [] [] → (trees : Trees) (found : A) → all (parser (start_of trees)) ≡ Some found → G trees (print found)
+all-first {A} {B} {bare} {print} {G} {F} {parser} rule ends trees found e =
+    let source = all-parts (parser (start_of trees)) found e in
+    let one = rule.of (start_of trees) (at [] source.0) found source.1 in
+    rw append-nil at (one.first [] ends)
 
 -- a rule that nothing has to follow
-pub whole-back : {A B : Type 0} {bare : A → B} {print : A → Trees} {G F : Relation} {parser : Parser A} → ((rest : Trees) → F rest []) → Back bare print G F parser → ReadBack bare print (whole parser)
-whole-back {print = print} {parser = parser} ends rule = record {
+pub whole-back : {A B : Type 0} {bare : A → B} {print : A → Trees} {G F : Relation} {parser : Parser A} → F [] [] → Back bare print G F parser → ReadBack bare print (whole parser)
+whole-back {print = print} ends rule = record {
   of = λ tokens tree e.
-      let parts = all-parts (parser (start_of (out-TokenStream tokens).trees)) tree e in
-      let one = rule.of (start_of (out-TokenStream tokens).trees) parts.0 tree parts.1 in
-      let more = one.again [] CallSite (ends parts.0.rest) in
-      let reads = rw append-nil at more.is in
-      (more.value, rw (contents-stream (print tree), reads) refl, more.same);
+      let again = all-again rule ends (out-TokenStream tokens).trees tree e in
+      (again.0, rw (contents-stream (print tree)) again.1, again.2);
 }
 
 -- a list with commas
 pub list-back : {A B : Type 0} {bare : A → B} {print : A → Trees} {G F : Relation} {item : Parser A} → Back bare print G F item → ((rest tail : Trees) → G rest tail → is_end tail ≡ false) → ((rest : Trees) → F rest [])
     → ((rest tail : Trees) (span : Span) → F rest (comma span ++ tail)) → ReadBack (map bare) (separated print) (whole (list item))
-list-back {bare = bare} {print = print} {item = item} rule starts ends commas = whole-back (λ rest. refl) (items-printed bare print item item rule starts ends commas CallSite)
+list-back {bare = bare} {print = print} {item = item} rule starts ends commas = whole-back refl (items-printed bare print item item rule starts ends commas CallSite)
 
 -- what is read exactly is read as the same without its places
 exactly : {A B : Type 0} (bare : A → B) {print : A → Trees} {G F : Relation} {parser : Parser A} → Back (λ (it : A). it) print G F parser → Back bare print G F parser
@@ -69,7 +85,7 @@ name-back = exactly bare_ident (take_as-printed name_of tree.Ident (λ rest tail
 
 pub ident_of-back : ReadBack bare_ident ident ident_of
 unfolding ident_of
-ident_of-back = whole-back (λ rest. tt) name-back
+ident_of-back = whole-back tt name-back
 
 pub idents_of-back : ReadBack (map bare_ident) (separated ident) idents_of
 unfolding idents_of
@@ -82,11 +98,11 @@ any-some = expr-some any_level
 module _ (parts : AllBacks (within max_depth)) where
   pub type_of-back : ReadBack bare_type type_tokens type_of
   unfolding type_of
-  type_of-back = whole-back (type-end true) (parts.ty true)
+  type_of-back = whole-back (type-end true []) (parts.ty true)
 
   pub path_of-back : ReadBack bare_path (path_tokens Plain) path_of
   unfolding path_of
-  path_of-back = whole-back (λ rest. (type-end false rest).0) (path-back (within max_depth) parts true)
+  path_of-back = whole-back (type-end false []).0 (path-back (within max_depth) parts true)
 
   pub paths_of-back : ReadBack (map bare_path) (separated (path_tokens Plain)) paths_of
   unfolding paths_of
@@ -98,7 +114,7 @@ module _ (parts : AllBacks (within max_depth)) where
 
   pub expr_of-back : ReadBack bare_expr expr_tokens expr_of
   unfolding expr_of
-  expr_of-back = whole-back (expr-end any_level) (parts.expr any_level)
+  expr_of-back = whole-back (expr-end any_level []) (parts.expr any_level)
 
   pub exprs_of-back : ReadBack (map bare_expr) (separated expr_tokens) exprs_of
   unfolding exprs_of

@@ -31,7 +31,7 @@ use Rattle.back_core.proofs.Steps.{Free, Rest, close-rest, here-rest, hole, pure
 use Rattle.back_core.proofs.Takes.{expect-rest}
 use Rattle.back_items.specs.Follow.{AfterWhere, BeginsWhere}
 use Rattle.back_items.proofs.Always.{Always, if-always, pure-always, refuse-always, so-always, then-always}
-use Rattle.back_items.proofs.Fields.{Grouped, UnnamedBack, brace-apart, fields_named-back, fields_unnamed-back}
+use Rattle.back_items.proofs.Fields.{Grouped, brace-apart, fields_named-back, fields_unnamed-back}
 use Rattle.back_items.proofs.Variants.{variants-back}
 use Rattle.back_items.proofs.Wheres.{maybe_where-back}
 
@@ -147,11 +147,11 @@ group-unopened (tree ∷ trees) h = by (out-TokenTree tree) refl
 abbrev pub BeginsBody : Relation
 BeginsBody rest tail = is_less tail ≡ false
 
-module _ (parts : AllBacks (within max_depth)) (unnamed : UnnamedBack) where
+module _ (parts : AllBacks (within max_depth)) where
   tuple_struct-back : Back bare_body body_tokens (Grouped delimiter.Parenthesis) Any tuple_struct
   unfolding tuple_struct
   tuple_struct-back = whole (here-rest (λ start.
-      then-rest {Second = BeginsWhere} (λ place. fields_unnamed-back parts unnamed) (λ unnamed.
+      then-rest {Second = BeginsWhere} (λ place. fields_unnamed-back parts) (λ unnamed.
       then-rest {Second = AfterWhere} (λ place. maybe_where-back parts) (λ clause.
       expect-rest {Second = Any} 1 is_semicolon (λ place. mark (codes ";") place) (mark-length (codes ";")) (λ place tail. semicolon-mark tail place)
       (close-rest start (λ q. q.0.0.1) (λ span. (clause, body.Struct (record { fields = made.Unnamed unnamed; span = span }))) (λ q span. (q.1, body.Struct (record { fields = made.Unnamed q.0.1; span = span })))
@@ -173,7 +173,7 @@ module _ (parts : AllBacks (within max_depth)) (unnamed : UnnamedBack) where
   braced_struct span braced = if braced then (λ named. body.Struct (record { fields = made.Named named; span = span })) <$> fields_named else expect 1 is_semicolon >> pure (body.Struct (record { fields = made.Unit; span = span }))
 
   braced-rest : (span : Span) (braced : Bool) → Rest {P = Span} {Q = Unit {0} × Span} (λ q. Unit {0}) bare_data (body_with None) hole (Braced braced) Any (braced_struct span braced) (λ q. braced_struct q.1 braced)
-  braced-rest span true = then-rest {Second = Any} (λ place. fields_named-back parts unnamed) (λ it. pure-rest span (body.Struct (record { fields = made.Named it; span = span })) (λ q. body.Struct (record { fields = made.Named q.1; span = q.0.1 })) (rw append-nil refl) (λ q ok. rw (ok.1) refl))
+  braced-rest span true = then-rest {Second = Any} (λ place. fields_named-back parts) (λ it. pure-rest span (body.Struct (record { fields = made.Named it; span = span })) (λ q. body.Struct (record { fields = made.Named q.1; span = q.0.1 })) (rw append-nil refl) (λ q ok. rw (ok.1) refl))
       (λ rest tail f. tt) (λ rest tail f. f)
   braced-rest span false = expect-rest {Second = Any} 1 is_semicolon (λ place. mark (codes ";") place) (mark-length (codes ";")) (λ place tail. semicolon-mark tail place)
       (pure-rest span (body.Struct (record { fields = made.Unit; span = span })) (λ q. body.Struct (record { fields = made.Unit; span = q.1 })) (rw append-nil refl) (λ q ok. refl))
@@ -185,12 +185,12 @@ module _ (parts : AllBacks (within max_depth)) (unnamed : UnnamedBack) where
 
   enum_body-back : Back bare_data (body_with None) AfterWhere Any enum_body
   unfolding enum_body
-  enum_body-back = whole (here-rest (λ span. then-rest {Second = Any} (λ (place : Unit {0}). variants-back parts unnamed span)
+  enum_body-back = whole (here-rest (λ span. then-rest {Second = Any} (λ (place : Unit {0}). variants-back parts span)
       (λ found. pure-rest tt (body.Enum (record { variants = found; span = span })) (λ q. body.Enum (record { variants = q.1; span = q.0.1 })) (rw append-nil refl) (λ q ok. rw (ok.1) refl)) (λ rest tail f. tt) (λ rest tail f. brace-ends tail f.0)))
 
   union_body-back : Back bare_data (body_with None) AfterWhere Any union_body
   unfolding union_body
-  union_body-back = whole (here-rest (λ span. then-rest {Second = Any} (λ (place : Unit {0}). fields_named-back parts unnamed)
+  union_body-back = whole (here-rest (λ span. then-rest {Second = Any} (λ (place : Unit {0}). fields_named-back parts)
       (λ named. pure-rest tt (body.Union (record { fields = named; span = span })) (λ q. body.Union (record { fields = q.1; span = q.0.1 })) (rw append-nil refl) (λ q ok. rw (ok.1) refl)) (λ rest tail f. tt) (λ rest tail f. brace-ends tail f.0)))
 
   data_by-back : (begins : ItemStart) → Back bare_data (body_with None) AfterWhere Any (data_by begins)

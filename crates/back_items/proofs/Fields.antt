@@ -33,13 +33,14 @@ use Rattle.back_core.specs.Parts.{AllBacks}
 use Rattle.back_core.specs.Printed.{Back, Printed}
 use Rattle.back_core.proofs.Arguments.{group-printed}
 use Rattle.back_core.proofs.Follows.{keep-false, never, type-end, type-seen, type_before-mark}
+use Rattle.back_core.proofs.Functions.{colon-mark}
 use Rattle.back_core.proofs.Marks.{mark-length, name-word, name_of-Ident, next_word-Ident, out-Ident}
 use Rattle.back_core.proofs.Steps.{Free, Rest, close-rest, here-rest, hole, part, pure-rest, test-rest, then-rest, weak-rest, whole}
 use Rattle.back_core.proofs.Takes.{expect-rest, is_group-group, take_as-rest}
 use Rattle.back_items.specs.Follow.{AfterAttributes, AfterVisibility, restricts}
 use Rattle.back_items.proofs.Attributes.{attributes-back}
 use Rattle.back_items.proofs.Makes.{made-rest}
-use Rattle.back_items.proofs.Params.{colon-mark}
+use Rattle.back_items.proofs.Restricts.{type-restricts}
 use Rattle.back_items.proofs.Visibilities.{visibility-back}
 
 -- what a part begins with that stands behind attributes and a visibility: some token, and no `#` (35)
@@ -49,9 +50,6 @@ Plain rest tail = (is_end tail ≡ false) × (is_mark 35 tail ≡ false)
 -- the type of a field, which restricts a visibility before it only where it did
 abbrev pub BeginsUnnamed : Relation
 BeginsUnnamed rest tail = BeginsType rest tail × Keep restricts rest tail
-
-abbrev pub UnnamedBack : Type 0
-UnnamedBack = Back bare_type type_tokens BeginsUnnamed (AfterType true) any_type
 
 -- ---- what is seen
 
@@ -91,12 +89,12 @@ pub plain-attributes : (rest tail : Trees) → Plain rest tail → AfterAttribut
 plain-attributes rest tail f = (never (is_mark 35) rest tail f.1, f.0)
 
 -- more is known of what begins the printing
-pub sure-printed : {A B : Type 0} {bare : A → B} {print : A → Trees} {G F More : Relation} {p p' : Parser A} → Printed bare print G F p p' → ((input after : Input) (found : A) → p input ≡ Some (found, after) → (tail : Trees) → More input.rest (print found ++ tail))
+pub sure-printed : {A B : Type 0} {bare : A → B} {print : A → Trees} {G F More : Relation} {p p' : Parser A} → Printed bare print G F p p' → ((input after : Input) (found : A) → p input ≡ Some (found, after) → (tail : Trees) → F after.rest tail → More input.rest (print found ++ tail))
     → Printed bare print (λ rest tail. G rest tail × More rest tail) F p p'
 sure-printed h more = record {
   of = λ input after found e.
       let one = h.of input after found e in
-      record { again = one.again; first = λ tail f. (one.first tail f, more input after found e tail) };
+      record { again = one.again; first = λ tail f. (one.first tail f, more input after found e tail f) };
 }
 
 -- no type is a visibility or an attribute
@@ -147,7 +145,7 @@ inside-sees {A} between parser input after found e = by (is_group between input.
 -- a list of parts in a group, of which nothing but commas follows each
 pub block-printed : {A C : Type 0} {bare : A → C} {print : A → Trees} {item : Parser A} {G F : Relation} (between : Delimiter) → Back bare print G F item → ((rest tail : Trees) → G rest tail → is_end tail ≡ false) → ((rest : Trees) → F rest []) → ((rest tail : Trees) (span : Span) → F rest (comma span ++ tail))
     → (span : Span) → Back (map bare) (λ items. group between (joined (comma span) (map print items)) span) (Grouped between) Any (inside between (list item))
-block-printed {item = item} between rule starts ends commas span = sure-printed (group-printed between rule starts ends commas span (λ rest inner tail own. is_group-group between inner tail own)) (λ input after found e tail. inside-sees between (list item) input after found e)
+block-printed {item = item} between rule starts ends commas span = sure-printed (group-printed between rule starts ends commas span (λ rest inner tail own. is_group-group between inner tail own)) (λ input after found e tail f. inside-sees between (list item) input after found e)
 
 group-apart : (one other : Delimiter) → ((between : Delimiter) → same_delimiter between one ≡ true → same_delimiter between other ≡ false) → (trees : Trees) → is_group one trees ≡ true → is_group other trees ≡ false
 unfolding is_group
@@ -185,7 +183,11 @@ AfterFields rest tail = Keep (is_group delimiter.Brace) rest tail × Keep (is_gr
 
 -- ---- fields
 
-module _ (parts : AllBacks (within max_depth)) (unnamed : UnnamedBack) where
+module _ (parts : AllBacks (within max_depth)) where
+  -- the type behind a visibility, which it does not become a part of
+  unnamed_type-back : Back bare_type type_tokens BeginsUnnamed (AfterType true) any_type
+  unnamed_type-back = sure-printed (parts.ty true) type-restricts
+
   pub named_field-back : Back bare_field field_tokens Some' (AfterType true) named_field
   unfolding named_field
   named_field-back = whole (here-rest (λ start.
@@ -206,7 +208,7 @@ module _ (parts : AllBacks (within max_depth)) (unnamed : UnnamedBack) where
   unnamed_field-back = whole (here-rest (λ start.
       then-rest {Second = Plain} (λ place. attributes-back parts Some' (λ rest tail seen. mark-some 35 tail refl seen)) (λ attrs.
       then-rest {Second = BeginsUnnamed} (λ place. visibility-back parts Plain pub-plain) (λ vis.
-      then-rest {Second = AfterType true} (λ place. unnamed) (λ it. close-rest start (λ q. q.0.0.0.1) (λ span. record { attrs = attrs; vis = vis; ident = None; ty = it; span = span }) (λ q span. record { attrs = q.0.0.1; vis = q.0.1; ident = None; ty = q.1; span = span })
+      then-rest {Second = AfterType true} (λ place. unnamed_type-back) (λ it. close-rest start (λ q. q.0.0.0.1) (λ span. record { attrs = attrs; vis = vis; ident = None; ty = it; span = span }) (λ q span. record { attrs = q.0.0.1; vis = q.0.1; ident = None; ty = q.1; span = span })
       (λ span. rw (append-nil, append-nil, append_assoc) refl) (λ span other q ok. rw (ok.0.0.1, ok.0.1, ok.1) refl))
       (λ rest tail f. f) (λ rest tail f. f))
       (λ rest tail f. unnamed-visible rest tail f) (λ rest tail f. f))

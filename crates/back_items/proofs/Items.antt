@@ -31,7 +31,7 @@ use Rattle.back_items.specs.Follow.{AfterVisibility, AfterWhile, restricts}
 use Rattle.back_items.proofs.Always.{Always, so-always, then-always}
 use Rattle.back_items.proofs.Attributes.{attributes-back}
 use Rattle.back_items.proofs.Bodies.{BeginsBody, Body, Keyword, body-keyword, body_of-back, no-body, start_word}
-use Rattle.back_items.proofs.Fields.{Plain, UnnamedBack, mark-some, no-restriction, plain-attributes, pub-plain}
+use Rattle.back_items.proofs.Fields.{Plain, mark-some, no-restriction, plain-attributes, pub-plain}
 use Rattle.back_items.proofs.Params.{params-back}
 use Rattle.back_items.proofs.Visibilities.{visibility-back}
 use Rattle.back_items.proofs.Whiles.{while-printed}
@@ -74,7 +74,7 @@ enum-word = record { one = word-length (codes "enum"); begun = enum-begun }
 union-word : OneWord begin.Union
 union-word = record { one = word-length (codes "union"); begun = union-begun }
 
-module _ (parts : AllBacks (within max_depth)) (unnamed : UnnamedBack) where
+module _ (parts : AllBacks (within max_depth)) where
   -- what comes behind the visibility
   abbrev item_rest : Span → List Attribute → Visibility → ItemStart → Parser DeriveInput
   item_rest start attrs vis begins = skip >>= (λ keyword. take_as name_of >>= (λ ident. params >>= (λ generics. body_of begins >>= (λ found. upto start >>= (λ span. pure (record {
@@ -100,7 +100,7 @@ module _ (parts : AllBacks (within max_depth)) (unnamed : UnnamedBack) where
     item-rest begins keyword = skip-rest {Second = Any} (λ place. start_word begins place) keyword.one
         (take_as-rest {Second = Any} name_of tree.Ident (λ rest tail it is. name_of-Ident rest tail it is) (λ name.
         then-rest {Second = BeginsBody} (λ place. params-back parts) (λ generics.
-        sure-rest {Second = Any} {V = Keyword begins} (λ place. body_of-back parts unnamed begins) (body-keyword begins).of (λ found known.
+        sure-rest {Second = Any} {V = Keyword begins} (λ place. body_of-back parts begins) (body-keyword begins).of (λ found known.
         close-rest start (λ q. q.0.0.0.0.1)
         (λ span. record { attrs = attrs; vis = vis; ident = name; generics = record { params = generics.0; where_clause = found.0; span = generics.1 }; body = found.1; span = span })
         (λ q span. record { attrs = q.0.0.0.1; vis = q.0.0.1; ident = name; generics = record { params = q.0.1.0; where_clause = q.1.0; span = q.0.1.1 }; body = q.1.1; span = span })

@@ -1,3 +1,4 @@
+pub mod Always
 pub mod Makes
 pub mod Whiles
 pub mod Others
@@ -9,7 +10,6 @@ pub mod Visibilities
 pub mod Params
 pub mod Binders
 pub mod Wheres
-pub mod Always
 pub mod Singles
 pub mod Restricts
 pub mod Fields

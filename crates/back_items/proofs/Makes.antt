@@ -1,14 +1,11 @@
 -- The law of printing for what is made of a part, and for all tokens of a list.
-use Rattle.std.proofs.Common.{◌≡◌, if◌then◌else◌, [], ◌∷◌, ◌++◌, Option, Some, None, refl, ap, ◌∙◌, append-nil, List, append_assoc, codes, ℕ, nat_le, Bool, true, false}
-use Rattle.std.proofs.lemmas.Option.{same_Some, some_pair_parts}
+use Rattle.std.proofs.Common.{◌≡◌, if◌then◌else◌, [], ◌∷◌, ◌++◌, Some, None, refl, ap, ◌∙◌, List, append_assoc, codes, ℕ, nat_le, Bool, true, false}
+use Rattle.std.proofs.lemmas.Option.{some_pair_parts}
 use Rattle.token_core.specs.declared.span.Span.{Span}
-use Rattle.token_core.specs.declared.span.Span.TheVariants.{CallSite}
 use Rattle.grammar_core.specs.Input.{Input, Outcome, Parser, ◌<$>◌, pure, is_end, start_of, finished, inside, next}
-use Rattle.grammar_core.specs.Trees.{all}
 use Rattle.print_core.specs.Marks.{Trees, comma, joined, mark}
 use Rattle.front_core.specs.Alike.{Relation}
 use Rattle.front_core.specs.Front.{at}
-use Rattle.back_core.specs.Printed.{Back}
 use Rattle.back_core.proofs.Steps.{Rest, bind-at, Gives}
 use Rattle.print_core.specs.Paths.{angled}
 use Rattle.grammar_core.specs.Grammar.{kept}
@@ -42,32 +39,6 @@ pub angled-flat : (parts : List Trees) (span : Span) (tail : Trees) → angled p
 angled-flat parts span tail =
     ap (λ tokens. tokens ++ tail) (append_assoc (mark (codes "<") span) (joined (comma span) parts) (mark (codes ">") span))
     ∙ append_assoc (mark (codes "<") span) (joined (comma span) parts ++ mark (codes ">") span) tail
-
--- ---- all tokens
-
-pub all-parts : {A : Type 0} (outcome : Outcome A) (found : A) → all outcome ≡ Some found → (last : Span) × (outcome ≡ Some (found, at [] last))
-all-parts None found e = absurd cc
-all-parts {A} (Some pair) found e = by pair.1.rest refl e
-  where
-    by : (rest : Trees) → pair.1.rest ≡ rest → ◌≡◌ {A = Option A} (if is_end rest then Some pair.0 else None) (Some found) → (last : Span) × (◌≡◌ {A = Outcome A} (Some pair) (Some (found, at [] last)))
-    by [] is e = (pair.1.last, ap (λ rest. Some (pair.0, at rest pair.1.last)) is ∙ ap (λ value. Some (value, at [] pair.1.last)) (same_Some pair.0 found e))
-    by (tree ∷ trees) is e = absurd cc
-
-pub all-again : {A B : Type 0} {bare : A → B} {print : A → Trees} {G F : Relation} {parser : Parser A} → Back bare print G F parser → F [] [] → (trees : Trees) (found : A) → all (parser (start_of trees)) ≡ Some found
-    → (value : A) × (all (parser (start_of (print found))) ≡ Some value) × (bare value ≡ bare found)
-all-again {A} {B} {bare} {print} {G} {F} {parser} rule ends trees found e =
-    let source = all-parts (parser (start_of trees)) found e in
-    let one = rule.of (start_of trees) (at [] source.0) found source.1 in
-    let more = one.again [] CallSite ends in
-    let reads = rw append-nil at more.is in
-    (more.value, rw reads refl, more.same)
-
--- what the printing begins with
-pub all-first : {A B : Type 0} {bare : A → B} {print : A → Trees} {G F : Relation} {parser : Parser A} → Back bare print G F parser → F [] [] → (trees : Trees) (found : A) → all (parser (start_of trees)) ≡ Some found → G trees (print found)
-all-first {A} {B} {bare} {print} {G} {F} {parser} rule ends trees found e =
-    let source = all-parts (parser (start_of trees)) found e in
-    let one = rule.of (start_of trees) (at [] source.0) found source.1 in
-    rw append-nil at (one.first [] ends)
 
 -- what is kept was read
 pub kept-read : {A : Type 0} (size : A → ℕ) (limit : ℕ) (outcome : Outcome A) (found : A) (after : Input) → kept size limit outcome ≡ Some (found, after) → outcome ≡ Some (found, after)

@@ -19,7 +19,7 @@ use Rattle.bare_core.specs.Bare.{bare_expr, bare_lit}
 use Rattle.bare_core.proofs.Made.{bare_expr-Lit, bare_expr-Unary, bare_expr-Path, bare_expr-Array, bare_expr-Repeat, bare_expr-Tuple, bare_expr-Paren, bare_expr-Group, bare_expr-Reference, bare_expr-Binary, bare_expr-Call, bare_expr-MethodCall, bare_expr-Field, bare_expr-Index, bare_expr-Try, bare_expr-Range, bare_expr-Closure, bare_expr-Block, bare_expr-Infer, bare_expr-Verbatim}
 use Rattle.front_core.specs.Front.{at}
 use Rattle.back_core.proofs.Steps.{bind-at}
-use Rattle.back_items.proofs.Makes.{all-parts}
+use Rattle.back_core.proofs.Wholes.{all-parts}
 use Rattle.back_items.proofs.Others.{is_other, other_by}
 use Rattle.token_core.specs.Span.{joined}
 use Rattle.grammar_core.specs.Trees.{all}

@@ -1,5 +1,5 @@
 -- What kind of expression a rule gives: one that is neither a literal nor an operand behind its operator, where the rule is for no such.
-use Rattle.std.proofs.Common.{◌≡◌, ◌⊎◌, inl, inr, ℕ, zero, suc, Bool, true, false, ◌==◌, if◌then◌else◌, List, [], ◌∷◌, ◌++◌, Option, Some, None, refl, sym}
+use Rattle.std.proofs.Common.{◌≡◌, ◌⊎◌, inl, inr, ℕ, zero, suc, Bool, true, false, ◌==◌, if◌then◌else◌, List, [], ◌∷◌, ◌++◌, Option, Some, None, sym}
 use Rattle.std.proofs.lemmas.Option.{some_pair_parts}
 use Rattle.token_core.specs.declared.span.Span.{Span}
 use Rattle.token_core.specs.declared.tree.Delimiter.{Delimiter}
@@ -14,7 +14,7 @@ use Rattle.grammar_core.specs.declared.look.Infix.{Infix}
 use Rattle.grammar_core.specs.declared.look.PostfixStart.{PostfixStart}
 use Rattle.grammar_core.specs.declared.look.PostfixStart.TheVariants as postfix
 use Rattle.grammar_core.specs.Expressions.{any, args, atom_by, binary, binary_from, block, call, chain, chain_by, chain_from, closure, compared, expr_bracket, expr_elements, expr_group, expr_in_brackets, expr_in_parentheses, expr_path, expr_qualified, field, index, invisible, member, member_by, method_call, named_member, operand, postfix_by, postfixes_by, postfixes_from, question, range, range_from, reference, right_of, statements_from, turbofish_call, closure_params, closure_body, dots}
-use Rattle.grammar_core.specs.Input.{Input, Outcome, Parser, ◌>>=◌, pure, refuse, finished, inside, is_end, next, start_of, first_span, test, state, here, eat, expect, read_since, upto, skip, at_end, items_after, skip_by, take_as}
+use Rattle.grammar_core.specs.Input.{Input, Parser, ◌>>=◌, pure, refuse, inside, is_end, start_of, first_span, test, state, here, eat, expect, read_since, upto, skip, at_end, items_after, skip_by, take_as}
 use Rattle.grammar_core.specs.Look.{at_level, begins_closure, operator_of, postfix_start, begins_operand, is_there}
 use Rattle.grammar_core.specs.Make as make
 use Rattle.grammar_core.specs.Readers.{Readers, or_level, any_level, operand_level}
@@ -27,6 +27,9 @@ use Rattle.grammar_core.specs.Paths.{angle_list, generic_argument, path, qualifi
 use Rattle.grammar_core.specs.Literals.{index_of}
 use Rattle.grammar_core.specs.declared.word.Word.TheVariants as word
 use Rattle.token_core.specs.declared.tree.Delimiter.TheVariants as delimiter
+use Rattle.back_items.proofs.Always.{Always, then-always, pure-always, if-always, refuse-always}
+use Rattle.back_items.proofs.Makes.{inside-parts}
+use Rattle.front_core.specs.Front.{at}
 
 abbrev pub other_by : ExprLayer → Bool
 other_by (Expr-F.Lit it) = false
@@ -38,88 +41,63 @@ abbrev pub is_other : Expr → Bool
 is_other it = other_by (out-Expr it)
 
 -- whatever the rule gives is neither
-pub record Others (parser : Parser Expr) : Type 0 where
-  pub of : (input after : Input) (found : Expr) → parser input ≡ Some (found, after) → is_other found ≡ true
+abbrev pub Others : Parser Expr → Type 0
+Others = Always (λ it. is_other it ≡ true)
 
-bind-others : {A : Type 0} (parser : Parser A) {next : A → Parser Expr} → ((x : A) → Others (next x)) → Others (parser >>= next)
-bind-others {A} parser {next} h = record {
-  of = λ input after found e. let parts = bind-at (parser input) next found after e in (h parts.0).of parts.1 after found parts.3;
+inside-always : {A : Type 0} {V : A → Type 0} (between : Delimiter) {parser : Parser A} → Always V parser → Always V (inside between parser)
+inside-always between {parser} h = record {
+  of = λ input after found e. let parts = inside-parts between parser input after found e in h.of (start_of (contents_of input.rest)) (at [] parts.1) found parts.2;
 }
-
-pure-others : (it : Expr) → is_other it ≡ true → Others (pure it)
-pure-others it is = record { of = λ input after found e. rw (← (some_pair_parts it found input after e).0) is }
-
-refuse-others : Others refuse
-refuse-others = record { of = λ input after found e. absurd cc }
-
-if-others : (b : Bool) {one other : Parser Expr} → Others one → Others other → Others (if b then one else other)
-if-others true one other = one
-if-others false one other = other
-
-inside-others : (between : Delimiter) {parser : Parser Expr} → Others parser → Others (inside between parser)
-inside-others between {parser} h = record { of = λ input after found e. by input after found (is_group between input.rest) e }
-  where
-    ended : (outcome : Outcome Expr) (one after : Input) (found : Expr) → ((end : Input) (it : Expr) → outcome ≡ Some (it, end) → is_other it ≡ true) → finished one outcome ≡ Some (found, after) → is_other found ≡ true
-    ended None one after found gives e = absurd cc
-    ended (Some pair) one after found gives e = by (is_end pair.1.rest) e
-      where
-        by : (b : Bool) → ◌≡◌ {A = Outcome Expr} (if b then Some (pair.0, one) else None) (Some (found, after)) → is_other found ≡ true
-        by true e = rw (← (some_pair_parts pair.0 found one after e).0) (gives pair.1 pair.0 refl)
-        by false e = absurd cc
-
-    by : (input after : Input) (found : Expr) (b : Bool) → ◌≡◌ {A = Outcome Expr} (if b then finished (next input) (parser (start_of (contents_of input.rest))) else None) (Some (found, after)) → is_other found ≡ true
-    by input after found true e = ended (parser (start_of (contents_of input.rest))) (next input) after found (λ end it e. h.of (start_of (contents_of input.rest)) end it e) e
-    by input after found false e = absurd cc
 
 module _ (readers : Readers) where
   -- ---- closures and ranges
 
   closure-others : Others (closure readers)
   unfolding closure
-  closure-others = bind-others state (λ before. bind-others here (λ start. bind-others (eat 1 (sees word.Move)) (λ moved. bind-others (expect 1 is_bar) (λ opened. bind-others (closure_params readers) (λ params. bind-others (closure_body readers) (λ level. bind-others (read_since before.rest) (λ kept. bind-others (readers.expr level) (λ body. bind-others (upto start) (λ span. pure-others (make.expr_closure kept body span) (search the_lemmas))))))))))
+  closure-others = then-always state (λ before. then-always here (λ start. then-always (eat 1 (sees word.Move)) (λ moved. then-always (expect 1 is_bar) (λ opened. then-always (closure_params readers) (λ params. then-always (closure_body readers) (λ level. then-always (read_since before.rest) (λ kept. then-always (readers.expr level) (λ body. then-always (upto start) (λ span. pure-always (make.expr_closure kept body span) (search the_lemmas))))))))))
 
   range_from-others : (start : Span) (left : Option Expr) → Others (range_from readers start left)
   unfolding range_from
-  range_from-others start left = bind-others (dots readers) (λ closed. bind-others (test begins_operand) (λ bounded. if-others bounded
-      (bind-others (readers.expr or_level) (λ right. bind-others (upto start) (λ span. pure-others (make.expr_range left (Some right) closed span) (search the_lemmas))))
-      (if-others closed refuse-others (bind-others (upto start) (λ span. pure-others (make.expr_range left None false span) (search the_lemmas))))))
+  range_from-others start left = then-always (dots readers) (λ closed. then-always (test begins_operand) (λ bounded. if-always bounded
+      (then-always (readers.expr or_level) (λ right. then-always (upto start) (λ span. pure-always (make.expr_range left (Some right) closed span) (search the_lemmas))))
+      (if-always closed refuse-always (then-always (upto start) (λ span. pure-always (make.expr_range left None false span) (search the_lemmas))))))
 
   pub reference-others : Others (reference readers)
   unfolding reference
-  reference-others = bind-others here (λ start. bind-others skip (λ mark. bind-others (eat 1 (sees word.Mut)) (λ mutable. bind-others (readers.expr operand_level) (λ operand. bind-others (upto start) (λ span. pure-others (expr.Reference mutable operand span) (search the_lemmas))))))
+  reference-others = then-always here (λ start. then-always skip (λ mark. then-always (eat 1 (sees word.Mut)) (λ mutable. then-always (readers.expr operand_level) (λ operand. then-always (upto start) (λ span. pure-always (expr.Reference mutable operand span) (search the_lemmas))))))
 
   -- ---- atoms that are no literals
 
   statements_from-others : (span : Span) (turns : ℕ) (found : List Expr) → Others (statements_from readers span turns found)
   unfolding statements_from
-  statements_from-others span zero found = bind-others at_end (λ done. if-others done (pure-others (expr.Block found None span) (search the_lemmas)) refuse-others)
-  statements_from-others span (suc turns) found = bind-others at_end (λ done. if-others done (pure-others (expr.Block found None span) (search the_lemmas))
-      (bind-others (readers.expr any_level) (λ statement. bind-others (eat 1 is_semicolon) (λ more. if-others more (statements_from-others span turns (found ++ statement ∷ [])) (pure-others (expr.Block found (Some statement) span) (search the_lemmas))))))
+  statements_from-others span zero found = then-always at_end (λ done. if-always done (pure-always (expr.Block found None span) (search the_lemmas)) refuse-always)
+  statements_from-others span (suc turns) found = then-always at_end (λ done. if-always done (pure-always (expr.Block found None span) (search the_lemmas))
+      (then-always (readers.expr any_level) (λ statement. then-always (eat 1 is_semicolon) (λ more. if-always more (statements_from-others span turns (found ++ statement ∷ [])) (pure-always (expr.Block found (Some statement) span) (search the_lemmas))))))
 
   statements-others : (span : Span) → Others (λ input. statements_from readers span (length input.rest) [] input)
   statements-others span = record { of = λ input after found e. (statements_from-others span (length input.rest) []).of input after found e }
 
   expr_group-others : (span : Span) → Others (expr_group readers span)
   unfolding expr_group
-  expr_group-others span = bind-others at_end (λ done. if-others done (pure-others (expr.Tuple [] span) (search the_lemmas))
-      (bind-others (readers.expr any_level) (λ first. bind-others (eat 1 is_comma) (λ more. if-others more (bind-others (items_after (readers.expr any_level) (first ∷ [])) (λ elems. pure-others (expr.Tuple elems span) (search the_lemmas))) (pure-others (expr.Paren first span) (search the_lemmas))))))
+  expr_group-others span = then-always at_end (λ done. if-always done (pure-always (expr.Tuple [] span) (search the_lemmas))
+      (then-always (readers.expr any_level) (λ first. then-always (eat 1 is_comma) (λ more. if-always more (then-always (items_after (readers.expr any_level) (first ∷ [])) (λ elems. pure-always (expr.Tuple elems span) (search the_lemmas))) (pure-always (expr.Paren first span) (search the_lemmas))))))
 
   expr_elements-others : (span : Span) (first : Expr) → Others (expr_elements readers span first)
   unfolding expr_elements
-  expr_elements-others span first = bind-others (eat 1 is_semicolon) (λ repeated. if-others repeated (bind-others (readers.expr any_level) (λ len. pure-others (expr.Repeat first len span) (search the_lemmas)))
-      (bind-others (eat 1 is_comma) (λ more. if-others more (bind-others (items_after (readers.expr any_level) (first ∷ [])) (λ elems. pure-others (make.expr_array elems span) (search the_lemmas))) (pure-others (make.expr_array (first ∷ []) span) (search the_lemmas)))))
+  expr_elements-others span first = then-always (eat 1 is_semicolon) (λ repeated. if-always repeated (then-always (readers.expr any_level) (λ len. pure-always (expr.Repeat first len span) (search the_lemmas)))
+      (then-always (eat 1 is_comma) (λ more. if-always more (then-always (items_after (readers.expr any_level) (first ∷ [])) (λ elems. pure-always (make.expr_array elems span) (search the_lemmas))) (pure-always (make.expr_array (first ∷ []) span) (search the_lemmas)))))
 
   expr_bracket-others : (span : Span) → Others (expr_bracket readers span)
   unfolding expr_bracket
-  expr_bracket-others span = bind-others at_end (λ done. if-others done (pure-others (make.expr_array [] span) (search the_lemmas)) (bind-others (readers.expr any_level) (λ first. expr_elements-others span first)))
+  expr_bracket-others span = then-always at_end (λ done. if-always done (pure-always (make.expr_array [] span) (search the_lemmas)) (then-always (readers.expr any_level) (λ first. expr_elements-others span first)))
 
   expr_path-others : Others (expr_path readers)
   unfolding expr_path
-  expr_path-others = bind-others here (λ start. bind-others (path readers false) (λ found. bind-others (upto start) (λ span. pure-others (make.expr_path None found span) (search the_lemmas))))
+  expr_path-others = then-always here (λ start. then-always (path readers false) (λ found. then-always (upto start) (λ span. pure-always (make.expr_path None found span) (search the_lemmas))))
 
   expr_qualified-others : Others (expr_qualified readers)
   unfolding expr_qualified
-  expr_qualified-others = bind-others here (λ start. bind-others (qualified readers false) (λ found. bind-others (upto start) (λ span. pure-others (make.expr_path (Some found.0) found.1 span) (search the_lemmas))))
+  expr_qualified-others = then-always here (λ start. then-always (qualified readers false) (λ found. then-always (upto start) (λ span. pure-always (make.expr_path (Some found.0) found.1 span) (search the_lemmas))))
 
   abbrev pub no_literal : AtomStart → Bool
   no_literal atom.Literal = false
@@ -130,12 +108,12 @@ module _ (readers : Readers) where
   unfolding expr_in_parentheses expr_in_brackets block invisible
   atom_by-others atom.Path h = expr_path-others
   atom_by-others atom.Qualified h = expr_qualified-others
-  atom_by-others atom.Parenthesis h = bind-others here (λ span. inside-others delimiter.Parenthesis (expr_group-others span))
-  atom_by-others atom.Bracket h = bind-others here (λ span. inside-others delimiter.Bracket (expr_bracket-others span))
-  atom_by-others atom.Brace h = bind-others here (λ span. inside-others delimiter.Brace (statements-others span))
-  atom_by-others atom.Invisible h = bind-others here (λ span. inside-others delimiter.None (bind-others (readers.expr any_level) (λ found. pure-others (expr.Group found span) (search the_lemmas))))
-  atom_by-others atom.Infer h = bind-others here (λ span. bind-others skip (λ mark. pure-others (expr.Infer span) (search the_lemmas)))
-  atom_by-others atom.Nothing h = refuse-others
+  atom_by-others atom.Parenthesis h = then-always here (λ span. inside-always delimiter.Parenthesis (expr_group-others span))
+  atom_by-others atom.Bracket h = then-always here (λ span. inside-always delimiter.Bracket (expr_bracket-others span))
+  atom_by-others atom.Brace h = then-always here (λ span. inside-always delimiter.Brace (statements-others span))
+  atom_by-others atom.Invisible h = then-always here (λ span. inside-always delimiter.None (then-always (readers.expr any_level) (λ found. pure-always (expr.Group found span) (search the_lemmas))))
+  atom_by-others atom.Infer h = then-always here (λ span. then-always skip (λ mark. pure-always (expr.Infer span) (search the_lemmas)))
+  atom_by-others atom.Nothing h = refuse-always
   atom_by-others atom.Literal h = absurd cc
   atom_by-others atom.Bool h = absurd cc
 
@@ -143,29 +121,29 @@ module _ (readers : Readers) where
 
   turbofish_call-others : (start : Span) (receiver : Expr) (method : Ident) → Others (turbofish_call readers start receiver method)
   unfolding turbofish_call
-  turbofish_call-others start receiver method = bind-others (skip_by 3) (λ marks. bind-others (angle_list (generic_argument readers)) (λ turbofish. bind-others (args readers) (λ given. bind-others (upto start) (λ span. pure-others (expr.MethodCall receiver method turbofish given span) (search the_lemmas)))))
+  turbofish_call-others start receiver method = then-always (skip_by 3) (λ marks. then-always (angle_list (generic_argument readers)) (λ turbofish. then-always (args readers) (λ given. then-always (upto start) (λ span. pure-always (expr.MethodCall receiver method turbofish given span) (search the_lemmas)))))
 
   method_call-others : (start : Span) (receiver : Expr) (method : Ident) → Others (method_call readers start receiver method)
   unfolding method_call
-  method_call-others start receiver method = bind-others (args readers) (λ given. bind-others (upto start) (λ span. pure-others (expr.MethodCall receiver method [] given span) (search the_lemmas)))
+  method_call-others start receiver method = then-always (args readers) (λ given. then-always (upto start) (λ span. pure-always (expr.MethodCall receiver method [] given span) (search the_lemmas)))
 
   named_member-others : (start : Span) (base : Expr) (name : Ident) → Others (named_member readers start base name)
   unfolding named_member field
-  named_member-others start base name = bind-others (test is_turbofish) (λ turbofish. bind-others (test (is_group delimiter.Parenthesis)) (λ called. if-others turbofish (turbofish_call-others start base name)
-      (if-others called (method_call-others start base name) (bind-others (upto start) (λ span. pure-others (expr.Field base (made.Named name) span) (search the_lemmas))))))
+  named_member-others start base name = then-always (test is_turbofish) (λ turbofish. then-always (test (is_group delimiter.Parenthesis)) (λ called. if-always turbofish (turbofish_call-others start base name)
+      (if-always called (method_call-others start base name) (then-always (upto start) (λ span. pure-always (expr.Field base (made.Named name) span) (search the_lemmas))))))
 
   member_by-others : (start : Span) (base : Expr) (named : Bool) → Others (member_by readers start base named)
   unfolding field
-  member_by-others start base true = bind-others (take_as name_of) (λ name. named_member-others start base name)
-  member_by-others start base false = bind-others (take_as index_of) (λ index. bind-others (upto start) (λ span. pure-others (expr.Field base (made.Unnamed index) span) (search the_lemmas)))
+  member_by-others start base true = then-always (take_as name_of) (λ name. named_member-others start base name)
+  member_by-others start base false = then-always (take_as index_of) (λ index. then-always (upto start) (λ span. pure-always (expr.Field base (made.Unnamed index) span) (search the_lemmas)))
 
   postfix_by-others : (start : Span) (left : Expr) (begins : PostfixStart) → Others (postfix_by readers start left begins)
   unfolding call member index question
-  postfix_by-others start left postfix.Call = bind-others (args readers) (λ given. bind-others (upto start) (λ span. pure-others (expr.Call left given span) (search the_lemmas)))
-  postfix_by-others start left postfix.Dot = bind-others skip (λ mark. bind-others (test (λ trees. is_there (name_of trees))) (λ named. member_by-others start left named))
-  postfix_by-others start left postfix.Index = bind-others (inside delimiter.Bracket (readers.expr any_level)) (λ at. bind-others (upto start) (λ span. pure-others (expr.Index left at span) (search the_lemmas)))
-  postfix_by-others start left postfix.Try = bind-others skip (λ mark. bind-others (upto start) (λ span. pure-others (expr.Try left span) (search the_lemmas)))
-  postfix_by-others start left postfix.Nothing = refuse-others
+  postfix_by-others start left postfix.Call = then-always (args readers) (λ given. then-always (upto start) (λ span. pure-always (expr.Call left given span) (search the_lemmas)))
+  postfix_by-others start left postfix.Dot = then-always skip (λ mark. then-always (test (λ trees. is_there (name_of trees))) (λ named. member_by-others start left named))
+  postfix_by-others start left postfix.Index = then-always (inside delimiter.Bracket (readers.expr any_level)) (λ at. then-always (upto start) (λ span. pure-always (expr.Index left at span) (search the_lemmas)))
+  postfix_by-others start left postfix.Try = then-always skip (λ mark. then-always (upto start) (λ span. pure-always (expr.Try left span) (search the_lemmas)))
+  postfix_by-others start left postfix.Nothing = refuse-always
 
   -- what was left, or neither a literal nor an operand behind its operator
   abbrev pub KeptOr : Expr → Input → Expr → Input → Type 0
@@ -207,7 +185,7 @@ module _ (readers : Readers) where
 
   right_of-others : (start : Span) (below : ℕ) (left : Expr) (op : Infix) → Others (right_of readers start below left op)
   unfolding right_of
-  right_of-others start below left op = bind-others (skip_by op.width) (λ marks. bind-others (readers.expr below) (λ right. bind-others (upto start) (λ span. pure-others (expr.Binary left op.op right span) (search the_lemmas))))
+  right_of-others start below left op = then-always (skip_by op.width) (λ marks. then-always (readers.expr below) (λ right. then-always (upto start) (λ span. pure-always (expr.Binary left op.op right span) (search the_lemmas))))
 
   chain_by-kept : (more : Expr → Parser Expr) (start : Span) (below : ℕ) → ((left : Expr) (input after : Input) (found : Expr) → more left input ≡ Some (found, after) → KeptOr left input found after)
       → (left : Expr) (op : Option Infix) (input after : Input) (found : Expr) → chain_by readers more start below left op input ≡ Some (found, after) → KeptOr left input found after

@@ -21,7 +21,7 @@ use Rattle.token_core.specs.declared.tree.TokenTree.TheOpen.{TokenTree-F}
 use Rattle.token_core.specs.Span.{joined as joined_spans}
 use Rattle.std.proofs.lemmas.Bool.{eqb-true}
 use Rattle.grammar_core.specs.Grammar.{within, max_depth}
-use Rattle.grammar_core.specs.Input.{Input, Parser, ◌>>=◌, ◌<$>◌, pure, after_eat, is_end, skipped, take_as, eat, first_span, upto}
+use Rattle.grammar_core.specs.Input.{Input, Parser, ◌>>=◌, ◌<$>◌, pure, after_eat, skipped, take_as, eat, first_span, upto}
 use Rattle.grammar_core.specs.Look.{begins_constant, is_there}
 use Rattle.grammar_core.specs.Paths.{joined_bounds, one_bound}
 use Rattle.grammar_core.specs.Readers.{constant_level}
@@ -42,6 +42,7 @@ use Rattle.back_core.specs.Parts.{AllBacks}
 use Rattle.back_core.specs.Printed.{Again, Reads, Printed, Back}
 use Rattle.back_core.proofs.Bounds.{bounds-back}
 use Rattle.back_core.proofs.Follows.{keep-false, never, type_before-mark}
+use Rattle.back_core.proofs.Functions.{colon-mark}
 use Rattle.back_core.proofs.Joints.{joined-printed, joined-some}
 use Rattle.back_core.proofs.Lists.{until-printed}
 use Rattle.back_core.proofs.Marks.{lifetime_of-Lifetime, mark-length, mark_of-Lifetime, mark_of-mark, name_of-Ident, word-length, is_group-mark, is_joint-mark, out-Ident, name-word, lifetime_of-word, mark_of-word, sees-const, next_word-Ident}
@@ -135,10 +136,6 @@ pub lifetimes-back : (span : Span) → Back (map bare_lifetime) (λ found. sum_o
 lifetimes-back span = joined-printed bare_lifetime lifetime 1 is_plus (plus span) (mark-length (codes "+") span) (λ tail. rw (mark_of-mark 43 [] span tail) refl) (take_as lifetime_of) (take_as lifetime_of) (AfterType true)
     lifetime-back (λ rest tail f. f.0) (λ rest. tt) (λ rest next tail seen f. tt) (λ rest tail seen f. (keep-false is_plus rest tail seen f.1, tt))
 
-pub colon-mark : (tail : Trees) (span : Span) → is_colon (mark (codes ":") span ++ tail) ≡ true
-unfolding is_pair
-colon-mark tail span = rw (mark_of-mark 58 [] span tail, is_joint-mark 58 [] span tail) refl
-
 some-bounds : {A : Type 0} (print : A → Trees) (found : List A) (span : Span) → 1 ≤ length found → maybe_bounds (map print found) span ≡ mark (codes ":") span ++ sum_of (map print found) span
 some-bounds print [] span h = absurd (omega (arith, h))
 some-bounds print (it ∷ found) span h = refl
@@ -227,10 +224,10 @@ const-param rest tail span is = record {
   some = refl;
 }
 
-hash-open : (tail : Trees) → is_mark 35 tail ≡ true → (is_end tail ≡ false) × (is_mark 62 tail ≡ false)
+hash-open : (rest tail : Trees) → is_mark 35 tail ≡ true → Open rest tail
 unfolding mark_of
-hash-open [] is = absurd cc
-hash-open (tree ∷ trees) is = (refl, rw (eqb-true (mark_of (tree ∷ trees)) 35 is) refl)
+hash-open rest [] is = absurd cc
+hash-open rest (tree ∷ trees) is = (refl, rw (eqb-true (mark_of (tree ∷ trees)) 35 is) refl)
 
 -- parameters, with where they stand
 abbrev pub Params : Type 0
@@ -339,19 +336,16 @@ module _ (parts : AllBacks (within max_depth)) where
     param_by-rest false true = const_param-rest
     param_by-rest false false = made-rest param.Ty (λ it. refl) (λ one other same. ap param.Ty same) type_param-rest
 
-  begins-open : (rest tail : Trees) → is_mark 35 tail ≡ true → Open rest tail
-  begins-open rest tail is = hash-open tail is
-
   pub generic_param-back : Back bare_generic_param param_tokens Open AfterParam generic_param
   unfolding generic_param
-  generic_param-back = whole (here-rest (λ start. then-rest {Second = BeginsParam} (λ (place : Span). attributes-back parts Open begins-open) (λ attrs.
+  generic_param-back = whole (here-rest (λ start. then-rest {Second = BeginsParam} (λ (place : Span). attributes-back parts Open hash-open) (λ attrs.
       test-rest {by = λ lifetime. BeginsParam} (λ trees. is_there (lifetime_of trees)) (λ lifetime. test-rest {by = λ constant. BeginsParam} (sees word.Const) (λ constant. param_by-rest start attrs lifetime constant)
       (λ constant rest tail is f. (f.constant ∙ is, f))) (λ lifetime rest tail is f. (f.lifetime ∙ is, f)))
       (λ rest tail f. (never (is_mark 35) rest tail f.hash, (f.some, f.greater))) (λ rest tail f. f)))
 
   pub one_type_param-back : Back bare_type_param type_param_tokens Open AfterParam one_type_param
   unfolding one_type_param
-  one_type_param-back = whole (here-rest (λ start. then-rest {Second = BeginsParam} (λ (place : Span). attributes-back parts Open begins-open) (λ attrs. type_param-rest start attrs)
+  one_type_param-back = whole (here-rest (λ start. then-rest {Second = BeginsParam} (λ (place : Span). attributes-back parts Open hash-open) (λ attrs. type_param-rest start attrs)
       (λ rest tail f. (never (is_mark 35) rest tail f.hash, (f.some, f.greater))) (λ rest tail f. f)))
 
   -- ---- all parameters

@@ -16,7 +16,7 @@ use Rattle.grammar_core.specs.declared.look.TypeStart.TheVariants as begin
 use Rattle.grammar_core.specs.declared.word.Word.{Word}
 use Rattle.grammar_core.specs.declared.word.Word.TheVariants as word
 use Rattle.grammar_core.specs.Grammar.{max_depth, within}
-use Rattle.grammar_core.specs.Input.{Input, Outcome, Parser, ◌>>=◌, ◌<$>◌, pure, after_eat, eat, first_span, is_end, items_after, next, start_of, taken, upto, at_end, items_from}
+use Rattle.grammar_core.specs.Input.{Input, Parser, ◌>>=◌, ◌<$>◌, pure, after_eat, eat, first_span, is_end, items_after, next, start_of, taken, upto, items_from}
 use Rattle.grammar_core.specs.Look.{is_there, type_start, type_word}
 use Rattle.grammar_core.specs.Make as make
 use Rattle.grammar_core.specs.Paths.{path}
@@ -27,23 +27,24 @@ use Rattle.grammar_core.specs.Words.{begins_segment, is_word, named_words, next_
 use Rattle.item_core.specs.Generics.{any_type}
 use Rattle.item_core.specs.Visibility.{is_scope, path_of_word, restriction, restriction_in, scope_in, scope_word}
 use Rattle.print_core.specs.declared.path.PathStyle.TheVariants.{Plain}
-use Rattle.print_core.specs.Marks.{Trees, comma, ended, group, joined, tuple}
+use Rattle.print_core.specs.Marks.{Trees, comma, tuple}
 use Rattle.print_core.specs.Nodes.{path_tokens, type_tokens}
 use Rattle.bare_core.specs.Bare.{bare_type}
 use Rattle.back_core.specs.Follow.{AfterType, BeginsType, Keep, is_type}
-use Rattle.back_core.specs.Printed.{Back, Reads}
+use Rattle.back_core.specs.Printed.{Back}
 use Rattle.front_core.specs.Front.{at}
 use Rattle.back_core.proofs.Follows.{type-end, type-seen, type_before-mark}
 use Rattle.back_core.proofs.Groups.{tuple-long, tuple-single}
 use Rattle.back_core.proofs.Lists.{ItemsMore, items_from-more, some-length, comma-length}
-use Rattle.back_core.proofs.Marks.{out-Ident, segment-word}
+use Rattle.back_core.proofs.Marks.{out-Ident}
 use Rattle.back_core.proofs.Prints.{print-paren, print-tuple, print-type_path}
 use Rattle.back_core.proofs.Steps.{bind-at}
 use Rattle.back_core.proofs.Takes.{contents_of-group}
+use Rattle.back_core.proofs.Types.{type_start-back}
 use Rattle.back_core.proofs.Within.{within-backs}
 use Rattle.back_items.specs.Follow.{restricts}
 use Rattle.back_items.proofs.Makes.{inside-parts, kept-read}
-use Rattle.back_items.proofs.Singles.{Single, path-single}
+use Rattle.back_items.proofs.Singles.{path-single}
 use Rattle.expr_core.specs.declared.path.Path.{Path}
 use Rattle.grammar_core.specs.Readers.{Readers}
 use Rattle.back_core.specs.Parts.{AllBacks}
@@ -190,113 +191,112 @@ in-none = refl
 -- ---- types in parentheses
 
 -- a type begins as the source's did
-abbrev StartsBack : Type 0
-StartsBack = (depth : ℕ) → Back bare_type type_tokens (λ rest tail. type_start tail ≡ type_start rest) (AfterType true) (type_step (within depth) true)
+starts : (depth : ℕ) → Back bare_type type_tokens (λ rest tail. type_start tail ≡ type_start rest) (AfterType true) (type_step (within depth) true)
+starts depth = type_start-back (within depth) (within-backs depth) true
 
 -- what all tokens are printed as
 type-whole : (depth : ℕ) (trees : Trees) (found : Ty) (last : Span) → (within depth).ty true (start_of trees) ≡ Some (found, at [] last) → is_type (type_start (type_tokens found)) ≡ true
 type-whole depth trees found last e = (rw append-nil at ((((within-backs depth).ty true).of (start_of trees) (at [] last) found e).first [] (type-end true []))).0
 
-module _ (starts : StartsBack) where
-  -- a type that prints as one word is one
-  type-alone : (depth : ℕ) (trees : Trees) (found : Ty) (last : Span) → (within depth).ty true (start_of trees) ≡ Some (found, at [] last) → Alone (type_tokens found) → Alone trees
-  unfolding within type_path type_step
-  type-alone zero trees found last e one = absurd cc
-  type-alone (suc below) trees found last e one = by (rw start at read)
-    where
-      read : type_step (within below) true (start_of trees) ≡ Some (found, at [] last)
-      read = kept-read type_depth (suc below) (type_step (within below) true (start_of trees)) found (at [] last) e
+-- a type that prints as one word is one
+type-alone : (depth : ℕ) (trees : Trees) (found : Ty) (last : Span) → (within depth).ty true (start_of trees) ≡ Some (found, at [] last) → Alone (type_tokens found) → Alone trees
+unfolding within type_path type_step
+type-alone zero trees found last e one = absurd cc
+type-alone (suc below) trees found last e one = by (rw start at read)
+  where
+    read : type_step (within below) true (start_of trees) ≡ Some (found, at [] last)
+    read = kept-read type_depth (suc below) (type_step (within below) true (start_of trees)) found (at [] last) e
 
-      start : type_start trees ≡ begin.Path
-      start =
-          let same = rw append-nil at (((starts below).of (start_of trees) (at [] last) found read).first [] (type-end true [])) in
-          sym same ∙ scope-start (type_tokens found) one.it one.word
+    start : type_start trees ≡ begin.Path
+    start =
+        let same = rw append-nil at (((starts below).of (start_of trees) (at [] last) found read).first [] (type-end true [])) in
+        sym same ∙ scope-start (type_tokens found) one.it one.word
 
-      by : type_path (within below) (start_of trees) ≡ Some (found, at [] last) → Alone trees
-      by e =
-          let parts = bind-at (path (within below) true (start_of trees)) (λ it. upto (first_span trees) >>= (λ span. pure (make.type_path None it span))) found (at [] last) e in
-          let span = joined_spans (first_span trees) parts.1.last in
-          let both = some_pair_parts (make.type_path None parts.0 span) found parts.1 (at [] last) parts.3 in
-          let prints : type_tokens found ≡ path_tokens Plain parts.0 = ap type_tokens (sym both.0) ∙ print-type_path parts.0 span in
-          let single = path-single (within below) (start_of trees) parts.1 parts.0 parts.2 (ap length (sym prints) ∙ alone-length (type_tokens found) one) in
-          record { it = one.it; word = word single.name single.word (prints ∙ single.is); ends = ap (λ (input : Input). input.rest) (single.ends ∙ both.1) }
-        where
-          word : (name : Ident) → segment_word trees ≡ Some name → type_tokens found ≡ tree.Ident name ∷ [] → scope_word trees ≡ Some one.it
-          word name is prints = scope_word-ident trees name (segment-ident trees name is) ∙ (sym (scope_word-one name []) ∙ ap scope_word (sym prints) ∙ one.word)
+    by : type_path (within below) (start_of trees) ≡ Some (found, at [] last) → Alone trees
+    by e =
+        let parts = bind-at (path (within below) true (start_of trees)) (λ it. upto (first_span trees) >>= (λ span. pure (make.type_path None it span))) found (at [] last) e in
+        let span = joined_spans (first_span trees) parts.1.last in
+        let both = some_pair_parts (make.type_path None parts.0 span) found parts.1 (at [] last) parts.3 in
+        let prints : type_tokens found ≡ path_tokens Plain parts.0 = ap type_tokens (sym both.0) ∙ print-type_path parts.0 span in
+        let single = path-single (within below) (start_of trees) parts.1 parts.0 parts.2 (ap length (sym prints) ∙ alone-length (type_tokens found) one) in
+        record { it = one.it; word = word single.name single.word (prints ∙ single.is); ends = ap (λ (input : Input). input.rest) (single.ends ∙ both.1) }
+      where
+        word : (name : Ident) → segment_word trees ≡ Some name → type_tokens found ≡ tree.Ident name ∷ [] → scope_word trees ≡ Some one.it
+        word name is prints = scope_word-ident trees name (segment-ident trees name is) ∙ (sym (scope_word-one name []) ∙ ap scope_word (sym prints) ∙ one.word)
 
-  -- a list of a type and more is no word alone
-  tuple-first : (readers : Readers) → AllBacks readers → (turns : ℕ) (span : Span) (first : Ty) (input after : Input) (found : List Ty) → items_from (readers.ty true) turns (first ∷ []) input ≡ Some (found, after)
-      → (more : Trees) × (tuple (map type_tokens found) span ≡ type_tokens first ++ (comma span ++ more))
-  tuple-first readers parts turns span first input after found e =
-      by (items_from-more bare_type type_tokens (readers.ty true) (readers.ty true) (parts.ty true) (λ rest tail f. (type-seen tail f.0).some) (type-end true) (λ rest tail span. type_before-mark 44 refl refl refl refl span rest tail true) span turns (first ∷ []) input after found e)
-    where
-      by : (found ≡ first ∷ []) ⊎ ItemsMore bare_type type_tokens (readers.ty true) (readers.ty true) (parts.ty true) (λ rest tail f. (type-seen tail f.0).some) (type-end true) (λ rest tail span. type_before-mark 44 refl refl refl refl span rest tail true) span (first ∷ []) found
-          → (more : Trees) × (tuple (map type_tokens found) span ≡ type_tokens first ++ (comma span ++ more))
-      by (inl same) = ([], rw same (tuple-single (type_tokens first) span ∙ ap (λ tokens. type_tokens first ++ tokens) (sym (append-nil (comma span)))))
-      by (inr more) = (more.tokens, tuple-long (map type_tokens found) span (rw (length-map found type_tokens) (more.longer)) ∙ more.is ∙ flat more.tokens)
-        where
-          flat : (tokens : Trees) → (type_tokens first ++ comma span ++ []) ++ tokens ≡ type_tokens first ++ (comma span ++ tokens)
-          flat tokens = rw (append-nil (type_tokens first ++ comma span)) (append_assoc (type_tokens first) (comma span) tokens)
+-- a list of a type and more is no word alone
+tuple-first : (readers : Readers) → AllBacks readers → (turns : ℕ) (span : Span) (first : Ty) (input after : Input) (found : List Ty) → items_from (readers.ty true) turns (first ∷ []) input ≡ Some (found, after)
+    → (more : Trees) × (tuple (map type_tokens found) span ≡ type_tokens first ++ (comma span ++ more))
+tuple-first readers parts turns span first input after found e =
+    by (items_from-more bare_type type_tokens (readers.ty true) (readers.ty true) (parts.ty true) (λ rest tail f. (type-seen tail f.0).some) (type-end true) (λ rest tail span. type_before-mark 44 refl refl refl refl span rest tail true) span turns (first ∷ []) input after found e)
+  where
+    by : (found ≡ first ∷ []) ⊎ ItemsMore bare_type type_tokens (readers.ty true) (readers.ty true) (parts.ty true) (λ rest tail f. (type-seen tail f.0).some) (type-end true) (λ rest tail span. type_before-mark 44 refl refl refl refl span rest tail true) span (first ∷ []) found
+        → (more : Trees) × (tuple (map type_tokens found) span ≡ type_tokens first ++ (comma span ++ more))
+    by (inl same) = ([], rw same (tuple-single (type_tokens first) span ∙ ap (λ tokens. type_tokens first ++ tokens) (sym (append-nil (comma span)))))
+    by (inr more) = (more.tokens, tuple-long (map type_tokens found) span (rw (length-map found type_tokens) (more.longer)) ∙ more.is ∙ flat more.tokens)
+      where
+        flat : (tokens : Trees) → (type_tokens first ++ comma span ++ []) ++ tokens ≡ type_tokens first ++ (comma span ++ tokens)
+        flat tokens = rw (append-nil (type_tokens first ++ comma span)) (append_assoc (type_tokens first) (comma span) tokens)
 
-  inner-restricting : (depth : ℕ) (span : Span) (trees tail : Trees) (found : Ty) (last : Span) → type_group (within depth) span (start_of trees) ≡ Some (found, at [] last) → restricting (contents_of (type_tokens found ++ tail)) ≡ true → restricting trees ≡ true
-  unfolding type_group after_eat
-  inner-restricting depth span trees tail found last e h = by (is_end trees) e
-    where
-      -- a tuple restricts nothing
-      tuple-none : (elems : List Ty) → make.type_tuple elems span ≡ found → (first : Ty) → 1 ≤ length (type_tokens first) → ((more : Trees) → is_type (type_start (type_tokens first ++ (comma span ++ more))) ≡ true)
-          → (more : Trees) × (tuple (map type_tokens elems) span ≡ type_tokens first ++ (comma span ++ more)) → ⊥
-      tuple-none elems same first some typed prints =
-          let inside : restricting (type_tokens first ++ (comma span ++ prints.0)) ≡ true = rw (← same, print-tuple elems span, contents_of-group delimiter.Parenthesis (tuple (map type_tokens elems) span) tail span, prints.1) at h in
-          let one = restricting-alone (type_tokens first ++ (comma span ++ prints.0)) (type-in (type_tokens first ++ (comma span ++ prints.0)) (typed prints.0)) inside in
-          absurd (omega (arith, some, alone-length (type_tokens first ++ (comma span ++ prints.0)) one, length-append (type_tokens first) (comma span ++ prints.0), length-append (comma span) prints.0, comma-length span))
+inner-restricting : (depth : ℕ) (span : Span) (trees tail : Trees) (found : Ty) (last : Span) → type_group (within depth) span (start_of trees) ≡ Some (found, at [] last) → restricting (contents_of (type_tokens found ++ tail)) ≡ true → restricting trees ≡ true
+unfolding type_group after_eat
+inner-restricting depth span trees tail found last e h = by (is_end trees) e
+  where
+    -- a tuple restricts nothing
+    tuple-none : (elems : List Ty) → make.type_tuple elems span ≡ found → (first : Ty) → 1 ≤ length (type_tokens first) → ((more : Trees) → is_type (type_start (type_tokens first ++ (comma span ++ more))) ≡ true)
+        → (more : Trees) × (tuple (map type_tokens elems) span ≡ type_tokens first ++ (comma span ++ more)) → ⊥
+    tuple-none elems same first some typed prints =
+        let inside : restricting (type_tokens first ++ (comma span ++ prints.0)) ≡ true = rw (← same, print-tuple elems span, contents_of-group delimiter.Parenthesis (tuple (map type_tokens elems) span) tail span, prints.1) at h in
+        let one = restricting-alone (type_tokens first ++ (comma span ++ prints.0)) (type-in (type_tokens first ++ (comma span ++ prints.0)) (typed prints.0)) inside in
+        absurd (omega (arith, some, alone-length (type_tokens first ++ (comma span ++ prints.0)) one, length-append (type_tokens first) (comma span ++ prints.0), length-append (comma span) prints.0, comma-length span))
 
-      paren : (first : Ty) (end : Span) → make.type_paren first span ≡ found → (within depth).ty true (start_of trees) ≡ Some (first, at [] end) → restricting trees ≡ true
-      paren first end same read =
-          let inside : restricting (type_tokens first) ≡ true = rw (← same, print-paren first span, contents_of-group delimiter.Parenthesis (type_tokens first) tail span) at h in
-          let one = restricting-alone (type_tokens first) (type-in (type_tokens first) (type-whole depth trees first end read)) inside in
-          let alone = type-alone depth trees first end read one in
-          alone-restricting trees (alone-in trees alone) alone
+    paren : (first : Ty) (end : Span) → make.type_paren first span ≡ found → (within depth).ty true (start_of trees) ≡ Some (first, at [] end) → restricting trees ≡ true
+    paren first end same read =
+        let inside : restricting (type_tokens first) ≡ true = rw (← same, print-paren first span, contents_of-group delimiter.Parenthesis (type_tokens first) tail span) at h in
+        let one = restricting-alone (type_tokens first) (type-in (type_tokens first) (type-whole depth trees first end read)) inside in
+        let alone = type-alone depth trees first end read one in
+        alone-restricting trees (alone-in trees alone) alone
 
-      listed : (first : Ty) (between : Input) → (within depth).ty true (start_of trees) ≡ Some (first, between) → (b : Bool)
-          → (if b then (λ elems. make.type_tuple elems span) <$> items_after ((within depth).ty true) (first ∷ []) else pure (make.type_paren first span)) (after_eat 1 b between) ≡ Some (found, at [] last) → restricting trees ≡ true
-      listed first between read true e =
-          let parts = bind-at (items_after ((within depth).ty true) (first ∷ []) (after_eat 1 true between)) (λ elems. pure (make.type_tuple elems span)) found (at [] last) e in
-          let both = some_pair_parts (make.type_tuple parts.0 span) found parts.1 (at [] last) parts.3 in
-          let one = ((within-backs depth).ty true).of (start_of trees) between first read in
-          let first_one : (more : Trees) → BeginsType trees (type_tokens first ++ (comma span ++ more)) = λ more. one.first (comma span ++ more) (type_before-mark 44 refl refl refl refl span between.rest more true) in
-          absurd (tuple-none parts.0 both.0 first (some-length (type_tokens first) (type-seen (type_tokens first ++ []) (one.first [] (type-end true between.rest)).0).some) (λ more. (first_one more).0)
-          (tuple-first (within depth) (within-backs depth) (length (after_eat 1 true between).rest) span first (after_eat 1 true between) parts.1 parts.0 parts.2))
-      listed first between read false e =
-          let both = some_pair_parts (make.type_paren first span) found between (at [] last) e in
-          paren first last both.0 (read ∙ ap (λ input. Some (first, input)) both.1)
+    listed : (first : Ty) (between : Input) → (within depth).ty true (start_of trees) ≡ Some (first, between) → (b : Bool)
+        → (if b then (λ elems. make.type_tuple elems span) <$> items_after ((within depth).ty true) (first ∷ []) else pure (make.type_paren first span)) (after_eat 1 b between) ≡ Some (found, at [] last) → restricting trees ≡ true
+    listed first between read true e =
+        let parts = bind-at (items_after ((within depth).ty true) (first ∷ []) (after_eat 1 true between)) (λ elems. pure (make.type_tuple elems span)) found (at [] last) e in
+        let both = some_pair_parts (make.type_tuple parts.0 span) found parts.1 (at [] last) parts.3 in
+        let one = ((within-backs depth).ty true).of (start_of trees) between first read in
+        let first_one : (more : Trees) → BeginsType trees (type_tokens first ++ (comma span ++ more)) = λ more. one.first (comma span ++ more) (type_before-mark 44 refl refl refl refl span between.rest more true) in
+        absurd (tuple-none parts.0 both.0 first (some-length (type_tokens first) (type-seen (type_tokens first ++ []) (one.first [] (type-end true between.rest)).0).some) (λ more. (first_one more).0)
+        (tuple-first (within depth) (within-backs depth) (length (after_eat 1 true between).rest) span first (after_eat 1 true between) parts.1 parts.0 parts.2))
+    listed first between read false e =
+        let both = some_pair_parts (make.type_paren first span) found between (at [] last) e in
+        paren first last both.0 (read ∙ ap (λ input. Some (first, input)) both.1)
 
-      by : (b : Bool) → (if b then pure (make.type_tuple [] span) else ((within depth).ty true >>= (λ first. eat 1 is_comma >>= (λ more. if more then (λ elems. make.type_tuple elems span) <$> items_after ((within depth).ty true) (first ∷ []) else pure (make.type_paren first span))))) (start_of trees) ≡ Some (found, at [] last) → restricting trees ≡ true
-      by true e =
-          let both = some_pair_parts (make.type_tuple [] span) found (start_of trees) (at [] last) e in
-          let inside : restricting [] ≡ true = rw (← both.0, print-tuple [] span, contents_of-group delimiter.Parenthesis (tuple [] span) tail span) at h in
-          let one = restricting-alone [] in-none inside in
-          absurd (omega (arith, alone-length [] one))
-      by false e =
-          let parts = bind-at ((within depth).ty true (start_of trees)) (λ first. eat 1 is_comma >>= (λ more. if more then (λ elems. make.type_tuple elems span) <$> items_after ((within depth).ty true) (first ∷ []) else pure (make.type_paren first span))) found (at [] last) e in
-          listed parts.0 parts.1 parts.2 (is_comma parts.1.rest) parts.3
+    by : (b : Bool) → (if b then pure (make.type_tuple [] span) else ((within depth).ty true >>= (λ first. eat 1 is_comma >>= (λ more. if more then (λ elems. make.type_tuple elems span) <$> items_after ((within depth).ty true) (first ∷ []) else pure (make.type_paren first span))))) (start_of trees) ≡ Some (found, at [] last) → restricting trees ≡ true
+    by true e =
+        let both = some_pair_parts (make.type_tuple [] span) found (start_of trees) (at [] last) e in
+        let inside : restricting [] ≡ true = rw (← both.0, print-tuple [] span, contents_of-group delimiter.Parenthesis (tuple [] span) tail span) at h in
+        let one = restricting-alone [] in-none inside in
+        absurd (omega (arith, alone-length [] one))
+    by false e =
+        let parts = bind-at ((within depth).ty true (start_of trees)) (λ first. eat 1 is_comma >>= (λ more. if more then (λ elems. make.type_tuple elems span) <$> items_after ((within depth).ty true) (first ∷ []) else pure (make.type_paren first span))) found (at [] last) e in
+        listed parts.0 parts.1 parts.2 (is_comma parts.1.rest) parts.3
 
-  within-restricts : (depth : ℕ) (input after : Input) (found : Ty) (tail : Trees) → (within depth).ty true input ≡ Some (found, after) → AfterType true after.rest tail → Keep restricts input.rest (type_tokens found ++ tail)
-  unfolding within type_step type_in_parentheses
-  within-restricts zero input after found tail e follows h = absurd cc
-  within-restricts (suc below) input after found tail e follows h = by (rw start at read)
-    where
-      read : type_step (within below) true input ≡ Some (found, after)
-      read = kept-read type_depth (suc below) (type_step (within below) true input) found after e
+within-restricts : (depth : ℕ) (input after : Input) (found : Ty) (tail : Trees) → (within depth).ty true input ≡ Some (found, after) → AfterType true after.rest tail → Keep restricts input.rest (type_tokens found ++ tail)
+unfolding within type_step type_in_parentheses
+within-restricts zero input after found tail e follows h = absurd cc
+within-restricts (suc below) input after found tail e follows h = by (rw start at read)
+  where
+    read : type_step (within below) true input ≡ Some (found, after)
+    read = kept-read type_depth (suc below) (type_step (within below) true input) found after e
 
-      start : type_start input.rest ≡ begin.Parenthesis
-      start =
-          let same = ((starts below).of input after found read).first tail follows in
-          sym same ∙ parenthesis-start (type_tokens found ++ tail) (group-restricts (type_tokens found ++ tail) h).0
+    start : type_start input.rest ≡ begin.Parenthesis
+    start =
+        let same = ((starts below).of input after found read).first tail follows in
+        sym same ∙ parenthesis-start (type_tokens found ++ tail) (group-restricts (type_tokens found ++ tail) h).0
 
-      by : type_in_parentheses (within below) input ≡ Some (found, after) → restricts input.rest ≡ true
-      by e =
-          let inner = inside-parts delimiter.Parenthesis (type_group (within below) (first_span input.rest)) input after found e in
-          restricts-group input.rest inner.0 (inner-restricting below (first_span input.rest) (contents_of input.rest) tail found inner.1 inner.2 (group-restricts (type_tokens found ++ tail) h).1)
+    by : type_in_parentheses (within below) input ≡ Some (found, after) → restricts input.rest ≡ true
+    by e =
+        let inner = inside-parts delimiter.Parenthesis (type_group (within below) (first_span input.rest)) input after found e in
+        restricts-group input.rest inner.0 (inner-restricting below (first_span input.rest) (contents_of input.rest) tail found inner.1 inner.2 (group-restricts (type_tokens found ++ tail) h).1)
 
-  pub type-restricts : (input after : Input) (found : Ty) → any_type input ≡ Some (found, after) → (tail : Trees) → AfterType true after.rest tail → Keep restricts input.rest (type_tokens found ++ tail)
-  type-restricts input after found e tail follows = within-restricts max_depth input after found tail e follows
+pub type-restricts : (input after : Input) (found : Ty) → any_type input ≡ Some (found, after) → (tail : Trees) → AfterType true after.rest tail → Keep restricts input.rest (type_tokens found ++ tail)
+type-restricts input after found e tail follows = within-restricts max_depth input after found tail e follows

@@ -34,7 +34,8 @@ use Rattle.front_core.specs.Front.{at}
 use Rattle.back_core.proofs.Follows.{looser-end}
 use Rattle.back_core.specs.Parts.{AllBacks}
 use Rattle.back_core.proofs.Steps.{bind-at}
-use Rattle.back_items.proofs.Makes.{all-again, all-parts, kept-read}
+use Rattle.back_core.proofs.Wholes.{all-again, all-parts}
+use Rattle.back_items.proofs.Makes.{kept-read}
 use Rattle.back_items.proofs.Numbers.{Number, is_number, number, number-of, number-parts, other-unsigned, signed-bare, signed_number, taken-parts}
 use Rattle.back_items.proofs.Others.{KeptOr, OperandOr, any-kept, atom_by-others, postfixes_from-kept, reference-others, is_other}
 use Rattle.depth_core.proofs.Depths.{expr_depth-Lit, expr_depth-Unary}

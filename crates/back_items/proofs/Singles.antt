@@ -13,7 +13,7 @@ use Rattle.expr_core.specs.declared.path.PathArguments.TheVariants as made
 use Rattle.expr_core.specs.declared.path.PathSegment.{PathSegment}
 use Rattle.grammar_core.specs.declared.look.ArgumentsStart.{ArgumentsStart}
 use Rattle.grammar_core.specs.declared.look.ArgumentsStart.TheVariants as begin
-use Rattle.grammar_core.specs.Input.{Input, Parser, ◌>>=◌, ◌<$>◌, pure, after_eat, eat, first_span, inside, joined_from, next, take_as, upto, skipped}
+use Rattle.grammar_core.specs.Input.{Input, ◌>>=◌, ◌<$>◌, pure, after_eat, eat, first_span, inside, joined_from, next, take_as, upto, skipped}
 use Rattle.grammar_core.specs.Look.{arguments_start}
 use Rattle.grammar_core.specs.Make as make
 use Rattle.grammar_core.specs.Paths.{angle_list, arguments, arguments_by, generic_argument, list, parenthesized, path, return_type, segment, segments}

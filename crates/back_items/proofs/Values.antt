@@ -31,7 +31,7 @@ use Rattle.back_core.proofs.Follows.{looser-end}
 use Rattle.back_core.proofs.Marks.{mark-length, mark_of-mark, out-Literal}
 use Rattle.back_core.proofs.Steps.{Free, Rest, whole, here-rest, pure-rest, refuse-rest, upto-rest}
 use Rattle.back_core.proofs.Takes.{expect-rest, take_as-rest}
-use Rattle.back_items.proofs.Makes.{all-again, all-first}
+use Rattle.back_core.proofs.Wholes.{all-again, all-first}
 use Rattle.back_items.proofs.Signs.{unsigned}
 
 -- ---- numbers with a minus

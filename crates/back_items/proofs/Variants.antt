@@ -25,7 +25,7 @@ use Rattle.back_core.proofs.Marks.{is_group-mark, mark_of-mark, name_of-Ident, o
 use Rattle.back_core.proofs.Steps.{close-rest, here-rest, then-rest, weak-printed, whole}
 use Rattle.back_core.proofs.Takes.{take_as-rest}
 use Rattle.back_items.proofs.Attributes.{attributes-back}
-use Rattle.back_items.proofs.Fields.{AfterFields, Grouped, Plain, UnnamedBack, block-printed, fields-back, mark-some, plain-attributes}
+use Rattle.back_items.proofs.Fields.{AfterFields, Grouped, Plain, block-printed, fields-back, mark-some, plain-attributes}
 use Rattle.back_items.proofs.Params.{default-printed}
 
 -- what goes on with a variant
@@ -72,7 +72,7 @@ name-plain : (it : Ident) (rest tail : Trees) → Plain rest (tree.Ident it ∷ 
 unfolding mark_of
 name-plain it rest tail = (refl, rw (out-Ident it) refl)
 
-module _ (parts : AllBacks (within max_depth)) (unnamed : UnnamedBack) where
+module _ (parts : AllBacks (within max_depth)) where
   discriminant-back : (span : Span) → Back (option_map bare_expr) (λ found. maybe_equal (option_map expr_tokens found) span) AfterFields AfterVariant discriminant_of
   discriminant-back span = default-printed span (weak-printed (λ rest tail f. f.expr) (λ rest tail f. f) (parts.expr any_level))
       (λ rest tail seen. fields_before-mark 61 rest tail span) (λ rest tail seen f. (keep-false is_equals rest tail seen f.equals, f.fields))
@@ -82,7 +82,7 @@ module _ (parts : AllBacks (within max_depth)) (unnamed : UnnamedBack) where
   variant-back = whole (here-rest (λ start.
       then-rest {Second = Plain} (λ place. attributes-back parts Some' (λ rest tail seen. mark-some 35 tail refl seen)) (λ attrs.
       take_as-rest {Second = Any} name_of tree.Ident (λ rest tail it is. name_of-Ident rest tail it is) (λ name.
-      then-rest {Second = AfterFields} (λ place. fields-back parts unnamed) (λ found.
+      then-rest {Second = AfterFields} (λ place. fields-back parts) (λ found.
       then-rest {Second = AfterVariant} (λ place. discriminant-back place) (λ value. close-rest start (λ q. q.0.0.0.1) (λ span. record { attrs = attrs; ident = name; fields = found; discriminant = value; span = span }) (λ q span. record { attrs = q.0.0.1; ident = name; fields = q.0.1; discriminant = q.1; span = span })
       (λ span. rw (append-nil, append_assoc, append_assoc) refl) (λ span other q ok. rw (ok.0.0.1, ok.0.1, ok.1) refl))
       (λ rest tail f. f) (λ rest tail f. f))

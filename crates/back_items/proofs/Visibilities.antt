@@ -35,7 +35,8 @@ use Rattle.back_core.proofs.Prints.{path_parts-make, print-None, print-segment}
 use Rattle.back_core.proofs.Steps.{Gives, Rest, whole, here-rest, pure-rest, then-rest, part}
 use Rattle.back_core.proofs.Takes.{AtEnd, contents_of-group, eat_or-rest, group-length, is_group-group, skipped-over, take_as-rest}
 use Rattle.back_items.specs.Follow.{AfterVisibility, restricts}
-use Rattle.back_items.proofs.Makes.{all-again, made-rest}
+use Rattle.back_core.proofs.Wholes.{all-again}
+use Rattle.back_items.proofs.Makes.{made-rest}
 use Rattle.print_core.specs.declared.path.PathStyle.{PathStyle}
 
 -- ---- restrictions

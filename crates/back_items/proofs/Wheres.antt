@@ -32,12 +32,13 @@ use Rattle.back_core.specs.Follow.{AfterType, BeginsType, Some', Open, is_type}
 use Rattle.back_core.specs.Parts.{AllBacks}
 use Rattle.back_core.specs.Printed.{Again, Reads, Back}
 use Rattle.back_core.proofs.Follows.{never, type_before-mark, type-end, type-seen}
+use Rattle.back_core.proofs.Functions.{colon-mark}
 use Rattle.back_core.proofs.Lists.{More, comma-length, ended-push, joined-push, same-push, some-length, until-printed}
 use Rattle.back_core.proofs.Marks.{is_comma-comma, lifetime_of-Lifetime, lifetime_of-word, mark_of-Lifetime, mark-length, mark_of-mark, mark_of-word, out-Ident, sees-for, word-length, out-Lifetime}
-use Rattle.back_core.proofs.Steps.{Free, Rest, bind-at, hole, whole, close-rest, here-rest, part, pure-rest, shown-rest, test-rest, then-rest, weak-rest}
+use Rattle.back_core.proofs.Steps.{Free, Rest, bind-at, hole, whole, close-rest, here-rest, part, pure-rest, shown-rest, test-rest, then-rest, weak-rest, Gives}
 use Rattle.back_core.proofs.Takes.{expect-rest, skipped-over, take_as-rest}
 use Rattle.back_items.specs.Follow.{AfterWhere, BeginsPredicate, BeginsWhere}
-use Rattle.back_items.proofs.Params.{bounds_here-back, colon-mark, lifetimes-back, lifetime-back, type_before-colon}
+use Rattle.back_items.proofs.Params.{bounds_here-back, lifetimes-back, lifetime-back, type_before-colon}
 use Rattle.token_core.specs.declared.tree.Delimiter.{Delimiter}
 use Rattle.token_core.specs.declared.tree.Group.{out-Group}
 use Rattle.back_items.proofs.Binders.{type-for}
@@ -257,10 +258,7 @@ module _ (parts : AllBacks (within max_depth)) where
       (λ input tail it is f. lifetime-living it input.rest tail)))
 
   -- `: A + B`
-  abbrev Colon : Relation
-  Colon = AfterType true
-
-  colon_bounds-back : (span : Span) → Back (map bare_bound) (λ found. mark (codes ":") span ++ sum_of (map bound_tokens found) span) Colon (AfterType true) colon_bounds
+  colon_bounds-back : (span : Span) → Back (map bare_bound) (λ found. mark (codes ":") span ++ sum_of (map bound_tokens found) span) (AfterType true) (AfterType true) colon_bounds
   colon_bounds-back span = whole {P = Unit {0}} (expect-rest {Second = Some'} 1 is_colon (λ place. mark (codes ":") span) (λ place. mark-length (codes ":") span) (λ place tail. colon-mark tail span)
       (shown-rest tt (λ it. refl) (bounds_here-back parts span))
       (λ input tail place seen f. type_before-colon true input.rest tail span seen))
@@ -276,10 +274,30 @@ module _ (parts : AllBacks (within max_depth)) where
     abbrev Bound : Env → Type 0
     Bound q = (map bare_lifetime q.0.1 ≡ map bare_lifetime lifetimes) × (bare_type q.1 ≡ bare_type ty)
 
-    bounded_type-rest : Rest {P = Span} {Q = Env} Bound bare_predicate predicate_tokens (λ place tokens. predicate_binder lifetimes ty place ++ (type_tokens ty ++ tokens)) Colon (AfterType true) (bounded_type start lifetimes ty) (λ q. bounded_type q.0.0 q.0.1 q.1)
+    bounded_type-rest : Rest {P = Span} {Q = Env} Bound bare_predicate predicate_tokens (λ place tokens. predicate_binder lifetimes ty place ++ (type_tokens ty ++ tokens)) (AfterType true) (AfterType true) (bounded_type start lifetimes ty) (λ q. bounded_type q.0.0 q.0.1 q.1)
     bounded_type-rest = then-rest {Second = AfterType true} (λ place. colon_bounds-back place) (λ found. close-rest start (λ q. q.0.0.0) (λ span. predicate.Ty lifetimes ty found span) (λ q span. predicate.Ty q.0.0.1 q.0.1 q.1 span)
         (λ span. rw (append-nil, append_assoc, append_assoc) refl) (λ span other q ok. rw (ok.0.0, ok.0.1, ok.1) refl))
         (λ rest tail f. f) (λ rest tail f. f)
+
+  -- lifetimes, a type and its bounds, behind each other
+  type_predicate-read : (input between behind after : Input) (lifetimes : List Lifetime) (ty : Ty) (found : WherePredicate) → binder input ≡ Some (lifetimes, between) → any_type between ≡ Some (ty, behind)
+      → Gives {P = Span} {Q = Env} (Bound (first_span input.rest) lifetimes ty) bare_predicate predicate_tokens (λ place tokens. predicate_binder lifetimes ty place ++ (type_tokens ty ++ tokens)) (AfterType true behind.rest) (AfterType true after.rest) (λ q. bounded_type q.0.0 q.0.1 q.1) found
+      → Reads bare_predicate (Living false input.rest) (AfterType true after.rest) type_predicate (predicate_tokens found) found
+  unfolding type_predicate
+  type_predicate-read input between behind after lifetimes ty found bound typed rest =
+      subst (λ tokens. Reads bare_predicate (Living false input.rest) (AfterType true after.rest) type_predicate tokens found) (sym rest.is) (record {
+        again = λ tail last f.
+            let follows = rest.first tail f in
+            let before = bound-again input between lifetimes bound ty rest.place (type_tokens ty ++ (rest.tokens ++ tail)) last (λ bare. type-for between behind ty typed (rest.tokens ++ tail) follows bare) in
+            let one = ((parts.ty true).of between behind ty typed).again (rest.tokens ++ tail) before.new follows in
+            let start = first_span (predicate_binder lifetimes ty rest.place ++ (type_tokens ty ++ (rest.tokens ++ tail))) in
+            let more = rest.again ((start, before.value), one.value) (before.same, one.same) tail one.new f in
+            record { value = more.value; new = more.new; is = rw (flat tail, before.is, one.is) more.is; same = more.same };
+        first = λ tail f. rw (flat tail) (bound-first lifetimes ty rest.place input.rest between.rest (type_tokens ty ++ (rest.tokens ++ tail)) (((parts.ty true).of between behind ty typed).first (rest.tokens ++ tail) (rest.first tail f)));
+      })
+    where
+      flat : (tail : Trees) → (predicate_binder lifetimes ty rest.place ++ (type_tokens ty ++ rest.tokens)) ++ tail ≡ predicate_binder lifetimes ty rest.place ++ (type_tokens ty ++ (rest.tokens ++ tail))
+      flat tail = rw (append_assoc (predicate_binder lifetimes ty rest.place) (type_tokens ty ++ rest.tokens) tail, append_assoc (type_tokens ty) rest.tokens tail) refl
 
   type_predicate-back : Back bare_predicate predicate_tokens (Living false) (AfterType true) type_predicate
   unfolding type_predicate
@@ -287,31 +305,7 @@ module _ (parts : AllBacks (within max_depth)) where
     of = λ input after found e.
         let bound = bind-at (binder input) (λ lifetimes. any_type >>= (λ ty. bounded_type (first_span input.rest) lifetimes ty)) found after e in
         let typed = bind-at (any_type bound.1) (λ ty. bounded_type (first_span input.rest) bound.0 ty) found after bound.3 in
-        let behind = (bounded_type-rest (first_span input.rest) bound.0 typed.0).of typed.1 after found typed.3 in
-        let one = (parts.ty true).of bound.1 typed.1 typed.0 typed.2 in
-        subst (λ tokens. Reads bare_predicate (Living false input.rest) (AfterType true after.rest) type_predicate tokens found) (sym behind.is) (record {
-          again = λ tail last f.
-              let follows = behind.first tail f in
-              let lifetimes = bound-again input bound.1 bound.0 bound.2 typed.0 behind.place (type_tokens typed.0 ++ (behind.tokens ++ tail)) last
-              (λ bare. type-for parts bound.1 typed.1 typed.0 typed.2 (behind.tokens ++ tail) follows bare) in
-              let ty = one.again (behind.tokens ++ tail) lifetimes.new follows in
-              let begin = first_span (predicate_binder bound.0 typed.0 behind.place ++ (type_tokens typed.0 ++ (behind.tokens ++ tail))) in
-              let more = behind.again ((begin, lifetimes.value), ty.value) (lifetimes.same, ty.same) tail ty.new f in
-              record {
-                value = more.value;
-                new = more.new;
-                is = rw (
-                  append_assoc (predicate_binder bound.0 typed.0 behind.place) (type_tokens typed.0 ++ behind.tokens) tail,
-                  append_assoc (type_tokens typed.0) behind.tokens tail,
-                  lifetimes.is,
-                  ty.is,
-                ) more.is;
-                same = more.same;
-              };
-          first = λ tail f.
-              rw (append_assoc (predicate_binder bound.0 typed.0 behind.place) (type_tokens typed.0 ++ behind.tokens) tail, append_assoc (type_tokens typed.0) behind.tokens tail)
-              (bound-first bound.0 typed.0 behind.place input.rest bound.1.rest (type_tokens typed.0 ++ (behind.tokens ++ tail)) (one.first (behind.tokens ++ tail) (behind.first tail f)));
-        });
+        type_predicate-read input bound.1 typed.1 after bound.0 typed.0 found bound.2 typed.2 ((bounded_type-rest (first_span input.rest) bound.0 typed.0).of typed.1 after found typed.3);
   }
 
   predicate_by : (lifetime : Bool) → Rest {P = Unit {0}} {Q = Unit {0}} Free bare_predicate predicate_tokens hole (Living lifetime) (AfterType true) (if lifetime then lifetime_predicate else type_predicate) (λ q. if lifetime then lifetime_predicate else type_predicate)
@@ -363,13 +357,13 @@ module _ (parts : AllBacks (within max_depth)) where
       tokens = predicate_tokens x ++ (comma span ++ two.tokens);
       is = two.is ∙ rw (ended-push (comma span) predicate_tokens found x, append_assoc, append_assoc) refl;
       longer = omega (arith, length-append found (x ∷ []), two.longer);
-      some = some-left' (predicate_tokens x) (comma span ++ two.tokens) (predicate-some input.rest after.rest x one);
+      some = still-some (predicate_tokens x) (comma span ++ two.tokens) (predicate-some input.rest after.rest x one);
       again = go;
     }
       where
-        some-left' : (trees more : Trees) → is_end (trees ++ []) ≡ false → is_end (trees ++ more) ≡ false
-        some-left' [] more h = absurd cc
-        some-left' (tree ∷ trees) more h = refl
+        still-some : (trees more : Trees) → is_end (trees ++ []) ≡ false → is_end (trees ++ more) ≡ false
+        still-some [] more h = absurd cc
+        still-some (tree ∷ trees) more h = refl
 
         go : (turns : ℕ) (others : List WherePredicate) → map bare_predicate others ≡ map bare_predicate found → (tail : Trees) (last : Span) → length (predicate_tokens x ++ (comma span ++ two.tokens)) ≤ turns → ends_where tail ≡ true
             → Again (map bare_predicate) (predicates_from turns others) (at ((predicate_tokens x ++ (comma span ++ two.tokens)) ++ tail) last) tail items

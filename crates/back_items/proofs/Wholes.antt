@@ -13,7 +13,7 @@ use Rattle.back_core.specs.Printed.{ReadBack}
 use Rattle.back_core.proofs.Follows.{never, type-end}
 use Rattle.back_core.proofs.Wholes.{whole-back}
 use Rattle.back_items.specs.Follow.{AfterVisibility, restricts}
-use Rattle.back_items.proofs.Fields.{UnnamedBack, no-restriction}
+use Rattle.back_items.proofs.Fields.{no-restriction}
 use Rattle.back_items.proofs.Items.{item-back, items-back}
 use Rattle.back_items.proofs.Params.{one_type_param-back}
 use Rattle.back_items.proofs.Variants.{no-parentheses}
@@ -27,21 +27,20 @@ no-pub = refl
 module _ (parts : AllBacks (within max_depth)) where
   pub where_of-back : ReadBack bare_where where_tokens where_of
   unfolding where_of
-  where_of-back = whole-back (λ rest. refl) (where_clause-back parts)
+  where_of-back = whole-back refl (where_clause-back parts)
 
   pub visibility_of-back : ReadBack bare_visibility visibility_tokens visibility_of
   unfolding visibility_of
-  visibility_of-back = whole-back {F = AfterVisibility Any} (λ rest. (never (sees word.Pub) rest [] no-pub, (never restricts rest [] (no-restriction [] no-parentheses), tt))) (visibility-back parts Any (λ rest tail seen. tt))
+  visibility_of-back = whole-back {F = AfterVisibility Any} (never (sees word.Pub) [] [] no-pub, (never restricts [] [] (no-restriction [] no-parentheses), tt)) (visibility-back parts Any (λ rest tail seen. tt))
 
   pub type_param_of-back : ReadBack bare_type_param type_param_tokens type_param_of
   unfolding type_param_of
-  type_param_of-back = whole-back (type-end true) (one_type_param-back parts)
+  type_param_of-back = whole-back (type-end true []) (one_type_param-back parts)
 
-  module _ (unnamed : UnnamedBack) where
-    pub derive_input_of-back : ReadBack bare_derive_input derive_input_tokens derive_input_of
-    unfolding derive_input_of
-    derive_input_of-back = whole-back (λ rest. tt) (item-back parts unnamed)
+  pub derive_input_of-back : ReadBack bare_derive_input derive_input_tokens derive_input_of
+  unfolding derive_input_of
+  derive_input_of-back = whole-back tt (item-back parts)
 
-    pub items_of-back : ReadBack (map bare_derive_input) (flat_map derive_input_tokens) items_of
-    unfolding items_of
-    items_of-back = whole-back (λ rest. ((λ h. absurd cc), tt)) (items-back parts unnamed)
+  pub items_of-back : ReadBack (map bare_derive_input) (flat_map derive_input_tokens) items_of
+  unfolding items_of
+  items_of-back = whole-back ((λ h. absurd cc), tt) (items-back parts)
