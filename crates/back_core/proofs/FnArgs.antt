@@ -7,7 +7,7 @@ use Rattle.grammar_core.specs.Arguments.{fn_arg}
 use Rattle.grammar_core.specs.Input.{Parser, ◌>>=◌, here, state, read_since, first_span, is_end}
 use Rattle.grammar_core.specs.Patterns.{max_pattern}
 use Rattle.grammar_core.specs.Readers.{Readers}
-use Rattle.grammar_core.specs.Token.{is_colon, is_pair}
+use Rattle.grammar_core.specs.Token.{is_colon}
 use Rattle.print_core.specs.Items.{fn_arg_tokens}
 use Rattle.print_core.specs.Marks.{Trees, contents, mark}
 use Rattle.bare_core.specs.Bare.{bare_fn_arg}
@@ -16,7 +16,8 @@ use Rattle.front_core.specs.Front.{Front}
 use Rattle.back_core.specs.Follow.{AfterType, Some'}
 use Rattle.back_core.specs.Parts.{AllBacks}
 use Rattle.back_core.specs.Printed.{Back, stream}
-use Rattle.back_core.proofs.Marks.{is_joint-mark, mark-length, mark_of-mark}
+use Rattle.back_core.proofs.Functions.{colon-mark}
+use Rattle.back_core.proofs.Marks.{mark-length}
 use Rattle.back_core.proofs.Patterns.{pattern-front}
 use Rattle.back_core.proofs.Steps.{Rest, bind-at, close-rest, then-rest, whole}
 use Rattle.back_core.proofs.Takes.{expect-rest}
@@ -53,10 +54,6 @@ module _ {A B D P Q : Type 0} {Ok : Q → Type 0} {bare : B → D} {print : B �
           first = λ tail f. rw (append_assoc took.read two.tokens tail) (some-left took.read (two.tokens ++ tail) took.some);
         };
   }
-
-colon-mark : (tail : Trees) (span : Span) → is_colon (mark (codes ":") span ++ tail) ≡ true
-unfolding is_pair
-colon-mark tail span = rw (mark_of-mark 58 [] span tail, is_joint-mark 58 [] span tail) refl
 
 module _ (readers : Readers) (parts : AllBacks readers) where
   pub fn_arg-back : Back bare_fn_arg fn_arg_tokens Some' (AfterType true) (fn_arg readers)

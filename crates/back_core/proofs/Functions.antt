@@ -34,7 +34,7 @@ use Rattle.back_core.proofs.Takes.{expect-rest, skip_by-rest}
 
 -- ---- names before a colon
 
-colon-mark : (tail : Trees) (span : Span) → is_colon (mark (codes ":") span ++ tail) ≡ true
+pub colon-mark : (tail : Trees) (span : Span) → is_colon (mark (codes ":") span ++ tail) ≡ true
 unfolding is_pair
 colon-mark tail span = rw (mark_of-mark 58 [] span tail, is_joint-mark 58 [] span tail) refl
 

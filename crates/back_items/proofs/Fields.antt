@@ -33,13 +33,13 @@ use Rattle.back_core.specs.Parts.{AllBacks}
 use Rattle.back_core.specs.Printed.{Back, Printed}
 use Rattle.back_core.proofs.Arguments.{group-printed}
 use Rattle.back_core.proofs.Follows.{keep-false, never, type-end, type-seen, type_before-mark}
+use Rattle.back_core.proofs.Functions.{colon-mark}
 use Rattle.back_core.proofs.Marks.{mark-length, name-word, name_of-Ident, next_word-Ident, out-Ident}
 use Rattle.back_core.proofs.Steps.{Free, Rest, close-rest, here-rest, hole, part, pure-rest, test-rest, then-rest, weak-rest, whole}
 use Rattle.back_core.proofs.Takes.{expect-rest, is_group-group, take_as-rest}
 use Rattle.back_items.specs.Follow.{AfterAttributes, AfterVisibility, restricts}
 use Rattle.back_items.proofs.Attributes.{attributes-back}
 use Rattle.back_items.proofs.Makes.{made-rest}
-use Rattle.back_items.proofs.Params.{colon-mark}
 use Rattle.back_items.proofs.Restricts.{type-restricts}
 use Rattle.back_items.proofs.Visibilities.{visibility-back}
 

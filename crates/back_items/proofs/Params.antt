@@ -39,6 +39,7 @@ use Rattle.back_core.specs.Parts.{AllBacks}
 use Rattle.back_core.specs.Printed.{Again, Reads, Printed, Back}
 use Rattle.back_core.proofs.Bounds.{bounds-back}
 use Rattle.back_core.proofs.Follows.{keep-false, never, type_before-mark}
+use Rattle.back_core.proofs.Functions.{colon-mark}
 use Rattle.back_core.proofs.Joints.{joined-printed, joined-some}
 use Rattle.back_core.proofs.Lists.{until-printed}
 use Rattle.back_core.proofs.Marks.{lifetime_of-Lifetime, mark-length, mark_of-Lifetime, mark_of-mark, name_of-Ident, word-length, is_group-mark, is_joint-mark, out-Ident, name-word, lifetime_of-word, mark_of-word, sees-const, next_word-Ident}
@@ -131,10 +132,6 @@ lifetime-back = record {
 pub lifetimes-back : (span : Span) → Back (map bare_lifetime) (λ found. sum_of (map lifetime found) span) Open (AfterType true) lifetimes
 lifetimes-back span = joined-printed bare_lifetime lifetime 1 is_plus (plus span) (mark-length (codes "+") span) (λ tail. rw (mark_of-mark 43 [] span tail) refl) (take_as lifetime_of) (take_as lifetime_of) (AfterType true)
     lifetime-back (λ rest tail f. f.0) (λ rest. tt) (λ rest next tail seen f. tt) (λ rest tail seen f. (keep-false is_plus rest tail seen f.1, tt))
-
-pub colon-mark : (tail : Trees) (span : Span) → is_colon (mark (codes ":") span ++ tail) ≡ true
-unfolding is_pair
-colon-mark tail span = rw (mark_of-mark 58 [] span tail, is_joint-mark 58 [] span tail) refl
 
 some-bounds : {A : Type 0} (print : A → Trees) (found : List A) (span : Span) → 1 ≤ length found → maybe_bounds (map print found) span ≡ mark (codes ":") span ++ sum_of (map print found) span
 some-bounds print [] span h = absurd (omega (arith, h))

@@ -32,12 +32,13 @@ use Rattle.back_core.specs.Follow.{AfterType, BeginsType, Some', Open, is_type}
 use Rattle.back_core.specs.Parts.{AllBacks}
 use Rattle.back_core.specs.Printed.{Again, Reads, Back}
 use Rattle.back_core.proofs.Follows.{never, type_before-mark, type-end, type-seen}
+use Rattle.back_core.proofs.Functions.{colon-mark}
 use Rattle.back_core.proofs.Lists.{More, comma-length, ended-push, joined-push, same-push, some-length, until-printed}
 use Rattle.back_core.proofs.Marks.{is_comma-comma, lifetime_of-Lifetime, lifetime_of-word, mark_of-Lifetime, mark-length, mark_of-mark, mark_of-word, out-Ident, sees-for, word-length, out-Lifetime}
 use Rattle.back_core.proofs.Steps.{Free, Rest, bind-at, hole, whole, close-rest, here-rest, part, pure-rest, shown-rest, test-rest, then-rest, weak-rest, Gives}
 use Rattle.back_core.proofs.Takes.{expect-rest, skipped-over, take_as-rest}
 use Rattle.back_items.specs.Follow.{AfterWhere, BeginsPredicate, BeginsWhere}
-use Rattle.back_items.proofs.Params.{bounds_here-back, colon-mark, lifetimes-back, lifetime-back, type_before-colon}
+use Rattle.back_items.proofs.Params.{bounds_here-back, lifetimes-back, lifetime-back, type_before-colon}
 use Rattle.token_core.specs.declared.tree.Delimiter.{Delimiter}
 use Rattle.token_core.specs.declared.tree.Group.{out-Group}
 use Rattle.back_items.proofs.Binders.{type-for}
