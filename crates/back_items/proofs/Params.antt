@@ -7,9 +7,6 @@ use Rattle.token_core.specs.declared.span.Span.{Span}
 use Rattle.token_core.specs.declared.span.Span.TheVariants.{CallSite}
 use Rattle.token_core.specs.declared.tree.Delimiter.TheVariants as delimiter
 use Rattle.token_core.specs.declared.tree.TokenTree.TheVariants as tree
-use Rattle.expr_core.specs.Make.{make_expr_path}
-use Rattle.expr_core.specs.declared.expr.Expr.{the_lemmas}
-use Rattle.expr_core.specs.declared.expr.Expr.TheVariants as expr
 use Rattle.expr_core.specs.declared.generics.TypeParamBound.{TypeParamBound}
 use Rattle.node_core.specs.declared.attr.Attribute.{Attribute}
 use Rattle.node_core.specs.declared.generics.GenericParam.{GenericParam}
@@ -31,7 +28,7 @@ use Rattle.item_core.specs.Generics.{behind, bounded, bounds, const_default, con
 use Rattle.item_core.specs.Visibility.{path_of_word}
 use Rattle.print_core.specs.Items.{attributes_tokens, maybe_bounds, maybe_equal, param_tokens, type_param_tokens}
 use Rattle.print_core.specs.Marks.{Trees, comma, joined, lifetime, mark, optional, plus, unless_empty, word as printed_word}
-use Rattle.print_core.specs.Nodes.{bound_tokens, expr_tokens, type_tokens, path_tokens}
+use Rattle.print_core.specs.Nodes.{bound_tokens, expr_tokens, type_tokens}
 use Rattle.print_core.specs.Paths.{angled, sum_of}
 use Rattle.bare_core.specs.Bare.{bare_bound, bare_expr, bare_lifetime, bare_type}
 use Rattle.bare_items.specs.Bare.{bare_attribute, bare_generic_param, bare_type_param}
@@ -52,8 +49,8 @@ use Rattle.back_items.specs.Follow.{AfterParam, AfterParams, BeginsParam}
 use Rattle.back_items.proofs.Attributes.{attributes-back}
 use Rattle.back_items.proofs.Makes.{made-rest, angled-flat}
 use Rattle.back_items.proofs.Visibilities.{print-word}
-use Rattle.expr_core.specs.declared.path.Path.{Path}
 use Rattle.print_core.specs.declared.path.PathStyle.TheVariants.{Turbofish}
+use Rattle.back_core.proofs.Exprs.{print-expr_path}
 
 -- ---- what a mark announces
 
@@ -264,9 +261,6 @@ module _ (parts : AllBacks (within max_depth)) where
   name-no-constant : (rest tail : Trees) (it : Ident) → name_of rest ≡ Some it → begins_constant (tree.Ident it ∷ tail) ≡ false
   unfolding begins_constant literal_of is_group next_word ident_of
   name-no-constant rest tail it is = rw (out-Ident it, name-word rest it is) refl
-
-  print-expr_path : (it : Path) (span : Span) → expr_tokens (expr.Path (make_expr_path None it span)) ≡ path_tokens Turbofish it
-  print-expr_path it span = search the_lemmas
 
   print-name : (it : Ident) → expr_tokens (expr_of_name it) ≡ tree.Ident it ∷ []
   print-name it = print-expr_path (path_of_word it) it.span ∙ print-word it Turbofish

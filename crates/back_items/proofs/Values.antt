@@ -26,19 +26,16 @@ use Rattle.item_core.specs.Attributes.{expr_in, negative, number_in, signed, str
 use Rattle.back_core.specs.Follow.{Some'}
 use Rattle.back_core.specs.Parts.{AllBacks}
 use Rattle.back_core.specs.Printed.{Back}
-use Rattle.back_core.proofs.AtomStarts.{expr-some}
+use Rattle.back_core.proofs.AtomStarts.{expr-some, literal_of-Literal}
 use Rattle.back_core.proofs.Follows.{looser-end}
-use Rattle.back_core.proofs.Marks.{mark-length, mark_of-mark, out-Literal}
+use Rattle.back_core.proofs.Marks.{mark-length, mark_of-mark}
 use Rattle.back_core.proofs.Steps.{Free, Rest, whole, here-rest, pure-rest, refuse-rest, upto-rest}
 use Rattle.back_core.proofs.Takes.{expect-rest, take_as-rest}
 use Rattle.back_core.proofs.Wholes.{all-again, all-first}
 use Rattle.back_items.proofs.Signs.{unsigned}
+use Rattle.back_core.proofs.Exprs.{print-Lit}
 
 -- ---- numbers with a minus
-
-literal_of-Literal : (it : Literal) (tail : Trees) → literal_of (tree.Literal it ∷ tail) ≡ Some it
-unfolding literal_of
-literal_of-Literal it tail = rw (out-Literal it) refl
 
 negative-rest : {Q : Type 0} (Ok : Q → Type 0) (found : Option Value) (token : Literal) (span : Span)
     → Rest {P = Span} {Q = Q × Span} (λ q. Ok q.0) bare_lit lit_tokens (λ place more. mark (codes "-") place ++ (tree.Literal token ∷ more)) Any Any (taken (negative span (literals.lit_by token found))) (λ q. taken (negative q.1 (literals.lit_by token found)))
@@ -68,9 +65,6 @@ signed-back = whole (here-rest (λ start. expect-rest {Second = Any} 1 (is_mark 
 
 pub contents-stream : (trees : Trees) → contents (stream trees) ≡ trees
 contents-stream trees = search (rules, tree_lemmas)
-
-print-Lit : (it : Lit) → expr_tokens (expr.Lit it) ≡ lit_tokens it
-print-Lit it = search the_lemmas
 
 print-Verbatim : (trees : Trees) → expr_tokens (expr.Verbatim (stream trees)) ≡ trees
 print-Verbatim trees = verbatim ∙ contents-stream trees

@@ -1,5 +1,5 @@
 -- The law of printing for `where` clauses.
-use Rattle.std.proofs.Common.{◌≡◌, ℕ, zero, suc, ◌≤◌, Bool, true, false, ◌&&◌, ◌||◌, ◌==◌, if◌then◌else◌, List, [], ◌∷◌, ◌++◌, length, map, Some, None, option_map, refl, arith, ap, sym, subst, ◌∙◌, append_assoc, append-nil, length-append, codes, ◌⊎◌, inl, inr}
+use Rattle.std.proofs.Common.{◌≡◌, ℕ, zero, suc, ◌≤◌, Bool, true, false, ◌||◌, ◌==◌, if◌then◌else◌, List, [], ◌∷◌, ◌++◌, length, map, Some, None, option_map, refl, arith, ap, sym, subst, ◌∙◌, append_assoc, append-nil, length-append, codes, ◌⊎◌, inl, inr}
 use Rattle.std.proofs.lemmas.Bool.{eqb-true}
 use Rattle.std.proofs.lemmas.Option.{some_pair_parts}
 use Rattle.token_core.specs.declared.ident.Lifetime.{Lifetime}
@@ -43,6 +43,7 @@ use Rattle.token_core.specs.declared.tree.Delimiter.{Delimiter}
 use Rattle.token_core.specs.declared.tree.Group.{out-Group}
 use Rattle.back_items.proofs.Binders.{type-for}
 use Rattle.back_items.proofs.Makes.{made-rest, angled-flat}
+use Rattle.std.proofs.Math.Bool.{and-false, or-false}
 
 -- ---- what stands behind a clause
 
@@ -50,14 +51,6 @@ use Rattle.back_items.proofs.Makes.{made-rest, angled-flat}
 record EndSeen (rest tail : Trees) : Type 0 where
   type : AfterType true rest tail
   comma : is_comma tail ≡ false
-
-and-false : (b : Bool) → (b && false) ≡ false
-and-false true = refl
-and-false false = refl
-
-or-false : (b : Bool) → (b || false) ≡ true → b ≡ true
-or-false true h = refl
-or-false false h = h
 
 no-parenthesis : (between : Delimiter) → same_delimiter between delimiter.Brace ≡ true → same_delimiter between delimiter.Parenthesis ≡ false
 no-parenthesis delimiter.Brace h = refl
@@ -73,7 +66,7 @@ end-seen rest (tree ∷ trees) is = by (out-TokenTree tree) refl
     by (TokenTree-F.Lifetime other) same = let none = rw same at is in absurd cc
     by (TokenTree-F.Literal other) same = let none = rw same at is in absurd cc
     by (TokenTree-F.Punct punct) same =
-        let semicolon = eqb-true punct.ch 59 (or-false (punct.ch == 59) (rw same at is)) in
+        let semicolon = eqb-true punct.ch 59 (sym (or-false (punct.ch == 59)) ∙ rw same at is) in
         record {
           type = (
             (
