@@ -34,7 +34,7 @@ use Rattle.bare_core.specs.Bare.{bare_bound, bare_expr, bare_lifetime, bare_type
 use Rattle.bare_items.specs.Bare.{bare_attribute, bare_generic_param, bare_type_param}
 use Rattle.front_core.specs.Alike.{Relation, Any}
 use Rattle.front_core.specs.Front.{at}
-use Rattle.back_core.specs.Follow.{AfterPath, AfterType, BeginsType, Keep, Open, Some'}
+use Rattle.back_core.specs.Follow.{AfterPath, AfterType, BeginsType, Keep, Open, NotEnded}
 use Rattle.back_core.specs.Parts.{AllBacks}
 use Rattle.back_core.specs.Printed.{Again, Reads, Printed, Back}
 use Rattle.back_core.proofs.Bounds.{bounds-back}
@@ -238,7 +238,7 @@ params_tokens found = unless_empty found.0 (angled (map param_tokens found.0) fo
 
 module _ (parts : AllBacks (within max_depth)) where
   -- `A + 'b`
-  pub bounds_here-back : (span : Span) → Back (map bare_bound) (λ found. sum_of (map bound_tokens found) span) Some' (AfterType true) bounds
+  pub bounds_here-back : (span : Span) → Back (map bare_bound) (λ found. sum_of (map bound_tokens found) span) NotEnded (AfterType true) bounds
   unfolding Rattle.grammar_core.specs.Paths.bounds
   bounds_here-back span = bounds-back (within max_depth) parts true span
 

@@ -23,7 +23,7 @@ use Rattle.bare_core.specs.Bare.{bare_expr, bare_lit}
 use Rattle.bare_core.proofs.Made.{bare_expr-Lit}
 use Rattle.front_core.specs.Alike.{Any}
 use Rattle.item_core.specs.Attributes.{expr_in, negative, number_in, signed, stream, value_by, value_of}
-use Rattle.back_core.specs.Follow.{Some'}
+use Rattle.back_core.specs.Follow.{NotEnded}
 use Rattle.back_core.specs.Parts.{AllBacks}
 use Rattle.back_core.specs.Printed.{Back}
 use Rattle.back_core.proofs.AtomStarts.{expr-some, literal_of-Literal}
@@ -49,11 +49,11 @@ negative-rest Ok (Some (value.Byte byte)) token span = refuse-rest
 negative-rest Ok (Some (value.Char ch)) token span = refuse-rest
 negative-rest Ok None token span = refuse-rest
 
-minus-some : (rest tail : Trees) (span : Span) → Some' rest (mark (codes "-") span ++ tail)
+minus-some : (rest tail : Trees) (span : Span) → NotEnded rest (mark (codes "-") span ++ tail)
 unfolding mark
 minus-some rest tail span = refl
 
-pub signed-back : Back bare_lit lit_tokens Some' Any signed
+pub signed-back : Back bare_lit lit_tokens NotEnded Any signed
 unfolding signed literals.lit_of
 signed-back = whole (here-rest (λ start. expect-rest {Second = Any} 1 (is_mark 45) (λ place. mark (codes "-") place) (mark-length (codes "-")) (λ place tail. rw (mark_of-mark 45 [] place tail) refl)
     (take_as-rest {Second = Any} literal_of tree.Literal (λ rest tail it is. literal_of-Literal it tail) (λ token.

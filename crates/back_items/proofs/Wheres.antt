@@ -28,7 +28,7 @@ use Rattle.bare_core.specs.Bare.{bare_bound, bare_lifetime, bare_type}
 use Rattle.bare_items.specs.Bare.{bare_predicate, bare_where}
 use Rattle.front_core.specs.Alike.{Relation, Any}
 use Rattle.front_core.specs.Front.{at}
-use Rattle.back_core.specs.Follow.{AfterType, BeginsType, Some', Open, is_type}
+use Rattle.back_core.specs.Follow.{AfterType, BeginsType, NotEnded, Open, is_type}
 use Rattle.back_core.specs.Parts.{AllBacks}
 use Rattle.back_core.specs.Printed.{Again, Reads, Back}
 use Rattle.back_core.proofs.Follows.{never, type_before-mark, type-end, type-seen}
@@ -252,7 +252,7 @@ module _ (parts : AllBacks (within max_depth)) where
 
   -- `: A + B`
   colon_bounds-back : (span : Span) → Back (map bare_bound) (λ found. mark (codes ":") span ++ sum_of (map bound_tokens found) span) (AfterType true) (AfterType true) colon_bounds
-  colon_bounds-back span = whole {P = Unit {0}} (expect-rest {Second = Some'} 1 is_colon (λ place. mark (codes ":") span) (λ place. mark-length (codes ":") span) (λ place tail. colon-mark tail span)
+  colon_bounds-back span = whole {P = Unit {0}} (expect-rest {Second = NotEnded} 1 is_colon (λ place. mark (codes ":") span) (λ place. mark-length (codes ":") span) (λ place tail. colon-mark tail span)
       (shown-rest tt (λ it. refl) (bounds_here-back parts span))
       (λ input tail place seen f. type_before-colon true input.rest tail span seen))
 

@@ -1,5 +1,5 @@
 -- What a parser answers of the printing of a tree.
-use Rattle.std.proofs.Common.{◌≡◌, ℕ, List, Option, Some, None, Result, Ok, Err, ap, sym, subst, ◌∙◌}
+use Rattle.std.proofs.Common.{◌≡◌, ℕ, List, Option, Some, Result, Ok, Err, ap, sym, ◌∙◌}
 use Rattle.token_core.specs.declared.tree.TokenStream.{TokenStream, the_lemmas}
 use Rattle.print_core.specs.Marks.{Trees, contents}
 use Rattle.back_core.specs.Printed.{ReadBack, stream}
