@@ -29,7 +29,7 @@ use Rattle.bare_core.specs.Bare.{bare_argument, bare_arguments, bare_output}
 use Rattle.bare_core.proofs.Made.{bare_arguments-Parenthesized, bare_argument-AssocConst, bare_argument-AssocType, bare_argument-Constraint, bare_argument-Const, bare_argument-Ty}
 use Rattle.front_core.specs.Alike.{Relation, Any}
 use Rattle.front_core.specs.Front.{at}
-use Rattle.back_core.specs.Follow.{AfterType, BeginsExpr, BeginsType, Keep, Open, Some', names}
+use Rattle.back_core.specs.Follow.{AfterType, BeginsExpr, BeginsType, Keep, Open, NotEnded, name_before}
 use Rattle.back_core.specs.Printed.{Again, Reads, Printed, Back}
 use Rattle.back_core.proofs.Follows.{keep-false, never, type-end, type_before-mark, type-seen, constant-seen}
 use Rattle.back_core.proofs.Lists.{items-printed, until-printed}
@@ -188,7 +188,7 @@ unfolding argument_start
 type-begin rest tail is f =
     let seen = type-seen tail f.0 in
     let source = word-type (next_word rest) (after_one rest) (start-word rest is) in
-    let word = type-word (next_word tail) (after_one tail) (keep-false (names is_equals) rest tail source.0 f.1.0) (keep-false (names is_colon) rest tail source.1 f.1.1) in
+    let word = type-word (next_word tail) (after_one tail) (keep-false (name_before is_equals) rest tail source.0 f.1.0) (keep-false (name_before is_colon) rest tail source.1 f.1.1) in
     (rw (seen.lifetime, seen.constant) word, (seen.some, seen.greater))
 
 -- what any argument is followed by
@@ -219,7 +219,7 @@ module _ (readers : Readers) (parts : AllBacks readers) where
   constraint-back : Back bare_argument argument_tokens (Argument argument.Constraint) AfterArgument (constraint readers)
   unfolding constraint
   constraint-back = whole (here-rest (λ start. take_as-rest {Second = Behind_name argument.Constraint} name_of tree.Ident (λ rest tail it is. name_of-Ident rest tail it is) (λ name.
-      skip-rest {Second = Some'} (λ place. mark (codes ":") place) (mark-length (codes ":"))
+      skip-rest {Second = NotEnded} (λ place. mark (codes ":") place) (mark-length (codes ":"))
       (then-rest {Second = AfterArgument} (λ place. parts.bounds place) (λ found. close-rest start (λ q. q.0.1) (λ span. generic.Constraint name found span) (λ q span. generic.Constraint name q.1 span)
       (λ span. rw (print-Constraint, append-nil, append_assoc) refl) (λ span other q ok. rw (bare_argument-Constraint, bare_argument-Constraint, ok.1) refl))
       (λ rest tail f. f) (λ rest tail f. f))

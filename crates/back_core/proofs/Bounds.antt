@@ -14,7 +14,7 @@ use Rattle.print_core.specs.Nodes.{bound_tokens}
 use Rattle.bare_core.specs.Bare.{bare_bound}
 use Rattle.bare_core.proofs.Made.{bare_bound-Trait, bare_trait_bound-make}
 use Rattle.front_core.specs.Alike.{Relation}
-use Rattle.back_core.specs.Follow.{AfterPath, AfterType, BeginsPath, Some'}
+use Rattle.back_core.specs.Follow.{AfterPath, AfterType, BeginsPath, NotEnded}
 use Rattle.back_core.specs.Printed.{Back}
 use Rattle.back_core.proofs.Arguments.{binder-printed}
 use Rattle.back_core.proofs.Follows.{keep-false, path-seen, path_before-plus, type-end}
@@ -59,11 +59,11 @@ module _ (readers : Readers) (parts : AllBacks readers) where
       (λ it. pure-rest tt (bound.Lifetime it) (λ q. bound.Lifetime it) (rw (print-bound_lifetime) refl) (λ q ok. refl)) (λ input tail it is f. (refl, rw (lifetime_of-Lifetime it tail) refl))
   one_by false = shown-rest tt (λ it. refl) trait_bound-back
 
-  pub one_bound-back : Back bare_bound bound_tokens Some' (AfterPath true) (one_bound readers)
+  pub one_bound-back : Back bare_bound bound_tokens NotEnded (AfterPath true) (one_bound readers)
   unfolding one_bound
   one_bound-back = whole (test-rest {by = Living} (λ trees. is_there (lifetime_of trees)) one_by (λ b rest tail seen f. (f.1, f.0)))
 
-  pub bounds-back : (many : Bool) (span : Span) → Back (map bare_bound) (bounds_tokens span) Some' (AfterType many) (bounds readers many)
+  pub bounds-back : (many : Bool) (span : Span) → Back (map bare_bound) (bounds_tokens span) NotEnded (AfterType many) (bounds readers many)
   unfolding bounds joined_bounds
   bounds-back true span = joined-printed bare_bound bound_tokens 1 is_plus (plus span) (mark-length (codes "+") span) (λ tail. rw (mark_of-mark 43 [] span tail) refl) (one_bound readers) (one_bound readers) (AfterType true)
       one_bound-back (λ rest tail f. f) (λ rest. (type-end false rest).0) (λ rest next tail seen f. path_before-plus rest tail span) (λ rest tail seen f. (keep-false is_plus rest tail seen f.1, f.0))

@@ -7,16 +7,17 @@ use Rattle.grammar_core.specs.Arguments.{fn_arg}
 use Rattle.grammar_core.specs.Input.{Parser, ◌>>=◌, here, state, read_since, first_span, is_end}
 use Rattle.grammar_core.specs.Patterns.{max_pattern}
 use Rattle.grammar_core.specs.Readers.{Readers}
-use Rattle.grammar_core.specs.Token.{is_colon, is_pair}
+use Rattle.grammar_core.specs.Token.{is_colon}
 use Rattle.print_core.specs.Items.{fn_arg_tokens}
 use Rattle.print_core.specs.Marks.{Trees, contents, mark}
 use Rattle.bare_core.specs.Bare.{bare_fn_arg}
 use Rattle.front_core.specs.Alike.{Relation, Any}
 use Rattle.front_core.specs.Front.{Front}
-use Rattle.back_core.specs.Follow.{AfterType, Some'}
+use Rattle.back_core.specs.Follow.{AfterType, NotEnded}
 use Rattle.back_core.specs.Parts.{AllBacks}
 use Rattle.back_core.specs.Printed.{Back, stream}
-use Rattle.back_core.proofs.Marks.{is_joint-mark, mark-length, mark_of-mark}
+use Rattle.back_core.proofs.Functions.{colon-mark}
+use Rattle.back_core.proofs.Marks.{mark-length}
 use Rattle.back_core.proofs.Patterns.{pattern-front}
 use Rattle.back_core.proofs.Steps.{Rest, bind-at, close-rest, then-rest, whole}
 use Rattle.back_core.proofs.Takes.{expect-rest}
@@ -35,7 +36,7 @@ some-left (tree ∷ read) more some = refl
 -- a front that is kept as its tokens, and what comes after it
 module _ {A B D P Q : Type 0} {Ok : Q → Type 0} {bare : B → D} {print : B → Trees} {wrap : P → Trees → Trees} {Second F : Relation} {front : Parser A} {f : Span → Trees → Parser B} {g : Q × Span → Trees → Parser B} where
   pub kept-rest : Front Any front → ((start : Span) (kept : Trees) → Rest {Q = Q × Span} (λ q. Ok q.0) bare print (λ place tokens. wrap place (kept ++ tokens)) Second F (f start kept) (λ q. g q kept))
-      → Rest Ok bare print wrap Some' F (state >>= (λ before. here >>= (λ start. front >>= (λ found. read_since before.rest >>= f start)))) (λ q. state >>= (λ before. here >>= (λ start. front >>= (λ found. read_since before.rest >>= g (q, start)))))
+      → Rest Ok bare print wrap NotEnded F (state >>= (λ before. here >>= (λ start. front >>= (λ found. read_since before.rest >>= f start)))) (λ q. state >>= (λ before. here >>= (λ start. front >>= (λ found. read_since before.rest >>= g (q, start)))))
   kept-rest again h = record {
     of = λ input after found e.
         let parts = bind-at (front input) (λ found. read_since input.rest >>= f (first_span input.rest)) found after e in
@@ -54,12 +55,8 @@ module _ {A B D P Q : Type 0} {Ok : Q → Type 0} {bare : B → D} {print : B �
         };
   }
 
-colon-mark : (tail : Trees) (span : Span) → is_colon (mark (codes ":") span ++ tail) ≡ true
-unfolding is_pair
-colon-mark tail span = rw (mark_of-mark 58 [] span tail, is_joint-mark 58 [] span tail) refl
-
 module _ (readers : Readers) (parts : AllBacks readers) where
-  pub fn_arg-back : Back bare_fn_arg fn_arg_tokens Some' (AfterType true) (fn_arg readers)
+  pub fn_arg-back : Back bare_fn_arg fn_arg_tokens NotEnded (AfterType true) (fn_arg readers)
   unfolding fn_arg
   fn_arg-back = whole {P = Span} (kept-rest {Second = Any} (pattern-front max_pattern) (λ start kept.
       expect-rest {Second = Any} 1 is_colon (λ place. mark (codes ":") place) (mark-length (codes ":")) (λ place tail. colon-mark tail place)

@@ -19,7 +19,7 @@ use Rattle.grammar_core.specs.Token.{Layer, same_delimiter, mark_of, is_joint, i
 use Rattle.grammar_core.specs.Words.{begins_segment, next_word, word_of, sees, is_word}
 use Rattle.print_core.specs.Marks.{Trees, mark, word as printed_word}
 use Rattle.front_core.specs.Alike.{Relation}
-use Rattle.back_core.specs.Follow.{is_path, Keep, Looser, Named, names, Quiet, AfterPath, AfterType, is_type}
+use Rattle.back_core.specs.Follow.{is_path, Keep, Looser, KeepsName, name_before, Quiet, AfterPath, AfterType, is_type}
 use Rattle.back_core.proofs.Marks.{mark_of-mark, is_joint-mark, is_group-mark, out-Ident}
 
 pub keep-false : (test : Trees → Bool) (rest tail : Trees) → test rest ≡ false → Keep test rest tail → test tail ≡ false
@@ -168,8 +168,8 @@ one_bound many rest tail f = (f.0, tt)
 abbrev pub Unliving : Relation
 Unliving rest tail = lifetime_of tail ≡ None
 
-pub unnamed : (rest tail : Trees) → next_word tail ≡ word.None → Named true rest tail
-unnamed rest tail none = (never (names is_equals) rest tail (rw none refl), never (names is_colon) rest tail (rw none refl))
+pub unnamed : (rest tail : Trees) → next_word tail ≡ word.None → KeepsName true rest tail
+unnamed rest tail none = (never (name_before is_equals) rest tail (rw none refl), never (name_before is_colon) rest tail (rw none refl))
 
 -- ---- what begins a literal or a block
 

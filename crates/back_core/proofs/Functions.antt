@@ -22,7 +22,7 @@ use Rattle.print_core.specs.Nodes.{type_tokens}
 use Rattle.bare_core.specs.Bare.{bare_named_arg, bare_type}
 use Rattle.bare_core.proofs.Made.{bare_type-FnPtr}
 use Rattle.front_core.specs.Alike.{Relation, Any}
-use Rattle.back_core.specs.Follow.{AfterType, BeginsType, Named, Some', names}
+use Rattle.back_core.specs.Follow.{AfterType, BeginsType, KeepsName, NotEnded, name_before}
 use Rattle.back_core.specs.Printed.{Back}
 use Rattle.back_core.proofs.Arguments.{NoForBut, binder-printed, group-printed, return_type-back}
 use Rattle.back_core.proofs.Follows.{keep-false, never, one_bound, type-end, type_before-mark, type-seen}
@@ -34,7 +34,7 @@ use Rattle.back_core.proofs.Takes.{expect-rest, skip_by-rest}
 
 -- ---- names before a colon
 
-colon-mark : (tail : Trees) (span : Span) → is_colon (mark (codes ":") span ++ tail) ≡ true
+pub colon-mark : (tail : Trees) (span : Span) → is_colon (mark (codes ":") span ++ tail) ≡ true
 unfolding is_pair
 colon-mark tail span = rw (mark_of-mark 58 [] span tail, is_joint-mark 58 [] span tail) refl
 
@@ -65,7 +65,7 @@ none-name (Some it) colon h = by (word_of it) colon h
 unnamed-type : (rest tail : Trees) → name_before_colon rest ≡ None → BeginsType rest tail → name_before_colon tail ≡ None
 unfolding name_before_colon name_of next_word
 unnamed-type rest tail is f =
-    name-none (word_at (ident_of tail)) (ident_of tail) (is_colon (after_one tail)) (keep-false (names is_colon) rest tail (none-name (ident_of rest) (is_colon (after_one rest)) is) f.1.1)
+    name-none (word_at (ident_of tail)) (ident_of tail) (is_colon (after_one tail)) (keep-false (name_before is_colon) rest tail (none-name (ident_of rest) (is_colon (after_one rest)) is) f.1.1)
 
 module _ (readers : Readers) (parts : AllBacks readers) where
   abbrev named_rest : Span → Option Ident → Parser (NamedArg Ty)
@@ -88,11 +88,11 @@ module _ (readers : Readers) (parts : AllBacks readers) where
       named-length : (name : Ident) (place : Span) → length (tree.Ident name ∷ mark (codes ":") place) ≡ 2
       named-length name place = rw (mark-length (codes ":") place) refl
 
-  seen_by : (name : Option Ident) (rest tail : Trees) → name_before_colon rest ≡ name → ArgBegin name rest tail → (name_before_colon tail ≡ name) × Some' rest tail
+  seen_by : (name : Option Ident) (rest tail : Trees) → name_before_colon rest ≡ name → ArgBegin name rest tail → (name_before_colon tail ≡ name) × NotEnded rest tail
   seen_by None rest tail is f = (unnamed-type rest tail is f, (type-seen tail f.0).some)
   seen_by (Some name) rest tail is f = (f.1 is, f.0)
 
-  named_arg-back : Back bare_named_arg named_arg_tokens Some' (AfterType true) (named_arg readers)
+  named_arg-back : Back bare_named_arg named_arg_tokens NotEnded (AfterType true) (named_arg readers)
   unfolding named_arg
   named_arg-back = whole (here-rest (λ start. test-rest {by = ArgBegin} name_before_colon (named_by start) seen_by))
 
@@ -117,7 +117,7 @@ module _ (readers : Readers) (parts : AllBacks readers) where
   unfolding printed_word next_word ident_of word_of named_words other_keywords
   sees-fn span tail = rw (out-Ident (record { text = codes "fn"; raw = false; span = span })) refl
 
-  pub type_fn_ptr-back : (many : Bool) → Back bare_type type_tokens (λ rest tail. (type_start tail ≡ begin.FnPtr) × Named true rest tail) (AfterType many) (type_fn_ptr readers)
+  pub type_fn_ptr-back : (many : Bool) → Back bare_type type_tokens (λ rest tail. (type_start tail ≡ begin.FnPtr) × KeepsName true rest tail) (AfterType many) (type_fn_ptr readers)
   unfolding type_fn_ptr
   type_fn_ptr-back many = whole (here-rest (λ start.
       exact-rest {Second = NoForBut FnSight} (λ place. binder-printed FnSight place (for-sight place)) (λ lifetimes.
@@ -129,4 +129,4 @@ module _ (readers : Readers) (parts : AllBacks readers) where
       (λ rest tail f. tt) (λ rest tail f. tt))
       (λ input tail place seen f. (rw (sees-fn place tail) refl, fn-sight place tail)))
       (λ rest tail f. f)
-      (λ rest tail f. (f.0, (never (names is_equals) rest tail (rw (f.1) refl), never (names is_colon) rest tail (rw (f.1) refl))))))
+      (λ rest tail f. (f.0, (never (name_before is_equals) rest tail (rw (f.1) refl), never (name_before is_colon) rest tail (rw (f.1) refl))))))

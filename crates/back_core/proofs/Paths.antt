@@ -26,7 +26,7 @@ use Rattle.print_core.specs.Nodes.{argument_tokens, arguments_tokens, path_token
 use Rattle.print_core.specs.Paths.{in_style}
 use Rattle.bare_core.specs.Bare.{bare_argument, bare_arguments, bare_path, bare_segment}
 use Rattle.bare_core.proofs.Made.{bare_arguments-AngleBracketed, bare_path-make, bare_segment-make}
-use Rattle.back_core.specs.Follow.{AfterPath, AfterSegment, AfterType, Behind, BeginsPath, BeginsSegment, Keep, Quiet, names}
+use Rattle.back_core.specs.Follow.{AfterPath, AfterSegment, AfterType, KeepsMarks, BeginsPath, BeginsSegment, Keep, Quiet, name_before}
 use Rattle.back_core.specs.Printed.{Reads, Back}
 use Rattle.back_core.proofs.Arguments.{generic_arguments-back, parenthesized-back}
 use Rattle.back_core.proofs.Follows.{fish-colons, group-seen, keep-false, never, no-colons, segment-seen, type-end, unnamed}
@@ -59,14 +59,14 @@ next-behind input = by input.rest
     by [] = refl
     by (tree ∷ trees) = refl
 
-keep-behind : (test : Trees → Bool) (input : Input) (tail : Trees) (name : Ident) → next_word input.rest ≡ word_of name → Keep test (next input).rest tail → Keep (names test) input.rest (tree.Ident name ∷ tail)
+keep-behind : (test : Trees → Bool) (input : Input) (tail : Trees) (name : Ident) → next_word input.rest ≡ word_of name → Keep test (next input).rest tail → Keep (name_before test) input.rest (tree.Ident name ∷ tail)
 keep-behind test input tail name is keep h =
     let both = and_parts (is_name (next_word (tree.Ident name ∷ tail))) (test tail) h in
     let name_is : is_name (word_of name) ≡ true = rw (next_word-Ident name tail) at both.0 in
     let behind : test (after_one input.rest) ≡ true = rw (next-behind input) at (keep both.1) in
     rw (is, name_is, behind) refl
 
-segment-begin : (in_type : Bool) (input : Input) (tail : Trees) (name : Ident) → segment_word input.rest ≡ Some name → Behind in_type (next input).rest tail → BeginsSegment in_type input.rest (tree.Ident name ∷ tail)
+segment-begin : (in_type : Bool) (input : Input) (tail : Trees) (name : Ident) → segment_word input.rest ≡ Some name → KeepsMarks in_type (next input).rest tail → BeginsSegment in_type input.rest (tree.Ident name ∷ tail)
 segment-begin true input tail name is f = let both = segment-word input.rest name is in (rw (next_word-Ident name tail) both.0, (keep-behind is_equals input tail name both.1 f.0, keep-behind is_colon input tail name both.1 f.1))
 segment-begin false input tail name is f = let both = segment-word input.rest name is in (rw (next_word-Ident name tail) both.0, tt)
 
@@ -98,7 +98,7 @@ colons-begin false rest tail span = (rw (is_colons-colons tail span) refl, tt)
 
 module _ (readers : Readers) (parts' : AllBacks readers) where
   abbrev ArgumentsRead : Bool → Span → Trees → Trees → PathArguments → Type 0
-  ArgumentsRead in_type span source rest found = Reads bare_arguments (Behind in_type source) (AfterSegment in_type rest) (arguments readers in_type) (arguments_tokens found (style_of in_type) span) found
+  ArgumentsRead in_type span source rest found = Reads bare_arguments (KeepsMarks in_type source) (AfterSegment in_type rest) (arguments readers in_type) (arguments_tokens found (style_of in_type) span) found
 
   abbrev inner_tokens : Span → List GenericArgument → Trees
   inner_tokens span items = joined (comma span) (map argument_tokens items) ++ mark (codes ">") span
@@ -159,7 +159,7 @@ module _ (readers : Readers) (parts' : AllBacks readers) where
           let source = source-none (is_turbofish source) false false seen in
           rw (keep-false is_turbofish _ tail source.0 f.0) refl
 
-      first : (in_type : Bool) (tail : Trees) → AfterSegment in_type source tail → Behind in_type source tail
+      first : (in_type : Bool) (tail : Trees) → AfterSegment in_type source tail → KeepsMarks in_type source tail
       first true tail f = (f.1.1.equals, f.1.1.colon)
       first false tail f = tt
 
@@ -187,7 +187,7 @@ module _ (readers : Readers) (parts' : AllBacks readers) where
       by true h = absurd cc
       by false h = absurd cc
 
-  pub arguments-back : (in_type : Bool) (span : Span) → Back bare_arguments (λ it. arguments_tokens it (style_of in_type) span) (Behind in_type) (AfterSegment in_type) (arguments readers in_type)
+  pub arguments-back : (in_type : Bool) (span : Span) → Back bare_arguments (λ it. arguments_tokens it (style_of in_type) span) (KeepsMarks in_type) (AfterSegment in_type) (arguments readers in_type)
   unfolding arguments
   arguments-back in_type span = record { of = λ input after found e. by input after found (arguments_start in_type input.rest) refl e }
     where
@@ -207,7 +207,7 @@ module _ (readers : Readers) (parts' : AllBacks readers) where
 
   pub segment-back : (in_type : Bool) → Back bare_segment (λ it. segment_tokens it (style_of in_type)) (BeginsSegment in_type) (AfterSegment in_type) (segment readers in_type)
   unfolding segment
-  segment-back in_type = whole (here-rest (λ start. take_as-rest {Second = Behind in_type} segment_word tree.Ident (λ rest tail it is. segment_word-Ident rest tail it is) (λ name.
+  segment-back in_type = whole (here-rest (λ start. take_as-rest {Second = KeepsMarks in_type} segment_word tree.Ident (λ rest tail it is. segment_word-Ident rest tail it is) (λ name.
       then-rest {Second = AfterSegment in_type} (λ place. arguments-back in_type place) (λ found. close-rest start (λ q. q.0.1) (make.segment name found) (λ q. make.segment name q.1)
       (λ span. rw (print-segment name found span (style_of in_type), append-nil) refl) (λ span other q ok. rw (bare_segment-make, bare_segment-make, ok.1) refl))
       (λ rest tail f. f) (λ rest tail f. f))

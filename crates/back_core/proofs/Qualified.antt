@@ -26,7 +26,7 @@ use Rattle.print_core.specs.Paths.{after_type, in_style}
 use Rattle.bare_core.specs.Bare.{bare_path, bare_qself, bare_segment, bare_type}
 use Rattle.bare_core.proofs.Made.{bare_path-make}
 use Rattle.front_core.specs.Alike.{Relation, Any}
-use Rattle.back_core.specs.Follow.{AfterPath, AfterType, BeginsSegment, BeginsType, Named}
+use Rattle.back_core.specs.Follow.{AfterPath, AfterType, BeginsSegment, BeginsType, KeepsName}
 use Rattle.back_core.specs.Printed.{Back}
 use Rattle.back_core.proofs.Follows.{segment-seen, type_before-mark, type_before-word, unnamed}
 use Rattle.back_core.proofs.Joints.{joined-some}
@@ -74,7 +74,7 @@ print-after_as before behind leading qspan span style some others =
       after-some (colons span) (map (λ it. segment_tokens it style) behind) (rw (length-map behind (λ it. segment_tokens it style)) others),
     ) (rw (append_assoc, append_assoc, append_assoc) refl)
 
-less-begin : (rest tail : Trees) (span : Span) → (type_start (mark (codes "<") span ++ tail) ≡ begin.Qualified) × Named true rest (mark (codes "<") span ++ tail)
+less-begin : (rest tail : Trees) (span : Span) → (type_start (mark (codes "<") span ++ tail) ≡ begin.Qualified) × KeepsName true rest (mark (codes "<") span ++ tail)
 unfolding type_start
 less-begin rest tail span =
     (rw (is_group-mark 60 [] span tail delimiter.Parenthesis, is_group-mark 60 [] span tail delimiter.Bracket, mark_of-mark 60 [] span tail) refl, unnamed rest (mark (codes "<") span ++ tail) (next_word-mark 60 [] span tail))
@@ -133,7 +133,7 @@ module _ (readers : Readers) (parts : AllBacks readers) where
       (λ input tail place seen f. tt)
       (λ rest tail seen f. ((segment-seen tail f.0).colons, tt)))
 
-  pub qualified-back : (in_type : Bool) → Back bare_pair (pair_tokens (style_of in_type)) (λ rest tail. (type_start tail ≡ begin.Qualified) × Named true rest tail) (AfterPath in_type) (qualified readers in_type)
+  pub qualified-back : (in_type : Bool) → Back bare_pair (pair_tokens (style_of in_type)) (λ rest tail. (type_start tail ≡ begin.Qualified) × KeepsName true rest tail) (AfterPath in_type) (qualified readers in_type)
   unfolding qualified
   qualified-back in_type = whole (here-rest (λ start. expect-rest {Second = BeginsType} 1 is_less (λ place. mark (codes "<") place.0) (λ place. mark-length (codes "<") place.0) (λ place tail. rw (mark_of-mark 60 [] place.0 tail) refl)
       (then-rest {Second = AfterType true} (λ place. parts.ty true) (λ it. eat_or-rest {Yes = Any} {No = Closed} 1 (sees word.As) (λ place. printed_word (codes "as") place.0) (λ place. word-length (codes "as") place.0) (λ place tail. rw (sees-as place.0 tail) refl)

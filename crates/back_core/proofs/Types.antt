@@ -18,7 +18,7 @@ use Rattle.print_core.specs.Nodes.{type_tokens}
 use Rattle.bare_core.specs.Bare.{bare_type}
 use Rattle.bare_core.proofs.Made.{bare_type-Tuple, bare_type-Paren, bare_type-Ptr, bare_type-TraitObject, bare_type-ImplTrait, bare_type-Path, bare_type_path-make, bare_type-Never, bare_type-Infer, bare_type-Array, bare_array-make, bare_type-Slice, bare_type-Reference}
 use Rattle.front_core.specs.Alike.{Relation, Any}
-use Rattle.back_core.specs.Follow.{AfterType, BeginsType, Named, Some', names}
+use Rattle.back_core.specs.Follow.{AfterType, BeginsType, KeepsName, NotEnded, name_before}
 use Rattle.back_core.specs.Printed.{Back}
 use Rattle.back_core.proofs.Bounds.{bounds-back}
 use Rattle.back_core.proofs.Follows.{never, path-seen, type-end, type_before-mark, type-seen, unnamed, looser-end, no-semicolon, one_bound, Unliving}
@@ -34,7 +34,7 @@ use Rattle.back_core.proofs.Takes.{AtEnd, skip-rest, expect-rest, eat_or-rest, e
 
 -- a type begins so
 abbrev pub Begin : TypeStart → Relation
-Begin begins rest tail = (type_start tail ≡ begins) × Named true rest tail
+Begin begins rest tail = (type_start tail ≡ begins) × KeepsName true rest tail
 
 group-begin : (rest inner tail : Trees) (span : Span) → Begin begin.Parenthesis rest (group delimiter.Parenthesis inner span ++ tail)
 unfolding type_start
@@ -67,8 +67,8 @@ unfolding type_start printed_word is_group mark_of is_pair is_joint next_word id
 word-begin text begins rest tail span is none = (
   rw (out-Ident (record { text = text; raw = false; span = span })) is,
   (
-    never (names is_equals) rest (printed_word text span ++ tail) (rw (out-Ident (record { text = text; raw = false; span = span }), none) refl),
-    never (names is_colon) rest (printed_word text span ++ tail) (rw (out-Ident (record { text = text; raw = false; span = span }), none) refl),
+    never (name_before is_equals) rest (printed_word text span ++ tail) (rw (out-Ident (record { text = text; raw = false; span = span }), none) refl),
+    never (name_before is_colon) rest (printed_word text span ++ tail) (rw (out-Ident (record { text = text; raw = false; span = span }), none) refl),
   ),
 )
 
@@ -140,7 +140,7 @@ module _ (readers : Readers) (parts : AllBacks readers) where
 
   type_trait_object-back : (many : Bool) → Back bare_type type_tokens (Begin begin.TraitObject) (AfterType many) (type_trait_object readers many)
   unfolding type_trait_object
-  type_trait_object-back many = whole (here-rest (λ start. skip-rest {Second = Some'} (λ place. printed_word (codes "dyn") place) (word-length (codes "dyn"))
+  type_trait_object-back many = whole (here-rest (λ start. skip-rest {Second = NotEnded} (λ place. printed_word (codes "dyn") place) (word-length (codes "dyn"))
       (then-rest {Second = AfterType many} (λ place. bounds-back readers parts many place) (λ found. close-rest start (λ q. q.0.1) (make.type_trait_object found) (λ q. make.type_trait_object q.1)
       (λ span. rw (print-trait_object, append-nil) refl) (λ span other q ok. rw (bare_type-TraitObject, bare_type-TraitObject, ok.1) refl))
       (λ rest tail f. f) (λ rest tail f. f))
@@ -148,7 +148,7 @@ module _ (readers : Readers) (parts : AllBacks readers) where
 
   type_impl_trait-back : (many : Bool) → Back bare_type type_tokens (Begin begin.ImplTrait) (AfterType many) (type_impl_trait readers many)
   unfolding type_impl_trait
-  type_impl_trait-back many = whole (here-rest (λ start. skip-rest {Second = Some'} (λ place. printed_word (codes "impl") place) (word-length (codes "impl"))
+  type_impl_trait-back many = whole (here-rest (λ start. skip-rest {Second = NotEnded} (λ place. printed_word (codes "impl") place) (word-length (codes "impl"))
       (then-rest {Second = AfterType many} (λ place. bounds-back readers parts many place) (λ found. close-rest start (λ q. q.0.1) (make.type_impl_trait found) (λ q. make.type_impl_trait q.1)
       (λ span. rw (print-impl_trait, append-nil) refl) (λ span other q ok. rw (bare_type-ImplTrait, bare_type-ImplTrait, ok.1) refl))
       (λ rest tail f. f) (λ rest tail f. f))

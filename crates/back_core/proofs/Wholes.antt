@@ -18,7 +18,7 @@ use Rattle.print_core.specs.Nodes.{expr_tokens, path_tokens, type_tokens}
 use Rattle.bare_core.specs.Bare.{bare_expr, bare_fn_arg, bare_ident, bare_path, bare_type}
 use Rattle.front_core.specs.Alike.{Relation, Any}
 use Rattle.front_core.specs.Front.{at}
-use Rattle.back_core.specs.Follow.{Some', begins_expr}
+use Rattle.back_core.specs.Follow.{NotEnded, begins_expr}
 use Rattle.back_core.specs.Parts.{AllBacks}
 use Rattle.back_core.specs.Printed.{Back, ReadBack, separated}
 use Rattle.back_core.proofs.AtomStarts.{expr-some}
@@ -80,7 +80,7 @@ exactly bare h = record {
       };
 }
 
-pub name-back : Back bare_ident ident Some' Any (take_as name_of)
+pub name-back : Back bare_ident ident NotEnded Any (take_as name_of)
 name-back = exactly bare_ident (take_as-printed name_of tree.Ident (λ rest tail it is. name_of-Ident rest tail it is) (λ input tail it is f. refl))
 
 pub ident_of-back : ReadBack bare_ident ident ident_of

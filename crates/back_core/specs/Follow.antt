@@ -40,36 +40,36 @@ AfterPath in_type rest tail = Keep is_colons rest tail × Ends in_type rest tail
 abbrev pub AfterSegment : Bool → Relation
 AfterSegment in_type rest tail = Keep is_turbofish rest tail × AfterPath in_type rest tail
 
--- a name that the test holds behind
-abbrev pub names : (Trees → Bool) → Trees → Bool
-names test trees = is_name (next_word trees) && test (after_one trees)
+-- a name, and what the test holds of behind it
+abbrev pub name_before : (Trees → Bool) → Trees → Bool
+name_before test trees = is_name (next_word trees) && test (after_one trees)
 
--- `=` or `:` stands behind the name that a type begins with only where it did
-abbrev pub Named : Bool → Relation
-Named true rest tail = Keep (names is_equals) rest tail × Keep (names is_colon) rest tail
-Named false rest tail = Unit {0}
+-- `=` or `:` stands behind a name that comes next only where it did
+abbrev pub KeepsName : Bool → Relation
+KeepsName true rest tail = Keep (name_before is_equals) rest tail × Keep (name_before is_colon) rest tail
+KeepsName false rest tail = Unit {0}
 
--- the same behind the name
-abbrev pub Behind : Bool → Relation
-Behind true rest tail = Keep is_equals rest tail × Keep is_colon rest tail
-Behind false rest tail = Unit {0}
+-- `=` or `:` comes next only where it did
+abbrev pub KeepsMarks : Bool → Relation
+KeepsMarks true rest tail = Keep is_equals rest tail × Keep is_colon rest tail
+KeepsMarks false rest tail = Unit {0}
 
 -- some token, and no `>` (62)
 abbrev pub Open : Relation
 Open rest tail = (is_end tail ≡ false) × (is_mark 62 tail ≡ false)
 
 abbrev pub BeginsSegment : Bool → Relation
-BeginsSegment in_type rest tail = (begins_segment (next_word tail) ≡ true) × Named in_type rest tail
+BeginsSegment in_type rest tail = (begins_segment (next_word tail) ≡ true) × KeepsName in_type rest tail
 
 abbrev pub is_path : Trees → Bool
 is_path trees = is_colons trees || begins_segment (next_word trees)
 
 abbrev pub BeginsPath : Bool → Relation
-BeginsPath in_type rest tail = (is_path tail ≡ true) × Named in_type rest tail
+BeginsPath in_type rest tail = (is_path tail ≡ true) × KeepsName in_type rest tail
 
 -- some token
-abbrev pub Some' : Relation
-Some' rest tail = is_end tail ≡ false
+abbrev pub NotEnded : Relation
+NotEnded rest tail = is_end tail ≡ false
 
 -- ---- types
 
@@ -86,7 +86,7 @@ is_type ty.Nothing = false
 is_type _ = true
 
 abbrev pub BeginsType : Relation
-BeginsType rest tail = (is_type (type_start tail) ≡ true) × Named true rest tail
+BeginsType rest tail = (is_type (type_start tail) ≡ true) × KeepsName true rest tail
 
 -- ---- expressions
 

@@ -9,7 +9,7 @@ use Rattle.print_core.specs.Marks.{Trees}
 use Rattle.print_core.specs.Nodes.{bound_tokens, expr_tokens, type_tokens}
 use Rattle.print_core.specs.Paths.{sum_of}
 use Rattle.bare_core.specs.Bare.{bare_bound, bare_expr, bare_type}
-use Rattle.back_core.specs.Follow.{AfterExpr, AfterType, BeginsExpr, BeginsType, Some'}
+use Rattle.back_core.specs.Follow.{AfterExpr, AfterType, BeginsExpr, BeginsType, NotEnded}
 use Rattle.back_core.specs.Printed.{Back}
 
 -- how a path prints its arguments, in a type or an expression
@@ -25,4 +25,4 @@ bounds_tokens span found = sum_of (map bound_tokens found) span
 pub record AllBacks (readers : Readers) : Type 0 where
   pub ty : (many : Bool) → Back bare_type type_tokens BeginsType (AfterType many) (readers.ty many)
   pub expr : (level : ℕ) → Back bare_expr expr_tokens (BeginsExpr level) (AfterExpr level) (readers.expr level)
-  pub bounds : (span : Span) → Back (map bare_bound) (bounds_tokens span) Some' (AfterType true) readers.bounds
+  pub bounds : (span : Span) → Back (map bare_bound) (bounds_tokens span) NotEnded (AfterType true) readers.bounds

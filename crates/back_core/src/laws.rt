@@ -1,7 +1,7 @@
 //! What the rules of the grammar read of the printing of what they read. These functions do nothing:
 //! their clauses are the laws.
 
-ghost use Rattle.back_core.specs.Follow.{AfterExpr, AfterPath, AfterType, BeginsExpr, BeginsPath, BeginsType, Some'};
+ghost use Rattle.back_core.specs.Follow.{AfterExpr, AfterPath, AfterType, BeginsExpr, BeginsPath, BeginsType, NotEnded};
 ghost use Rattle.back_core.specs.Kinds.{bare_expr_array, bare_expr_range};
 ghost use Rattle.back_core.specs.Parts.{bounds_tokens, style_of};
 ghost use Rattle.back_core.specs.Printed.{Back, ReadBack, separated};
@@ -24,7 +24,7 @@ pub fn fronts_are_read_back()
     ensures ty { (depth : ℕ) (many : Bool) → Back bare_type type_tokens BeginsType (AfterType many) ((within depth).ty many) }
     ensures expr { (depth level : ℕ) → Back bare_expr expr_tokens (BeginsExpr level) (AfterExpr level) ((within depth).expr level) }
     ensures path { (depth : ℕ) (in_type : Bool) → Back bare_path (path_tokens (style_of in_type)) (BeginsPath in_type) (AfterPath in_type) (path (within depth) in_type) }
-    ensures bounds { (depth : ℕ) (many : Bool) (span : Span) → Back (map bare_bound) (bounds_tokens span) Some' (AfterType many) (bounds (within depth) many) }
+    ensures bounds { (depth : ℕ) (many : Bool) (span : Span) → Back (map bare_bound) (bounds_tokens span) NotEnded (AfterType many) (bounds (within depth) many) }
 {}
 
 /// What is read from all of some tokens is read, as the same but for places, of its printing: a tree

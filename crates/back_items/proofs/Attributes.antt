@@ -29,7 +29,7 @@ use Rattle.bare_core.proofs.Made.{bare_path-make, bare_segment-make}
 use Rattle.bare_items.specs.Bare.{bare_attribute, bare_meta}
 use Rattle.front_core.specs.Alike.{Relation, Any}
 use Rattle.front_core.specs.Front.{at}
-use Rattle.back_core.specs.Follow.{Keep, Some'}
+use Rattle.back_core.specs.Follow.{Keep, NotEnded}
 use Rattle.back_core.specs.Parts.{AllBacks}
 use Rattle.back_core.specs.Printed.{Again, Back}
 use Rattle.back_core.proofs.Follows.{keep-false, never, no-colons}
@@ -155,16 +155,16 @@ module _ (parts : AllBacks (within max_depth)) where
 
     -- the value, which takes what is left
     value-rest : (eq_span : Span)
-        → Rest {P = Span} {Q = Env × Span} (λ q. Bound q.0) bare_meta meta_tokens (λ place tokens. path_tokens Plain path ++ (mark (codes "=") place ++ tokens)) Some' AtEnd
+        → Rest {P = Span} {Q = Env × Span} (λ q. Bound q.0) bare_meta meta_tokens (λ place tokens. path_tokens Plain path ++ (mark (codes "=") place ++ tokens)) NotEnded AtEnd
         (at_end >>= (λ none. if none then refuse else value_rest start eq_span path)) (λ q. at_end >>= (λ none. if none then refuse else value_rest q.0.0.1 q.1 q.0.1))
     value-rest eq_span = record { of = λ input after found e. by input after found (is_end input.rest) refl e }
       where
         by : (input after : Input) (found : Meta) (none : Bool) → is_end input.rest ≡ none → (if none then refuse else value_rest start eq_span path) input ≡ Some (found, after)
-            → Gives {P = Span} {Q = Env × Span} (λ q. Bound q.0) bare_meta meta_tokens (λ place tokens. path_tokens Plain path ++ (mark (codes "=") place ++ tokens)) (Some' input.rest) (AtEnd after.rest) (λ q. at_end >>= (λ none. if none then refuse else value_rest q.0.0.1 q.1 q.0.1)) found
+            → Gives {P = Span} {Q = Env × Span} (λ q. Bound q.0) bare_meta meta_tokens (λ place tokens. path_tokens Plain path ++ (mark (codes "=") place ++ tokens)) (NotEnded input.rest) (AtEnd after.rest) (λ q. at_end >>= (λ none. if none then refuse else value_rest q.0.0.1 q.1 q.0.1)) found
         by input after found true is e = absurd cc
         by input after found false is e =
             let both = some_pair_parts (made.NameValue (record { path = path; eq_span = eq_span; value = value_of input.rest; span = joined_spans start end.last })) found end after e in
-            subst (λ found. Gives {P = Span} {Q = Env × Span} (λ q. Bound q.0) bare_meta meta_tokens (λ place tokens. path_tokens Plain path ++ (mark (codes "=") place ++ tokens)) (Some' input.rest) (AtEnd after.rest) (λ q. at_end >>= (λ none. if none then refuse else value_rest q.0.0.1 q.1 q.0.1)) found) both.0 (record {
+            subst (λ found. Gives {P = Span} {Q = Env × Span} (λ q. Bound q.0) bare_meta meta_tokens (λ place tokens. path_tokens Plain path ++ (mark (codes "=") place ++ tokens)) (NotEnded input.rest) (AtEnd after.rest) (λ q. at_end >>= (λ none. if none then refuse else value_rest q.0.0.1 q.1 q.0.1)) found) both.0 (record {
               place = joined_spans start end.last;
               tokens = tokens;
               is = append_assoc (path_tokens Plain path) (mark (codes "=") (joined_spans start end.last)) tokens;
@@ -194,7 +194,7 @@ module _ (parts : AllBacks (within max_depth)) where
 
     name_value-rest : MetaRest (Done false) (name_value start path) (λ q. name_value q.0.1 q.1)
     unfolding name_value
-    name_value-rest = here-rest (λ eq_span. expect-rest {Second = Some'} 1 is_equals (λ place. mark (codes "=") place) (mark-length (codes "=")) (λ place tail. rw (mark_of-mark 61 [] place tail) refl)
+    name_value-rest = here-rest (λ eq_span. expect-rest {Second = NotEnded} 1 is_equals (λ place. mark (codes "=") place) (mark-length (codes "=")) (λ place tail. rw (mark_of-mark 61 [] place tail) refl)
         (value-rest eq_span)
         (λ input tail place seen f. equals-done input.rest tail place))
 
@@ -212,7 +212,7 @@ module _ (parts : AllBacks (within max_depth)) where
 
   -- ---- meta items and attributes
 
-  pub meta-back : Back bare_meta meta_tokens Some' AtEnd meta
+  pub meta-back : Back bare_meta meta_tokens NotEnded AtEnd meta
   unfolding meta
   meta-back = whole (here-rest (λ start. then-rest {Second = λ rest tail. is_colons tail ≡ false} (λ (place : Span). meta_path-back) (λ path.
       test-rest {by = Grouped} delimiter_of (meta_by-rest start path) (λ grouped rest tail is f. f))
@@ -221,7 +221,7 @@ module _ (parts : AllBacks (within max_depth)) where
   pub attribute-back : Back bare_attribute attribute_tokens (λ rest tail. (is_end tail ≡ false) × (is_mark 35 tail ≡ true)) Any attribute
   unfolding attribute
   attribute-back = whole (here-rest (λ start. expect-rest {Second = Any} 1 (is_mark 35) (λ place. mark (codes "#") place) (mark-length (codes "#")) (λ place tail. hash-mark tail place)
-      (then-rest {Start = Any} {Middle = Any} {Second = Any} (λ place. whole {P = Unit {0}} (inside-rest {Inner = Some'} delimiter.Bracket (λ it. place) (shown-rest tt (λ it. refl) meta-back) (λ rest inner tail span seen f. tt))) (λ found.
+      (then-rest {Start = Any} {Middle = Any} {Second = Any} (λ place. whole {P = Unit {0}} (inside-rest {Inner = NotEnded} delimiter.Bracket (λ it. place) (shown-rest tt (λ it. refl) meta-back) (λ rest inner tail span seen f. tt))) (λ found.
       close-rest start (λ q. q.0.1) (λ span. record { meta = found; span = span }) (λ q span. record { meta = q.1; span = span }) (λ span. rw append-nil refl) (λ span other q ok. rw (ok.1) refl))
       (λ rest tail f. f) (λ rest tail f. f))
       (λ input tail place seen f. (hash-some tail place, hash-mark tail place))))

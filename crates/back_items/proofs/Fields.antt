@@ -28,18 +28,18 @@ use Rattle.print_core.specs.Nodes.{type_tokens}
 use Rattle.bare_core.specs.Bare.{bare_type}
 use Rattle.bare_items.specs.Bare.{bare_field, bare_fields, bare_fields_named, bare_fields_unnamed}
 use Rattle.front_core.specs.Alike.{Relation, Any}
-use Rattle.back_core.specs.Follow.{AfterType, BeginsType, Keep, Some', is_type}
+use Rattle.back_core.specs.Follow.{AfterType, BeginsType, Keep, NotEnded, is_type}
 use Rattle.back_core.specs.Parts.{AllBacks}
 use Rattle.back_core.specs.Printed.{Back, Printed}
 use Rattle.back_core.proofs.Arguments.{group-printed}
 use Rattle.back_core.proofs.Follows.{keep-false, never, type-end, type-seen, type_before-mark}
+use Rattle.back_core.proofs.Functions.{colon-mark}
 use Rattle.back_core.proofs.Marks.{mark-length, name-word, name_of-Ident, next_word-Ident, out-Ident}
 use Rattle.back_core.proofs.Steps.{Free, Rest, close-rest, here-rest, hole, part, pure-rest, test-rest, then-rest, weak-rest, whole}
 use Rattle.back_core.proofs.Takes.{expect-rest, is_group-group, take_as-rest}
 use Rattle.back_items.specs.Follow.{AfterAttributes, AfterVisibility, restricts}
 use Rattle.back_items.proofs.Attributes.{attributes-back}
 use Rattle.back_items.proofs.Makes.{made-rest}
-use Rattle.back_items.proofs.Params.{colon-mark}
 use Rattle.back_items.proofs.Restricts.{type-restricts}
 use Rattle.back_items.proofs.Visibilities.{visibility-back}
 
@@ -85,7 +85,7 @@ name-visible it source rest tail is = (
 )
 
 -- what stands behind attributes
-pub plain-attributes : (rest tail : Trees) → Plain rest tail → AfterAttributes Some' rest tail
+pub plain-attributes : (rest tail : Trees) → Plain rest tail → AfterAttributes NotEnded rest tail
 plain-attributes rest tail f = (never (is_mark 35) rest tail f.1, f.0)
 
 -- more is known of what begins the printing
@@ -188,10 +188,10 @@ module _ (parts : AllBacks (within max_depth)) where
   unnamed_type-back : Back bare_type type_tokens BeginsUnnamed (AfterType true) any_type
   unnamed_type-back = sure-printed (parts.ty true) type-restricts
 
-  pub named_field-back : Back bare_field field_tokens Some' (AfterType true) named_field
+  pub named_field-back : Back bare_field field_tokens NotEnded (AfterType true) named_field
   unfolding named_field
   named_field-back = whole (here-rest (λ start.
-      then-rest {Second = Plain} (λ place. attributes-back parts Some' (λ rest tail seen. mark-some 35 tail refl seen)) (λ attrs.
+      then-rest {Second = Plain} (λ place. attributes-back parts NotEnded (λ rest tail seen. mark-some 35 tail refl seen)) (λ attrs.
       then-rest {Second = AfterVisibility Plain} (λ place. visibility-back parts Plain pub-plain) (λ vis.
       take_as-rest {Second = Any} name_of tree.Ident (λ rest tail it is. name_of-Ident rest tail it is) (λ name.
       expect-rest {Second = Any} 1 is_colon (λ place. mark (codes ":") place) (mark-length (codes ":")) (λ place tail. colon-mark tail place)
@@ -203,10 +203,10 @@ module _ (parts : AllBacks (within max_depth)) where
       (λ rest tail f. f) (λ rest tail f. f))
       (λ rest tail f. plain-attributes rest tail f) (λ rest tail f. f)))
 
-  pub unnamed_field-back : Back bare_field field_tokens Some' (AfterType true) unnamed_field
+  pub unnamed_field-back : Back bare_field field_tokens NotEnded (AfterType true) unnamed_field
   unfolding unnamed_field
   unnamed_field-back = whole (here-rest (λ start.
-      then-rest {Second = Plain} (λ place. attributes-back parts Some' (λ rest tail seen. mark-some 35 tail refl seen)) (λ attrs.
+      then-rest {Second = Plain} (λ place. attributes-back parts NotEnded (λ rest tail seen. mark-some 35 tail refl seen)) (λ attrs.
       then-rest {Second = BeginsUnnamed} (λ place. visibility-back parts Plain pub-plain) (λ vis.
       then-rest {Second = AfterType true} (λ place. unnamed_type-back) (λ it. close-rest start (λ q. q.0.0.0.1) (λ span. record { attrs = attrs; vis = vis; ident = None; ty = it; span = span }) (λ q span. record { attrs = q.0.0.1; vis = q.0.1; ident = None; ty = q.1; span = span })
       (λ span. rw (append-nil, append-nil, append_assoc) refl) (λ span other q ok. rw (ok.0.0.1, ok.0.1, ok.1) refl))

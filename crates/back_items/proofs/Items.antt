@@ -20,7 +20,7 @@ use Rattle.print_core.specs.Items.{attributes_tokens, derive_input_tokens, visib
 use Rattle.print_core.specs.Marks.{Trees, word as printed_word}
 use Rattle.bare_items.specs.Bare.{bare_attribute, bare_derive_input, bare_visibility}
 use Rattle.front_core.specs.Alike.{Relation, Any}
-use Rattle.back_core.specs.Follow.{Some'}
+use Rattle.back_core.specs.Follow.{NotEnded}
 use Rattle.back_core.specs.Parts.{AllBacks}
 use Rattle.back_core.specs.Printed.{Back}
 use Rattle.back_core.proofs.Follows.{never}
@@ -130,10 +130,10 @@ module _ (parts : AllBacks (within max_depth)) where
     item_by begin.Union = item-rest begin.Union union-word
     item_by begin.Nothing = none-rest
 
-  pub item-back : Back bare_derive_input derive_input_tokens Some' Any item
+  pub item-back : Back bare_derive_input derive_input_tokens NotEnded Any item
   unfolding item
   item-back = whole (here-rest (λ start.
-      then-rest {Second = Plain} (λ place. attributes-back parts Some' (λ rest tail seen. mark-some 35 tail refl seen)) (λ attrs.
+      then-rest {Second = Plain} (λ place. attributes-back parts NotEnded (λ rest tail seen. mark-some 35 tail refl seen)) (λ attrs.
       then-rest {Second = AfterVisibility Plain} (λ place. visibility-back parts Plain pub-plain) (λ vis.
       test-rest {by = Begun} item_start (item_by start attrs vis) (λ begins rest tail is f. f))
       (λ rest tail f. f) (λ rest tail f. f))

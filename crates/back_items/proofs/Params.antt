@@ -7,9 +7,6 @@ use Rattle.token_core.specs.declared.span.Span.{Span}
 use Rattle.token_core.specs.declared.span.Span.TheVariants.{CallSite}
 use Rattle.token_core.specs.declared.tree.Delimiter.TheVariants as delimiter
 use Rattle.token_core.specs.declared.tree.TokenTree.TheVariants as tree
-use Rattle.expr_core.specs.Make.{make_expr_path}
-use Rattle.expr_core.specs.declared.expr.Expr.{the_lemmas}
-use Rattle.expr_core.specs.declared.expr.Expr.TheVariants as expr
 use Rattle.expr_core.specs.declared.generics.TypeParamBound.{TypeParamBound}
 use Rattle.node_core.specs.declared.attr.Attribute.{Attribute}
 use Rattle.node_core.specs.declared.generics.GenericParam.{GenericParam}
@@ -31,17 +28,18 @@ use Rattle.item_core.specs.Generics.{behind, bounded, bounds, const_default, con
 use Rattle.item_core.specs.Visibility.{path_of_word}
 use Rattle.print_core.specs.Items.{attributes_tokens, maybe_bounds, maybe_equal, param_tokens, type_param_tokens}
 use Rattle.print_core.specs.Marks.{Trees, comma, joined, lifetime, mark, optional, plus, unless_empty, word as printed_word}
-use Rattle.print_core.specs.Nodes.{bound_tokens, expr_tokens, type_tokens, path_tokens}
+use Rattle.print_core.specs.Nodes.{bound_tokens, expr_tokens, type_tokens}
 use Rattle.print_core.specs.Paths.{angled, sum_of}
 use Rattle.bare_core.specs.Bare.{bare_bound, bare_expr, bare_lifetime, bare_type}
 use Rattle.bare_items.specs.Bare.{bare_attribute, bare_generic_param, bare_type_param}
 use Rattle.front_core.specs.Alike.{Relation, Any}
 use Rattle.front_core.specs.Front.{at}
-use Rattle.back_core.specs.Follow.{AfterPath, AfterType, BeginsType, Keep, Open, Some'}
+use Rattle.back_core.specs.Follow.{AfterPath, AfterType, BeginsType, Keep, Open, NotEnded}
 use Rattle.back_core.specs.Parts.{AllBacks}
 use Rattle.back_core.specs.Printed.{Again, Reads, Printed, Back}
 use Rattle.back_core.proofs.Bounds.{bounds-back}
 use Rattle.back_core.proofs.Follows.{keep-false, never, type_before-mark}
+use Rattle.back_core.proofs.Functions.{colon-mark}
 use Rattle.back_core.proofs.Joints.{joined-printed, joined-some}
 use Rattle.back_core.proofs.Lists.{until-printed}
 use Rattle.back_core.proofs.Marks.{lifetime_of-Lifetime, mark-length, mark_of-Lifetime, mark_of-mark, name_of-Ident, word-length, is_group-mark, is_joint-mark, out-Ident, name-word, lifetime_of-word, mark_of-word, sees-const, next_word-Ident}
@@ -51,8 +49,8 @@ use Rattle.back_items.specs.Follow.{AfterParam, AfterParams, BeginsParam}
 use Rattle.back_items.proofs.Attributes.{attributes-back}
 use Rattle.back_items.proofs.Makes.{made-rest, angled-flat}
 use Rattle.back_items.proofs.Visibilities.{print-word}
-use Rattle.expr_core.specs.declared.path.Path.{Path}
 use Rattle.print_core.specs.declared.path.PathStyle.TheVariants.{Turbofish}
+use Rattle.back_core.proofs.Exprs.{print-expr_path}
 
 -- ---- what a mark announces
 
@@ -134,10 +132,6 @@ lifetime-back = record {
 pub lifetimes-back : (span : Span) → Back (map bare_lifetime) (λ found. sum_of (map lifetime found) span) Open (AfterType true) lifetimes
 lifetimes-back span = joined-printed bare_lifetime lifetime 1 is_plus (plus span) (mark-length (codes "+") span) (λ tail. rw (mark_of-mark 43 [] span tail) refl) (take_as lifetime_of) (take_as lifetime_of) (AfterType true)
     lifetime-back (λ rest tail f. f.0) (λ rest. tt) (λ rest next tail seen f. tt) (λ rest tail seen f. (keep-false is_plus rest tail seen f.1, tt))
-
-pub colon-mark : (tail : Trees) (span : Span) → is_colon (mark (codes ":") span ++ tail) ≡ true
-unfolding is_pair
-colon-mark tail span = rw (mark_of-mark 58 [] span tail, is_joint-mark 58 [] span tail) refl
 
 some-bounds : {A : Type 0} (print : A → Trees) (found : List A) (span : Span) → 1 ≤ length found → maybe_bounds (map print found) span ≡ mark (codes ":") span ++ sum_of (map print found) span
 some-bounds print [] span h = absurd (omega (arith, h))
@@ -244,7 +238,7 @@ params_tokens found = unless_empty found.0 (angled (map param_tokens found.0) fo
 
 module _ (parts : AllBacks (within max_depth)) where
   -- `A + 'b`
-  pub bounds_here-back : (span : Span) → Back (map bare_bound) (λ found. sum_of (map bound_tokens found) span) Some' (AfterType true) bounds
+  pub bounds_here-back : (span : Span) → Back (map bare_bound) (λ found. sum_of (map bound_tokens found) span) NotEnded (AfterType true) bounds
   unfolding Rattle.grammar_core.specs.Paths.bounds
   bounds_here-back span = bounds-back (within max_depth) parts true span
 
@@ -267,9 +261,6 @@ module _ (parts : AllBacks (within max_depth)) where
   name-no-constant : (rest tail : Trees) (it : Ident) → name_of rest ≡ Some it → begins_constant (tree.Ident it ∷ tail) ≡ false
   unfolding begins_constant literal_of is_group next_word ident_of
   name-no-constant rest tail it is = rw (out-Ident it, name-word rest it is) refl
-
-  print-expr_path : (it : Path) (span : Span) → expr_tokens (expr.Path (make_expr_path None it span)) ≡ path_tokens Turbofish it
-  print-expr_path it span = search the_lemmas
 
   print-name : (it : Ident) → expr_tokens (expr_of_name it) ≡ tree.Ident it ∷ []
   print-name it = print-expr_path (path_of_word it) it.span ∙ print-word it Turbofish

@@ -1,5 +1,5 @@
 -- That an expression prints as a number with a sign only where its tokens were one.
-use Rattle.std.proofs.Common.{◌≡◌, inl, inr, ℕ, zero, suc, Bool, true, false, ◌==◌, if◌then◌else◌, [], ◌∷◌, length, Option, Some, None, refl, ap, sym, ◌∙◌, ◌&&◌, nat_le, arith}
+use Rattle.std.proofs.Common.{◌≡◌, inl, inr, ℕ, zero, suc, Bool, true, false, ◌==◌, if◌then◌else◌, [], ◌∷◌, length, Option, Some, None, refl, ap, sym, ◌∙◌, nat_le, arith}
 use Rattle.std.proofs.lemmas.Bool.{both_ways, eqb-true}
 use Rattle.std.proofs.lemmas.Option.{some_pair_parts, same_Some}
 use Rattle.token_core.specs.Span.{joined}
@@ -41,6 +41,7 @@ use Rattle.back_items.proofs.Others.{KeptOr, OperandOr, any-kept, atom_by-others
 use Rattle.depth_core.proofs.Depths.{expr_depth-Lit, expr_depth-Unary}
 use Rattle.grammar_core.specs.Trees.{all}
 use Rattle.std.proofs.lemmas.Bool.Decides.{nat_tests}
+use Rattle.std.proofs.Math.Bool.{and-false}
 
 -- ---- what begins a minus, and a literal
 
@@ -72,11 +73,7 @@ minus-seen (tree ∷ trees) is = by (out-TokenTree tree) refl
     by (TokenTree-F.Group other) same = let none = rw same at is in absurd cc
     by (TokenTree-F.Punct punct) same =
         let minus = eqb-true punct.ch 45 (rw same at is) in
-        record { closure = rw (same, minus) refl; dots = rw (same, minus) (undotted punct.joint); start = rw (same, minus) refl }
-      where
-        undotted : (joint : Bool) → (joint && false) ≡ false
-        undotted true = refl
-        undotted false = refl
+        record { closure = rw (same, minus) refl; dots = rw (same, minus) (and-false punct.joint); start = rw (same, minus) refl }
 
 literal-start : (trees : Trees) (it : Literal) → literal_of trees ≡ Some it → operand_start trees ≡ begin.Atom atom.Literal
 unfolding operand_start atom_start is_group literal_of mark_of

@@ -23,22 +23,19 @@ use Rattle.bare_core.specs.Bare.{bare_expr, bare_lit}
 use Rattle.bare_core.proofs.Made.{bare_expr-Lit}
 use Rattle.front_core.specs.Alike.{Any}
 use Rattle.item_core.specs.Attributes.{expr_in, negative, number_in, signed, stream, value_by, value_of}
-use Rattle.back_core.specs.Follow.{Some'}
+use Rattle.back_core.specs.Follow.{NotEnded}
 use Rattle.back_core.specs.Parts.{AllBacks}
 use Rattle.back_core.specs.Printed.{Back}
-use Rattle.back_core.proofs.AtomStarts.{expr-some}
+use Rattle.back_core.proofs.AtomStarts.{expr-some, literal_of-Literal}
 use Rattle.back_core.proofs.Follows.{looser-end}
-use Rattle.back_core.proofs.Marks.{mark-length, mark_of-mark, out-Literal}
+use Rattle.back_core.proofs.Marks.{mark-length, mark_of-mark}
 use Rattle.back_core.proofs.Steps.{Free, Rest, whole, here-rest, pure-rest, refuse-rest, upto-rest}
 use Rattle.back_core.proofs.Takes.{expect-rest, take_as-rest}
 use Rattle.back_core.proofs.Wholes.{all-again, all-first}
 use Rattle.back_items.proofs.Signs.{unsigned}
+use Rattle.back_core.proofs.Exprs.{print-Lit}
 
 -- ---- numbers with a minus
-
-literal_of-Literal : (it : Literal) (tail : Trees) → literal_of (tree.Literal it ∷ tail) ≡ Some it
-unfolding literal_of
-literal_of-Literal it tail = rw (out-Literal it) refl
 
 negative-rest : {Q : Type 0} (Ok : Q → Type 0) (found : Option Value) (token : Literal) (span : Span)
     → Rest {P = Span} {Q = Q × Span} (λ q. Ok q.0) bare_lit lit_tokens (λ place more. mark (codes "-") place ++ (tree.Literal token ∷ more)) Any Any (taken (negative span (literals.lit_by token found))) (λ q. taken (negative q.1 (literals.lit_by token found)))
@@ -52,11 +49,11 @@ negative-rest Ok (Some (value.Byte byte)) token span = refuse-rest
 negative-rest Ok (Some (value.Char ch)) token span = refuse-rest
 negative-rest Ok None token span = refuse-rest
 
-minus-some : (rest tail : Trees) (span : Span) → Some' rest (mark (codes "-") span ++ tail)
+minus-some : (rest tail : Trees) (span : Span) → NotEnded rest (mark (codes "-") span ++ tail)
 unfolding mark
 minus-some rest tail span = refl
 
-pub signed-back : Back bare_lit lit_tokens Some' Any signed
+pub signed-back : Back bare_lit lit_tokens NotEnded Any signed
 unfolding signed literals.lit_of
 signed-back = whole (here-rest (λ start. expect-rest {Second = Any} 1 (is_mark 45) (λ place. mark (codes "-") place) (mark-length (codes "-")) (λ place tail. rw (mark_of-mark 45 [] place tail) refl)
     (take_as-rest {Second = Any} literal_of tree.Literal (λ rest tail it is. literal_of-Literal it tail) (λ token.
@@ -68,9 +65,6 @@ signed-back = whole (here-rest (λ start. expect-rest {Second = Any} 1 (is_mark 
 
 pub contents-stream : (trees : Trees) → contents (stream trees) ≡ trees
 contents-stream trees = search (rules, tree_lemmas)
-
-print-Lit : (it : Lit) → expr_tokens (expr.Lit it) ≡ lit_tokens it
-print-Lit it = search the_lemmas
 
 print-Verbatim : (trees : Trees) → expr_tokens (expr.Verbatim (stream trees)) ≡ trees
 print-Verbatim trees = verbatim ∙ contents-stream trees

@@ -16,7 +16,7 @@ use Rattle.print_core.specs.Nodes.{expr_tokens}
 use Rattle.bare_core.specs.Bare.{bare_expr}
 use Rattle.bare_items.specs.Bare.{bare_variant}
 use Rattle.front_core.specs.Alike.{Any}
-use Rattle.back_core.specs.Follow.{AfterExpr, Keep, Some'}
+use Rattle.back_core.specs.Follow.{AfterExpr, Keep, NotEnded}
 use Rattle.back_core.specs.Parts.{AllBacks}
 use Rattle.back_core.specs.Printed.{Back}
 use Rattle.back_core.proofs.Follows.{keep-false, never}
@@ -77,10 +77,10 @@ module _ (parts : AllBacks (within max_depth)) where
   discriminant-back span = default-printed span (weak-printed (λ rest tail f. f.expr) (λ rest tail f. f) (parts.expr any_level))
       (λ rest tail seen. fields_before-mark 61 rest tail span) (λ rest tail seen f. (keep-false is_equals rest tail seen f.equals, f.fields))
 
-  pub variant-back : Back bare_variant variant_tokens Some' AfterVariant variant
+  pub variant-back : Back bare_variant variant_tokens NotEnded AfterVariant variant
   unfolding variant
   variant-back = whole (here-rest (λ start.
-      then-rest {Second = Plain} (λ place. attributes-back parts Some' (λ rest tail seen. mark-some 35 tail refl seen)) (λ attrs.
+      then-rest {Second = Plain} (λ place. attributes-back parts NotEnded (λ rest tail seen. mark-some 35 tail refl seen)) (λ attrs.
       take_as-rest {Second = Any} name_of tree.Ident (λ rest tail it is. name_of-Ident rest tail it is) (λ name.
       then-rest {Second = AfterFields} (λ place. fields-back parts) (λ found.
       then-rest {Second = AfterVariant} (λ place. discriminant-back place) (λ value. close-rest start (λ q. q.0.0.0.1) (λ span. record { attrs = attrs; ident = name; fields = found; discriminant = value; span = span }) (λ q span. record { attrs = q.0.0.1; ident = name; fields = q.0.1; discriminant = q.1; span = span })

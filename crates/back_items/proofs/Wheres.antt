@@ -1,5 +1,5 @@
 -- The law of printing for `where` clauses.
-use Rattle.std.proofs.Common.{◌≡◌, ℕ, zero, suc, ◌≤◌, Bool, true, false, ◌&&◌, ◌||◌, ◌==◌, if◌then◌else◌, List, [], ◌∷◌, ◌++◌, length, map, Some, None, option_map, refl, arith, ap, sym, subst, ◌∙◌, append_assoc, append-nil, length-append, codes, ◌⊎◌, inl, inr}
+use Rattle.std.proofs.Common.{◌≡◌, ℕ, zero, suc, ◌≤◌, Bool, true, false, ◌||◌, ◌==◌, if◌then◌else◌, List, [], ◌∷◌, ◌++◌, length, map, Some, None, option_map, refl, arith, ap, sym, subst, ◌∙◌, append_assoc, append-nil, length-append, codes, ◌⊎◌, inl, inr}
 use Rattle.std.proofs.lemmas.Bool.{eqb-true}
 use Rattle.std.proofs.lemmas.Option.{some_pair_parts}
 use Rattle.token_core.specs.declared.ident.Lifetime.{Lifetime}
@@ -28,20 +28,22 @@ use Rattle.bare_core.specs.Bare.{bare_bound, bare_lifetime, bare_type}
 use Rattle.bare_items.specs.Bare.{bare_predicate, bare_where}
 use Rattle.front_core.specs.Alike.{Relation, Any}
 use Rattle.front_core.specs.Front.{at}
-use Rattle.back_core.specs.Follow.{AfterType, BeginsType, Some', Open, is_type}
+use Rattle.back_core.specs.Follow.{AfterType, BeginsType, NotEnded, Open, is_type}
 use Rattle.back_core.specs.Parts.{AllBacks}
 use Rattle.back_core.specs.Printed.{Again, Reads, Back}
 use Rattle.back_core.proofs.Follows.{never, type_before-mark, type-end, type-seen}
+use Rattle.back_core.proofs.Functions.{colon-mark}
 use Rattle.back_core.proofs.Lists.{More, comma-length, ended-push, joined-push, same-push, some-length, until-printed}
 use Rattle.back_core.proofs.Marks.{is_comma-comma, lifetime_of-Lifetime, lifetime_of-word, mark_of-Lifetime, mark-length, mark_of-mark, mark_of-word, out-Ident, sees-for, word-length, out-Lifetime}
 use Rattle.back_core.proofs.Steps.{Free, Rest, bind-at, hole, whole, close-rest, here-rest, part, pure-rest, shown-rest, test-rest, then-rest, weak-rest, Gives}
 use Rattle.back_core.proofs.Takes.{expect-rest, skipped-over, take_as-rest}
 use Rattle.back_items.specs.Follow.{AfterWhere, BeginsPredicate, BeginsWhere}
-use Rattle.back_items.proofs.Params.{bounds_here-back, colon-mark, lifetimes-back, lifetime-back, type_before-colon}
+use Rattle.back_items.proofs.Params.{bounds_here-back, lifetimes-back, lifetime-back, type_before-colon}
 use Rattle.token_core.specs.declared.tree.Delimiter.{Delimiter}
 use Rattle.token_core.specs.declared.tree.Group.{out-Group}
 use Rattle.back_items.proofs.Binders.{type-for}
 use Rattle.back_items.proofs.Makes.{made-rest, angled-flat}
+use Rattle.std.proofs.Math.Bool.{and-false, or-false}
 
 -- ---- what stands behind a clause
 
@@ -49,14 +51,6 @@ use Rattle.back_items.proofs.Makes.{made-rest, angled-flat}
 record EndSeen (rest tail : Trees) : Type 0 where
   type : AfterType true rest tail
   comma : is_comma tail ≡ false
-
-and-false : (b : Bool) → (b && false) ≡ false
-and-false true = refl
-and-false false = refl
-
-or-false : (b : Bool) → (b || false) ≡ true → b ≡ true
-or-false true h = refl
-or-false false h = h
 
 no-parenthesis : (between : Delimiter) → same_delimiter between delimiter.Brace ≡ true → same_delimiter between delimiter.Parenthesis ≡ false
 no-parenthesis delimiter.Brace h = refl
@@ -72,7 +66,7 @@ end-seen rest (tree ∷ trees) is = by (out-TokenTree tree) refl
     by (TokenTree-F.Lifetime other) same = let none = rw same at is in absurd cc
     by (TokenTree-F.Literal other) same = let none = rw same at is in absurd cc
     by (TokenTree-F.Punct punct) same =
-        let semicolon = eqb-true punct.ch 59 (or-false (punct.ch == 59) (rw same at is)) in
+        let semicolon = eqb-true punct.ch 59 (sym (or-false (punct.ch == 59)) ∙ rw same at is) in
         record {
           type = (
             (
@@ -258,7 +252,7 @@ module _ (parts : AllBacks (within max_depth)) where
 
   -- `: A + B`
   colon_bounds-back : (span : Span) → Back (map bare_bound) (λ found. mark (codes ":") span ++ sum_of (map bound_tokens found) span) (AfterType true) (AfterType true) colon_bounds
-  colon_bounds-back span = whole {P = Unit {0}} (expect-rest {Second = Some'} 1 is_colon (λ place. mark (codes ":") span) (λ place. mark-length (codes ":") span) (λ place tail. colon-mark tail span)
+  colon_bounds-back span = whole {P = Unit {0}} (expect-rest {Second = NotEnded} 1 is_colon (λ place. mark (codes ":") span) (λ place. mark-length (codes ":") span) (λ place tail. colon-mark tail span)
       (shown-rest tt (λ it. refl) (bounds_here-back parts span))
       (λ input tail place seen f. type_before-colon true input.rest tail span seen))
 

@@ -1,7 +1,6 @@
 -- What a parser answers of the printing of a tree.
-use Rattle.std.proofs.Common.{◌≡◌, ℕ, List, Option, Some, None, Result, Ok, Err, ap, sym, subst, ◌∙◌}
-use Rattle.std.proofs.lemmas.Option.{some_inj}
-use Rattle.token_core.specs.declared.tree.TokenStream.{TokenStream}
+use Rattle.std.proofs.Common.{◌≡◌, ℕ, List, Option, Some, Result, Ok, Err, ap, sym, ◌∙◌}
+use Rattle.token_core.specs.declared.tree.TokenStream.{TokenStream, the_lemmas}
 use Rattle.print_core.specs.Marks.{Trees, contents}
 use Rattle.back_core.specs.Printed.{ReadBack, stream}
 use Rattle.syn_core.specs.Parses.{Parses}
@@ -14,7 +13,10 @@ stream-contents tokens = search the_lemmas
 
 module _ {A B : Type 0} {bare : A → B} {print : A → Trees} {tree_of : TokenStream → Option A} (law : ReadBack bare print tree_of) where
   same : (text : List ℕ) (printed : TokenStream) (tree again : A) (result : Result A ParseFail) → tree_of printed ≡ Some again → bare again ≡ bare tree → Parses text printed (tree_of printed) result → IsSame bare tree result
-  same text printed tree again (Ok found) e is parses = ap bare (some_inj found again (sym parses ∙ e)) ∙ is
+  same text printed tree again (Ok found) e is parses =
+      let one : Some found ≡ Some again = sym parses ∙ e in
+      let read : found ≡ again = cc in
+      ap bare read ∙ is
   same text printed tree again (Err NoMemory) e is parses = tt
   same text printed tree again (Err (Syn error)) e is parses = let none = sym parses.0 ∙ e in absurd cc
 

@@ -3,4 +3,7 @@
 
 mod reread;
 
-pub use reread::{reread_expr, reread_path, reread_type};
+pub use reread::{
+    reread_derive_input, reread_expr, reread_path, reread_type, reread_type_param,
+    reread_visibility, reread_where,
+};

@@ -2,13 +2,19 @@
 //! for places.
 
 ghost use Rattle.bare_core.specs.Bare.{bare_expr, bare_path, bare_type};
+ghost use Rattle.bare_items.specs.Bare.{bare_derive_input, bare_type_param, bare_visibility, bare_where};
 ghost use Rattle.grammar_core.specs.Trees as trees;
+ghost use Rattle.item_core.specs.Trees as items;
 ghost use Rattle.reread_core.specs.Reread.{ComesBack};
 
 use expr_core::{Expr, Path, Type};
+use node_core::{DeriveInput, TypeParam, Visibility, WhereClause};
 use print_core::ToTokens;
 use std::alloc::Global;
-use syn_core::{Parse, parse_expr, parse_path, parse_type};
+use syn_core::{
+    Parse, parse_derive_input, parse_expr, parse_path, parse_type, parse_type_param,
+    parse_visibility, parse_where,
+};
 
 /// A type, printed and read again.
 pub fn reread_type(alloc: Global, tree: &Type) -> Parse<Type>
@@ -32,4 +38,36 @@ pub fn reread_path(alloc: Global, tree: &Path) -> Parse<Path>
 {
     let tokens = tree.to_token_stream(alloc)?;
     parse_path(alloc, &tokens)
+}
+
+/// An item, printed and read again.
+pub fn reread_derive_input(alloc: Global, tree: &DeriveInput) -> Parse<DeriveInput>
+    ensures { ComesBack bare_derive_input items.derive_input_of tree.now result }
+{
+    let tokens = tree.to_token_stream(alloc)?;
+    parse_derive_input(alloc, &tokens)
+}
+
+/// A `where` clause, printed and read again.
+pub fn reread_where(alloc: Global, tree: &WhereClause) -> Parse<WhereClause>
+    ensures { ComesBack bare_where items.where_of tree.now result }
+{
+    let tokens = tree.to_token_stream(alloc)?;
+    parse_where(alloc, &tokens)
+}
+
+/// A visibility, printed and read again.
+pub fn reread_visibility(alloc: Global, tree: &Visibility) -> Parse<Visibility>
+    ensures { ComesBack bare_visibility items.visibility_of tree.now result }
+{
+    let tokens = tree.to_token_stream(alloc)?;
+    parse_visibility(alloc, &tokens)
+}
+
+/// A type parameter, printed and read again.
+pub fn reread_type_param(alloc: Global, tree: &TypeParam) -> Parse<TypeParam>
+    ensures { ComesBack bare_type_param items.type_param_of tree.now result }
+{
+    let tokens = tree.to_token_stream(alloc)?;
+    parse_type_param(alloc, &tokens)
 }
