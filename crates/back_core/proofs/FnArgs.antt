@@ -1,29 +1,27 @@
 -- The law of printing for arguments of functions, whose patterns are kept as tokens.
-use Rattle.std.proofs.Common.{◌≡◌, ◌-◌, ◌≤◌, true, false, [], ◌∷◌, ◌++◌, length, take, Some, refl, arith, rules, ap, subst, ◌∙◌, append_assoc, append-nil, length-append, codes}
+use Rattle.std.proofs.Common.{◌≡◌, ◌-◌, ◌≤◌, true, false, [], ◌∷◌, ◌++◌, length, take, Some, refl, arith, ap, subst, ◌∙◌, append_assoc, append-nil, length-append, codes}
 use Rattle.std.proofs.lemmas.List.{take_at}
 use Rattle.token_core.specs.declared.span.Span.{Span}
-use Rattle.token_core.specs.declared.tree.TokenStream.{roll-TokenStream, the_lemmas}
+use Rattle.token_core.specs.declared.tree.TokenStream.{roll-TokenStream}
 use Rattle.grammar_core.specs.Arguments.{fn_arg}
 use Rattle.grammar_core.specs.Input.{Parser, ◌>>=◌, here, state, read_since, first_span, is_end}
 use Rattle.grammar_core.specs.Patterns.{max_pattern}
 use Rattle.grammar_core.specs.Readers.{Readers}
 use Rattle.grammar_core.specs.Token.{is_colon}
 use Rattle.print_core.specs.Items.{fn_arg_tokens}
-use Rattle.print_core.specs.Marks.{Trees, contents, mark}
+use Rattle.print_core.specs.Marks.{Trees, mark}
 use Rattle.bare_core.specs.Bare.{bare_fn_arg}
 use Rattle.front_core.specs.Alike.{Relation, Any}
 use Rattle.front_core.specs.Front.{Front}
 use Rattle.back_core.specs.Follow.{AfterType, NotEnded}
 use Rattle.back_core.specs.Parts.{AllBacks}
-use Rattle.back_core.specs.Printed.{Back, stream}
+use Rattle.back_core.specs.Printed.{Back}
+use Rattle.back_core.proofs.Streams.{contents-stream}
 use Rattle.back_core.proofs.Functions.{colon-mark}
 use Rattle.back_core.proofs.Marks.{mark-length}
 use Rattle.back_core.proofs.Patterns.{pattern-front}
 use Rattle.back_core.proofs.Steps.{Rest, bind-at, close-rest, then-rest, whole}
 use Rattle.back_core.proofs.Takes.{expect-rest}
-
-pub contents-stream : (trees : Trees) → contents (stream trees) ≡ trees
-contents-stream trees = search (rules, the_lemmas)
 
 -- what was read of tokens that were read again is the same
 read-take : (read rest : Trees) → take (length (read ++ rest) - length rest) (read ++ rest) ≡ read

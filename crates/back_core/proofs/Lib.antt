@@ -1,3 +1,4 @@
+pub mod Streams
 pub mod Steps
 pub mod Takes
 pub mod Marks

@@ -22,7 +22,8 @@ use Rattle.back_core.specs.Follow.{NotEnded, begins_expr}
 use Rattle.back_core.specs.Parts.{AllBacks}
 use Rattle.back_core.specs.Printed.{Back, ReadBack, separated}
 use Rattle.back_core.proofs.AtomStarts.{expr-some}
-use Rattle.back_core.proofs.FnArgs.{contents-stream, fn_arg-back}
+use Rattle.back_core.proofs.FnArgs.{fn_arg-back}
+use Rattle.back_core.proofs.Streams.{contents-stream}
 use Rattle.back_core.proofs.Follows.{path-seen, type-end, type_before-mark}
 use Rattle.back_core.proofs.Infix.{expr-end, expr_before-comma}
 use Rattle.back_core.proofs.Lists.{items-printed}

@@ -32,6 +32,7 @@ use Rattle.front_core.specs.Front.{at}
 use Rattle.back_core.specs.Follow.{Keep, NotEnded}
 use Rattle.back_core.specs.Parts.{AllBacks}
 use Rattle.back_core.specs.Printed.{Again, Back}
+use Rattle.back_core.proofs.Streams.{contents-stream}
 use Rattle.back_core.proofs.Follows.{keep-false, never, no-colons}
 use Rattle.back_core.proofs.Joints.{joined-printed}
 use Rattle.back_core.proofs.Marks.{is_colons-colons, literal_of-mark, mark-length, mark_of-mark, next_word-mark, out-Ident, out-Punct}
@@ -41,7 +42,7 @@ use Rattle.back_core.proofs.Starts.{mark-seen}
 use Rattle.back_core.proofs.Steps.{Gives, Rest, whole, close-rest, here-rest, pure-rest, shown-rest, test-rest, then-rest}
 use Rattle.back_core.proofs.Takes.{AtEnd, contents_of-group, eat-rest, expect-rest, group-length, inside-rest, skip-rest, skipped-over, take_as-rest}
 use Rattle.back_items.specs.Follow.{AfterAttributes, StartsPath}
-use Rattle.back_items.proofs.Values.{ValueAgain, contents-stream, value-again}
+use Rattle.back_items.proofs.Values.{ValueAgain, value-again}
 use Rattle.back_items.proofs.Whiles.{while-printed}
 
 -- ---- paths of any words

@@ -1,9 +1,8 @@
 -- The law of printing for the value of an attribute.
-use Rattle.std.proofs.Common.{◌≡◌, true, false, [], ◌∷◌, ◌++◌, Option, Some, None, refl, ◌∙◌, codes, rules}
+use Rattle.std.proofs.Common.{◌≡◌, true, false, [], ◌∷◌, ◌++◌, Option, Some, None, refl, ◌∙◌, codes}
 use Rattle.std.specs.Str.{chars}
 use Rattle.token_core.specs.declared.span.Span.{Span}
 use Rattle.token_core.specs.declared.tree.Literal.{Literal}
-use Rattle.token_core.specs.declared.tree.TokenTree.{the_lemmas as tree_lemmas}
 use Rattle.token_core.specs.declared.tree.TokenTree.TheVariants as tree
 use Rattle.expr_core.specs.declared.expr.Expr.{Expr, the_lemmas}
 use Rattle.expr_core.specs.declared.expr.Expr.TheVariants as expr
@@ -26,6 +25,7 @@ use Rattle.item_core.specs.Attributes.{expr_in, negative, number_in, signed, str
 use Rattle.back_core.specs.Follow.{NotEnded}
 use Rattle.back_core.specs.Parts.{AllBacks}
 use Rattle.back_core.specs.Printed.{Back}
+use Rattle.back_core.proofs.Streams.{contents-stream}
 use Rattle.back_core.proofs.AtomStarts.{expr-some, literal_of-Literal}
 use Rattle.back_core.proofs.Follows.{looser-end}
 use Rattle.back_core.proofs.Marks.{mark-length, mark_of-mark}
@@ -62,9 +62,6 @@ signed-back = whole (here-rest (λ start. expect-rest {Second = Any} 1 (is_mark 
     (λ input tail place seen f. minus-some input.rest tail place)))
 
 -- ---- values
-
-pub contents-stream : (trees : Trees) → contents (stream trees) ≡ trees
-contents-stream trees = search (rules, tree_lemmas)
 
 print-Verbatim : (trees : Trees) → expr_tokens (expr.Verbatim (stream trees)) ≡ trees
 print-Verbatim trees = verbatim ∙ contents-stream trees

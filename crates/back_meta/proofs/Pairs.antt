@@ -38,7 +38,7 @@ use Rattle.back_core.proofs.Steps.{bind-at}
 use Rattle.back_core.proofs.Takes.{contents_of-group, group-length, skipped-over}
 use Rattle.back_items.specs.Follow.{StartsPath}
 use Rattle.back_items.proofs.Attributes.{group-grouped, mark-grouped, meta_path-back}
-use Rattle.back_items.proofs.Values.{contents-stream}
+use Rattle.back_core.proofs.Streams.{contents-stream}
 use Rattle.back_meta.proofs.Found.{Good, bare_found, found_tokens}
 use Rattle.back_meta.specs.Shut.{IsShut}
 use Rattle.back_meta.proofs.Bads.{attribute-again, before_comma-again}

@@ -17,7 +17,7 @@ use Rattle.front_core.specs.Front.{at}
 use Rattle.back_core.specs.Printed.{separated, stream}
 use Rattle.back_core.proofs.Lists.{items-read}
 use Rattle.back_core.proofs.Wholes.{all-parts}
-use Rattle.back_items.proofs.Values.{contents-stream}
+use Rattle.back_core.proofs.Streams.{contents-stream}
 use Rattle.back_meta.proofs.Found.{Good, bare_found, found_tokens}
 use Rattle.back_meta.specs.Shut.{AllShut, Shut}
 use Rattle.back_meta.proofs.Pairs.{item-reads}

@@ -1,15 +1,13 @@
 -- What a parser answers of the printing of a tree.
 use Rattle.std.proofs.Common.{◌≡◌, ℕ, List, Option, Some, Result, Ok, Err, ap, sym, ◌∙◌}
-use Rattle.token_core.specs.declared.tree.TokenStream.{TokenStream, the_lemmas}
+use Rattle.token_core.specs.declared.tree.TokenStream.{TokenStream}
 use Rattle.print_core.specs.Marks.{Trees, contents}
+use Rattle.back_core.proofs.Streams.{stream-contents}
 use Rattle.back_core.specs.Printed.{ReadBack, stream}
 use Rattle.syn_core.specs.Parses.{Parses}
 use Rattle.syn_core.specs.declared.fail.ParseFail.{ParseFail}
 use Rattle.syn_core.specs.declared.fail.ParseFail.TheVariants.{Syn, NoMemory}
 use Rattle.reread_core.specs.Reread.{IsSame, ComesBack}
-
-stream-contents : (tokens : TokenStream) → stream (contents tokens) ≡ tokens
-stream-contents tokens = search the_lemmas
 
 module _ {A B : Type 0} {bare : A → B} {print : A → Trees} {tree_of : TokenStream → Option A} (law : ReadBack bare print tree_of) where
   same : (text : List ℕ) (printed : TokenStream) (tree again : A) (result : Result A ParseFail) → tree_of printed ≡ Some again → bare again ≡ bare tree → Parses text printed (tree_of printed) result → IsSame bare tree result
