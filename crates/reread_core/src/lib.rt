@@ -2,6 +2,8 @@
 #![tactic(auto)]
 
 mod reread;
+#[cfg(test)]
+mod tests;
 
 pub use reread::{
     reread_derive_input, reread_expr, reread_path, reread_type, reread_type_param,
