@@ -2,9 +2,9 @@
 # Measures the parsers on long texts: for 1, 4 and 16 MB of each workload the processor seconds that a MB takes, to
 # lex the text and to parse its tokens (a run that parses less a run that lexes), the peak memory at 16 MB, and what
 # the parser answers there. Words choose the workloads.
-# Run it at the top of the repository, after the program is built: (cd crates/parse_bench && rt run)
+# Run it at the top of the repository, after the program is built: (cd crates/bench && rt run)
 set -e
-program="$(dirname "$0")/../crates/parse_bench/out/parse_bench"
+program="$(dirname "$0")/../crates/bench/out/bench"
 kept="$(mktemp -d)"
 trap 'rm -rf "$kept"' EXIT
 

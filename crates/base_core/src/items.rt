@@ -11,7 +11,7 @@ use std::hash::{Hash, Hasher};
 use std::marker::Model;
 
 /// A `Vec` that contracts see as the list of its items.
-#[derive(Debug, Drop)]
+#[derive(Debug)]
 pub struct Items<T> {
     vec: Vec<T>,
 }
@@ -114,10 +114,14 @@ impl<T: Drop> Items<T> {
         Ok(items)
     }
 
+    /// Adds `item` at the end. The first item takes room for one: most lists of a tree stay that short.
     pub fn push(&mut self, item: T) -> Mem<()>
         ensures ok { OnOk result (self.new ≡ self.old ++ item ∷ []) }
         ensures err { OnErr result (self.new ≡ self.old) }
     {
+        if self.vec.is_empty() {
+            self.vec.reserve_exact(1)?;
+        }
         self.vec.push(item)?;
         Ok(())
     }
@@ -229,5 +233,11 @@ impl<T: Hash> Hash for Items<T> {
 
     fn hash<H: Hasher>(&self, state: &mut H) {
         self.as_slice().hash(state);
+    }
+}
+
+impl<T: Drop> Drop for Items<T> {
+    fn drop(self) {
+        let Self { vec: _vec } = self;
     }
 }

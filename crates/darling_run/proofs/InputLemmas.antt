@@ -2,8 +2,8 @@
 use Rattle.std.proofs.Common.{◌≡◌, ◌+◌, ◌⊎◌, ℕ, suc, List, [], ◌∷◌, Option, Some, None, Result, Ok, Err, IfSome, refl, sym, ap, ◌∙◌, subst, inl, inr, arith}
 use Rattle.std.specs.Option.{option_to_list}
 use Rattle.node_core.specs.declared.derive.DeriveInput.{DeriveInput}
-use Rattle.parts_core.specs.Parts.{IsDivision, divider_count}
-use Rattle.parts_core.proofs.Division.{IsDivision-unique, length-IsDivision}
+use Rattle.run_parts.specs.Parts.{IsDivision, divider_count}
+use Rattle.run_parts.proofs.Division.{IsDivision-unique, length-IsDivision}
 use Rattle.darling_run.specs.declared.input.Input.{Input}
 use Rattle.darling_run.specs.declared.part.Part.{Part}
 use Rattle.darling_run.specs.declared.status.Status.{Status}

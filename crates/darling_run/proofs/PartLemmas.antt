@@ -1,14 +1,14 @@
 -- A text is one part.
 use Rattle.std.proofs.Common.{◌≡◌, ◌<◌, ◌≤◌, ◌⊎◌, ℕ, List, length, drop, Option, Some, None, Result, Ok, Err, refl, sym, ap, ◌∙◌, subst, inl, inr, arith}
 use Rattle.std.specs.Str.{chars}
-use Rattle.token_core.specs.declared.tree.TokenStream.{TokenStream, out-TokenStream}
+use Rattle.tok_types.specs.declared.tree.TokenStream.{TokenStream, out-TokenStream}
 use Rattle.tok_core.specs.Endings.{Answers, EndsAt, deep, wrong}
 use Rattle.tok_core.proofs.OneReading.{EndsAt-same, Spells-same}
 use Rattle.tok_core.proofs.Outcomes.{only}
 use Rattle.tok_core.specs.declared.error.LexError.{LexError}
 use Rattle.tok_core.specs.declared.error.LexError.TheVariants as lex
 use Rattle.node_core.specs.declared.derive.DeriveInput.{DeriveInput}
-use Rattle.item_core.specs.Trees.{IsItemFront, items_of}
+use Rattle.syn_items.specs.Trees.{IsItemFront, items_of}
 use Rattle.darling_run.specs.declared.part.Part.{Part}
 use Rattle.darling_run.specs.declared.part.Part.TheVariants as part
 use Rattle.darling_run.specs.Parts.{HasTokens, HasTokensOf, IsOf, IsPart, StopsAt, start_at}

@@ -2,7 +2,7 @@
 use Rattle.std.proofs.Common.{◌≡◌, Bool, true, false, cond, List, [], ◌∷◌, ◌++◌, Option, Some, None, refl}
 use Rattle.std.specs.Prelude.{filter, is_some}
 use Rattle.std.specs.Option.{option_or}
-use Rattle.token_core.specs.declared.span.Span.{Span}
+use Rattle.tok_types.specs.declared.span.Span.{Span}
 use Rattle.node_core.specs.declared.attr.Attribute.{Attribute}
 use Rattle.darling_run.specs.Unread.{first_place}
 

@@ -3,12 +3,12 @@ use Rattle.std.specs.Prelude.{◌≡◌, ℕ, ◌⊎◌, if◌then◌else◌, Li
 use Rattle.std.specs.Option.{option_to_list}
 use Rattle.std.specs.Str.{IsUtf8}
 use Rattle.std.specs.Str.Lossy.{utf8_valid_len}
-use Rattle.token_core.specs.declared.span.Span.{Span}
-use Rattle.token_core.specs.declared.span.Span.TheVariants.{At}
-use Rattle.token_core.specs.declared.tree.TokenStream.{TokenStream}
+use Rattle.tok_types.specs.declared.span.Span.{Span}
+use Rattle.tok_types.specs.declared.span.Span.TheVariants.{At}
+use Rattle.tok_types.specs.declared.tree.TokenStream.{TokenStream}
 use Rattle.node_core.specs.declared.derive.DeriveInput.{DeriveInput}
-use Rattle.form_core.specs.FirstForm.{is_first_form}
-use Rattle.parts_core.specs.Parts.{IsDivision, divider_count}
+use Rattle.run_form.specs.FirstForm.{is_first_form}
+use Rattle.run_parts.specs.Parts.{IsDivision, divider_count}
 use Rattle.meaning_core.specs.Receiver.{attribute_names}
 use Rattle.darling_run.specs.declared.input.Input.{Input}
 use Rattle.darling_run.specs.declared.part.Part.{Part}

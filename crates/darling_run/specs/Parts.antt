@@ -1,13 +1,13 @@
 -- What the parts of an input are: items, or where they are refused.
 use Rattle.std.specs.Prelude.{◌≡◌, ℕ, ◌⊎◌, List, drop, chars, Some, None}
-use Rattle.token_core.specs.declared.span.Span.{Span}
-use Rattle.token_core.specs.declared.span.Span.TheVariants.{CallSite, At}
-use Rattle.token_core.specs.declared.tree.TokenStream.{TokenStream, out-TokenStream}
-use Rattle.token_core.specs.declared.tree.TokenTree.{TokenTree}
+use Rattle.tok_types.specs.declared.span.Span.{Span}
+use Rattle.tok_types.specs.declared.span.Span.TheVariants.{CallSite, At}
+use Rattle.tok_types.specs.declared.tree.TokenStream.{TokenStream, out-TokenStream}
+use Rattle.tok_types.specs.declared.tree.TokenTree.{TokenTree}
 use Rattle.tok_core.specs.Spells.{Spells}
 use Rattle.tok_core.specs.Endings.{EndsAt, IsWithin, deep, wrong}
-use Rattle.grammar_core.specs.Input.{first_span}
-use Rattle.item_core.specs.Trees.{IsItemFront, items_of}
+use Rattle.syn_grammar.specs.Input.{first_span}
+use Rattle.syn_items.specs.Trees.{IsItemFront, items_of}
 use Rattle.darling_run.specs.declared.part.Part.{Part}
 use Rattle.darling_run.specs.declared.part.Part.TheVariants as part
 

@@ -1,11 +1,11 @@
 -- The lines of a report.
 use Rattle.std.specs.Prelude.{ℕ, List, [], ◌∷◌, ◌++◌, length, flat_map, codes, decimal}
 use Rattle.std.specs.List.{zip}
-use Rattle.token_core.specs.Ident.{ident_text}
+use Rattle.tok_types.specs.Ident.{ident_text}
 use Rattle.node_core.specs.declared.derive.DeriveInput.{DeriveInput}
-use Rattle.fault_core.specs.declared.fault.Fault.{Fault}
-use Rattle.fault_core.specs.Outcome.{Outcome, Value, Faults}
-use Rattle.fault_core.specs.FaultText.{fault_line}
+use Rattle.error_fault.specs.declared.fault.Fault.{Fault}
+use Rattle.error_fault.specs.Outcome.{Outcome, Value, Faults}
+use Rattle.error_fault.specs.FaultText.{fault_line}
 use Rattle.meaning_core.specs.declared.value.Value.{Value as Data}
 use Rattle.darling_run.specs.ValueText.{value_text}
 

@@ -1,6 +1,6 @@
 -- What a status tells: the program's number, and a line.
 use Rattle.std.specs.Prelude.{ℕ, List, [], ◌++◌, codes, decimal, Some}
-use Rattle.fault_core.specs.FaultText.{span_text}
+use Rattle.error_fault.specs.FaultText.{span_text}
 use Rattle.darling_run.specs.declared.status.Status.{Status}
 use Rattle.darling_run.specs.declared.status.Status.TheVariants.{Done, Usage, ReadFault, TooLong, NotText, NoParts, TooDeep, Syntax, Unbuilt, WriteFault, NoMemory}
 

@@ -1,14 +1,14 @@
 -- Attributes that are not in a form that is read so far.
 use Rattle.std.specs.Prelude.{Bool, true, false, ◌&&◌, not, List, [], ◌∷◌, filter, flat_map, Option, Some, None, is_some}
 use Rattle.base_core.specs.declared.text.Text.{Text}
-use Rattle.token_core.specs.declared.span.Span.{Span}
-use Rattle.token_core.specs.declared.tree.Delimiter.TheVariants.{Parenthesis}
+use Rattle.tok_types.specs.declared.span.Span.{Span}
+use Rattle.tok_types.specs.declared.tree.Delimiter.TheVariants.{Parenthesis}
 use Rattle.node_core.specs.declared.attr.Attribute.{Attribute}
 use Rattle.node_core.specs.declared.attr.Meta.{Meta}
 use Rattle.node_core.specs.declared.attr.Meta.TheVariants as meta
 use Rattle.node_core.specs.declared.derive.DeriveInput.{DeriveInput}
-use Rattle.first_core.specs.Nested.{nested_of}
-use Rattle.first_core.specs.Tree.{same_delimiter}
+use Rattle.run_first.specs.Nested.{nested_of}
+use Rattle.run_first.specs.Tree.{same_delimiter}
 use Rattle.meaning_core.specs.Node.{meta_name}
 use Rattle.meaning_core.specs.Entries.{has_name}
 

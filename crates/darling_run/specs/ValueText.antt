@@ -2,7 +2,7 @@
 use Rattle.std.specs.Prelude.{ℕ, ◌==◌, if◌then◌else◌, List, [], ◌++◌, map, flat_map, codes, chars}
 use Rattle.std.specs.List.{join_by}
 use Rattle.base_core.specs.declared.text.Text.{Text}
-use Rattle.fault_core.specs.FaultText.{escaped_char}
+use Rattle.error_fault.specs.FaultText.{escaped_char}
 use Rattle.meaning_core.specs.declared.value.Style.{Style}
 use Rattle.meaning_core.specs.declared.value.Style.TheVariants as style
 use Rattle.meaning_core.specs.declared.value.Value.{Value, fold-Value}

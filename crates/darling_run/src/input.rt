@@ -8,18 +8,38 @@ ghost use Rattle.darling_run.specs.Input.{Decides, IsInput, Refuses};
 use crate::part::{Part, read_part};
 use crate::status::Status;
 use crate::unread::first_unread;
-use form_core::is_first_form;
 use meaning_core::Receiver;
 use node_core::DeriveInput;
-use parts_core::{as_text, divide};
+use run_form::is_first_form;
+use run_parts::{as_text, divide};
 use std::alloc::Global;
-use token_core::{Items, Mem, Span, TokenStream};
+use tok_types::{Items, Mem, Span, TokenStream};
 
 /// The trees of an input's parts.
-#[derive(Drop)]
 pub(crate) struct Input {
     pub(crate) declaration: DeriveInput,
     pub(crate) subjects: Items<DeriveInput>,
+}
+
+impl Input {
+    pub(crate) fn into_parts(self) -> (DeriveInput, Items<DeriveInput>)
+        ensures { result ≡ (self.declaration, self.subjects) }
+    {
+        let Input {
+            declaration,
+            subjects,
+        } = self;
+        (declaration, subjects)
+    }
+}
+
+impl Drop for Input {
+    fn drop(self) {
+        let Self {
+            declaration: _declaration,
+            subjects: _subjects,
+        } = self;
+    }
 }
 
 /// Reads the two parts of an input.

@@ -10,13 +10,11 @@ mod input;
 mod part;
 mod report;
 mod status;
-#[cfg(test)]
-mod tests;
 mod tool;
 mod unread;
 mod values;
 
-pub use fault_core::{Fault, FaultKind, fault_line};
+pub use error_fault::{Fault, FaultKind, fault_line};
 pub use meaning_core::{Outcome, Style, Value};
 pub use report::{Report, report_text};
 pub use status::{Status, refusal_text};

@@ -3,12 +3,12 @@
 ghost use Rattle.std.specs.Prelude.{◌≡◌, ◌≤◌, length, IfOk};
 ghost use Rattle.darling_run.specs.Parts as spec;
 
-use grammar_core::Cursor;
 use node_core::DeriveInput;
 use std::alloc::{AllocError, Global};
 use syn_core::{ParseFail, item_front, parse_items};
+use syn_grammar::Cursor;
 use tok_core::{LexError, lex};
-use token_core::{Items, Mem, Span, TokenStream, TokenTree};
+use tok_types::{Items, Mem, Span, TokenStream, TokenTree};
 
 /// What a part of an input is. A place is a byte of the part.
 #[derive(Drop)]

@@ -1,16 +1,17 @@
+//! The lines of a report.
+
 ghost use Rattle.std.specs.Prelude.{◌≡◌, ◌++◌, flat_map, IfOk, OnOk};
-ghost use Rattle.token_core.specs.Ident.{ident_text};
+ghost use Rattle.tok_types.specs.Ident.{ident_text};
 ghost use Rattle.darling_run.specs.Report.{fault_row, ok_line, err_line, outcome_text, report_text};
 
 use crate::values::push_value;
-use fault_core::{Fault, push_fault_line};
+use error_fault::{Fault, push_fault_line};
 use meaning_core::{Outcome, Value};
 use node_core::DeriveInput;
 use std::alloc::Global;
-use token_core::{Ident, Items, Mem, Text};
+use tok_types::{Ident, Items, Mem, Text};
 
 /// What was read, and what it means.
-#[derive(Drop)]
 pub struct Report {
     /// The trees of the first part.
     pub declarations: Items<DeriveInput>,
@@ -80,4 +81,14 @@ fn push_fault_row(alloc: Global, out: &mut Text, fault: &Fault) -> Mem<()>
     out.push_str("  ")?;
     push_fault_line(alloc, out, fault)?;
     out.push_str("\n")
+}
+
+impl Drop for Report {
+    fn drop(self) {
+        let Self {
+            declarations: _declarations,
+            subjects: _subjects,
+            outcomes: _outcomes,
+        } = self;
+    }
 }

@@ -1,9 +1,11 @@
-ghost use Rattle.std.specs.Prelude.{◌≡◌, ◌++◌, codes, decimal, IfOk, OnOk};
-ghost use Rattle.fault_core.specs.FaultText.{span_text};
+//! How a run ended, and the line that tells of it.
 
-use fault_core::push_span;
+ghost use Rattle.std.specs.Prelude.{◌≡◌, ◌++◌, codes, decimal, IfOk, OnOk};
+ghost use Rattle.error_fault.specs.FaultText.{span_text};
+
+use error_fault::push_span;
 use std::alloc::{AllocError, Global};
-use token_core::{Mem, Span, Text};
+use tok_types::{Mem, Span, Text};
 
 /// How a run ended. Where several refusals would fit, the first of this list that does is named.
 #[derive(Debug, Drop)]

@@ -1,21 +1,22 @@
+//! The tool: from a source and its words to a sink.
+
 ghost use Rattle.std.specs.Prelude.{◌≡◌, ◌≤◌, ◌↔◌, length, map, string_bytes, ◌≢◌, IsTrue, IfOk, IfErr, OnOk};
 ghost use Rattle.node_core.specs.declared.derive.DeriveInput.{DeriveInput};
 ghost use Rattle.meaning_core.specs.Receiver.{item_meaning};
 
-use crate::input::{Input, read_input};
+use crate::input::read_input;
 use crate::report::{Report, report_text};
 use crate::status::{Status, refusal_text};
 use edge_core::{ReadAll, Sink, Source, read_all, write_all};
 use meaning_core::{Outcome, Receiver};
 use node_core::DeriveInput;
 use std::alloc::{AllocError, Global};
-use token_core::{Items, Mem, Text};
+use tok_types::{Items, Mem, Text};
 
 /// How many bytes an input has at most.
 const LIMIT: u64 = 16_777_216;
 
 /// How a run ended, and its report where one was made.
-#[derive(Drop)]
 pub struct Ended {
     pub status: Status,
     /// Some exactly where the status is [`Status::Done`], or [`Status::WriteFault`] after a
@@ -101,10 +102,7 @@ fn run(alloc: Global, bytes: &[u8]) -> Result<Report, Status>
     ensures ok { IfOk result (IsReport bytes.now) }
     ensures err { IfErr result (Refuses bytes.now) }
 {
-    let Input {
-        declaration,
-        subjects,
-    } = read_input(alloc, bytes)?;
+    let (declaration, subjects) = read_input(alloc, bytes)?.into_parts();
     let outcomes = outcomes(alloc, &declaration, subjects.as_slice())?;
     let declarations = Items::of(alloc, declaration)?;
     Ok(Report {
@@ -182,5 +180,14 @@ fn ended_fully(answer: Result<Report, Status>) -> Ended
             status,
             report: None,
         },
+    }
+}
+
+impl Drop for Ended {
+    fn drop(self) {
+        let Self {
+            status: _status,
+            report: _report,
+        } = self;
     }
 }

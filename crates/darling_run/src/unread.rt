@@ -1,14 +1,14 @@
 //! Attributes that are not in a form that is read so far.
 
 ghost use Rattle.std.specs.Prelude.{◌≡◌, IfOk, filter, is_some};
-ghost use Rattle.first_core.specs.Nested.{nested_of};
+ghost use Rattle.run_first.specs.Nested.{nested_of};
 ghost use Rattle.darling_run.specs.Unread as spec;
 
-use first_core::parse_meta_list;
 use meaning_core::Receiver;
 use node_core::{Attribute, DeriveInput, Meta};
+use run_first::parse_meta_list;
 use std::alloc::Global;
-use token_core::{Delimiter, Mem, Span, TokenStream};
+use tok_types::{Delimiter, Mem, Span, TokenStream};
 
 /// Where the first attribute stands that the receiver reads and that is neither `#[name]` nor
 /// `#[name(item = "text")]`.

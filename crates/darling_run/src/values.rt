@@ -1,10 +1,12 @@
+//! The texts of values.
+
 ghost use Rattle.std.specs.Prelude.{◌≡◌, ◌++◌, codes, map, flat_map, chars, IfOk, OnOk};
 ghost use Rattle.darling_run.specs.ValueText.{quoted_char, quoted, listed, labelled, members_text, shown, value_text};
 
-use fault_core::push_escaped_char;
+use error_fault::push_escaped_char;
 use meaning_core::{Style, Value};
 use std::alloc::Global;
-use token_core::{Mem, Text};
+use tok_types::{Mem, Text};
 
 /// The text of a value, as `Opts {name: "a"}`.
 pub fn value_text(alloc: Global, value: &Value) -> Mem<Text>

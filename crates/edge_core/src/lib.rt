@@ -14,8 +14,6 @@ pub mod output;
 pub mod plain;
 pub mod reading;
 pub mod standard;
-#[cfg(test)]
-mod tests;
 mod unread;
 pub mod writing;
 

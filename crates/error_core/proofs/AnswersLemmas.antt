@@ -1,10 +1,10 @@
 -- What the calls on errors do to outcomes.
 use Rattle.std.proofs.Common.{◌≡◌, List, [], ◌∷◌, ◌++◌, map, flat_map, refl, ap}
 use Rattle.base_core.specs.declared.text.Text.{Text}
-use Rattle.token_core.specs.declared.span.Span.{Span}
-use Rattle.fault_core.specs.declared.fault.Fault.{Fault}
-use Rattle.fault_core.specs.Faults.{siblings}
-use Rattle.fault_core.specs.Outcome.{Outcome, Faults, with_span, under, with_siblings}
+use Rattle.tok_types.specs.declared.span.Span.{Span}
+use Rattle.error_fault.specs.declared.fault.Fault.{Fault}
+use Rattle.error_fault.specs.Faults.{siblings}
+use Rattle.error_fault.specs.Outcome.{Outcome, Faults, with_span, under, with_siblings}
 use Rattle.error_core.specs.Told.{Told, One, Several, part_leaves, leaves, below}
 use Rattle.error_core.specs.Changes.{located, spanned}
 use Rattle.error_core.specs.Answers.{refusal}

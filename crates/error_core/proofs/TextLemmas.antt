@@ -2,9 +2,9 @@
 use Rattle.std.proofs.Common.{◌≡◌, ℕ, ◌≤◌, Result, OnOk, List, [], ◌∷◌, ◌++◌, length, map, flat_map, refl, Option, codes, arith, ap, ◌∙◌, sym, append_assoc, append-nil}
 use Rattle.std.specs.List.{join_by}
 use Rattle.base_core.specs.declared.text.Text.{Text}
-use Rattle.token_core.specs.declared.span.Span.{Span}
-use Rattle.fault_core.specs.FaultText.{path_text}
-use Rattle.fault_core.proofs.TextLemmas.{OnOk-append}
+use Rattle.tok_types.specs.declared.span.Span.{Span}
+use Rattle.error_fault.specs.FaultText.{path_text}
+use Rattle.error_fault.proofs.TextLemmas.{OnOk-append}
 use Rattle.error_core.specs.Told.{Told, error_text, part_of}
 use Rattle.error_core.specs.View.{of_many}
 

@@ -3,10 +3,10 @@ use Rattle.std.proofs.Common.{◌<◌, Result, Ok, Err, IfOk, ◌≡◌, ◌≢�
 use Rattle.std.proofs.lemmas.List.{length-map}
 use Rattle.std.proofs.lemmas.List.Concat.{length-flat_map}
 use Rattle.base_core.specs.declared.text.Text.{Text}
-use Rattle.token_core.specs.declared.span.Span.{Span}
-use Rattle.fault_core.specs.declared.fault.Fault.{Fault}
-use Rattle.fault_core.specs.Fault.{with_sibling_names}
-use Rattle.fault_core.specs.Faults.{at, siblings}
+use Rattle.tok_types.specs.declared.span.Span.{Span}
+use Rattle.error_fault.specs.declared.fault.Fault.{Fault}
+use Rattle.error_fault.specs.Fault.{with_sibling_names}
+use Rattle.error_fault.specs.Faults.{at, siblings}
 use Rattle.error_core.specs.Told.{Told, One, Several, part_of, part_leaves, first_leaf, more_leaves, leaves, below, held}
 use Rattle.error_core.specs.Changes.{located, joined, flat, FlatStays}
 use Rattle.error_core.specs.declared.error.Node.{Node}

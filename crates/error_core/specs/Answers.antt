@@ -1,7 +1,7 @@
 -- What a call answers: a value, the faults of an outcome, or want of memory.
 use Rattle.std.specs.Prelude.{◌≡◌, List, [], ◌∷◌, ◌++◌, Result, Ok, Err, Option, Some, None, IsErr}
 use Rattle.std.specs.declared.alloc.AllocError.{AllocError}
-use Rattle.fault_core.specs.Outcome.{Outcome, Value, Faults}
+use Rattle.error_fault.specs.Outcome.{Outcome, Value, Faults}
 use Rattle.error_core.specs.declared.fail.Fail.{Fail}
 use Rattle.error_core.specs.declared.fail.Fail.TheVariants as fails
 use Rattle.error_core.specs.Told.{Told, first_leaf, more_leaves}

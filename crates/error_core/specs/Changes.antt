@@ -1,10 +1,10 @@
 -- How an error is made, and what each call makes of one.
 use Rattle.std.specs.Prelude.{◌≡◌, List, [], ◌∷◌, map, None}
 use Rattle.base_core.specs.declared.text.Text.{Text}
-use Rattle.token_core.specs.declared.span.Span.{Span}
-use Rattle.fault_core.specs.declared.kind.FaultKind.{FaultKind}
-use Rattle.fault_core.specs.Fault.{plain, or_span, span_or}
-use Rattle.fault_core.specs.Fault as faults
+use Rattle.tok_types.specs.declared.span.Span.{Span}
+use Rattle.error_fault.specs.declared.kind.FaultKind.{FaultKind}
+use Rattle.error_fault.specs.Fault.{plain, or_span, span_or}
+use Rattle.error_fault.specs.Fault as faults
 use Rattle.error_core.specs.Told.{Told, One, Several, part_of, leaves}
 
 -- the one fault of this kind, in no field and at no place

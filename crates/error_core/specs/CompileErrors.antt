@@ -2,12 +2,12 @@
 use Rattle.std.specs.Prelude.{ℕ, Bool, true, false, List, [], ◌∷◌, ◌++◌, flat_map, codes, chars}
 use Rattle.std.specs.Str.{encode_utf8_all}
 use Rattle.base_core.specs.declared.text.Text.{Text}
-use Rattle.token_core.specs.declared.span.Span.{Span}
-use Rattle.token_core.specs.declared.tree.Delimiter.TheVariants.{Brace}
-use Rattle.token_core.specs.declared.tree.Group.{roll-Group}
-use Rattle.token_core.specs.declared.tree.TokenTree.{TokenTree}
-use Rattle.token_core.specs.declared.tree.TokenTree.TheVariants as tree
-use Rattle.token_core.specs.declared.tree.TokenStream.{TokenStream, roll-TokenStream}
+use Rattle.tok_types.specs.declared.span.Span.{Span}
+use Rattle.tok_types.specs.declared.tree.Delimiter.TheVariants.{Brace}
+use Rattle.tok_types.specs.declared.tree.Group.{roll-Group}
+use Rattle.tok_types.specs.declared.tree.TokenTree.{TokenTree}
+use Rattle.tok_types.specs.declared.tree.TokenTree.TheVariants as tree
+use Rattle.tok_types.specs.declared.tree.TokenStream.{TokenStream, roll-TokenStream}
 use Rattle.tok_core.specs.Quoted.{quoted}
 
 -- a mark of one character

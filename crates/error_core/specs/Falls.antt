@@ -4,7 +4,7 @@ use Rattle.std.proofs.Common.{arith, length-append}
 use Rattle.std.proofs.lemmas.List.{length-map}
 use denote.Param.Weighed.{most}
 use Rattle.base_core.specs.declared.text.Text.{Text}
-use Rattle.token_core.specs.declared.span.Span.{Span}
+use Rattle.tok_types.specs.declared.span.Span.{Span}
 use Rattle.error_core.specs.declared.error.Node.{Node}
 use Rattle.error_core.specs.declared.error.Node.TheVariants.{Leaf, Many}
 use Rattle.error_core.specs.declared.error.Error.TheDeep.{deep-Node}

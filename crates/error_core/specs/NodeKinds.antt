@@ -1,11 +1,11 @@
 -- The names that faults give to the kinds of literals and expressions.
 use Rattle.std.specs.Prelude.{codes}
 use Rattle.base_core.specs.declared.text.Text.{Text}
-use Rattle.expr_core.specs.Layers.{ExprLayer}
-use Rattle.expr_core.specs.declared.expr.Expr.{Expr, out-Expr}
-use Rattle.expr_core.specs.declared.expr.Expr.TheOpen.{Expr-F}
-use Rattle.expr_core.specs.declared.lit.Lit.{Lit}
-use Rattle.expr_core.specs.declared.lit.Lit.TheVariants as lit
+use Rattle.node_expr.specs.Layers.{ExprLayer}
+use Rattle.node_expr.specs.declared.expr.Expr.{Expr, out-Expr}
+use Rattle.node_expr.specs.declared.expr.Expr.TheOpen.{Expr-F}
+use Rattle.node_expr.specs.declared.lit.Lit.{Lit}
+use Rattle.node_expr.specs.declared.lit.Lit.TheVariants as lit
 
 abbrev pub lit_kind : Lit → Text
 lit_kind (lit.Str it) = codes "string"

@@ -1,10 +1,10 @@
 -- A fault as an error of syntax tells it.
 use Rattle.std.specs.Prelude.{Option, Some, None}
 use Rattle.base_core.specs.declared.text.Text.{Text}
-use Rattle.token_core.specs.declared.span.Span.{Span}
-use Rattle.token_core.specs.declared.span.Span.TheVariants.{CallSite}
-use Rattle.fault_core.specs.declared.fault.Fault.{Fault}
-use Rattle.fault_core.specs.FaultText.{kind_text, fault_text}
+use Rattle.tok_types.specs.declared.span.Span.{Span}
+use Rattle.tok_types.specs.declared.span.Span.TheVariants.{CallSite}
+use Rattle.error_fault.specs.declared.fault.Fault.{Fault}
+use Rattle.error_fault.specs.FaultText.{kind_text, fault_text}
 
 -- the place of the fault, which tells the path better, or else no place and the whole text
 abbrev pub told_at : Option Span → Fault → Span × Text

@@ -3,9 +3,9 @@
 use Rattle.std.specs.Prelude.{List, [], ◌∷◌, ◌++◌, map, flat_map, codes, Option}
 use Rattle.std.specs.List.{join_by}
 use Rattle.base_core.specs.declared.text.Text.{Text}
-use Rattle.token_core.specs.declared.span.Span.{Span}
-use Rattle.fault_core.specs.declared.fault.Fault.{Fault}
-use Rattle.fault_core.specs.FaultText.{fault_text, path_text}
+use Rattle.tok_types.specs.declared.span.Span.{Span}
+use Rattle.error_fault.specs.declared.fault.Fault.{Fault}
+use Rattle.error_fault.specs.FaultText.{fault_text, path_text}
 
 -- a child of an error: the span of its root, its text, and its faults, of which there is one at least
 pub record Part : Type 0 where

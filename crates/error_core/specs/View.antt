@@ -1,8 +1,8 @@
 -- What an error's fields show, and what they keep.
 use Rattle.std.specs.Prelude.{◌≡◌, ◌≤◌, List, [], ◌∷◌, length, map, Option}
 use Rattle.base_core.specs.declared.text.Text.{Text}
-use Rattle.token_core.specs.declared.span.Span.{Span}
-use Rattle.fault_core.specs.declared.kind.FaultKind.TheVariants.{Custom}
+use Rattle.tok_types.specs.declared.span.Span.{Span}
+use Rattle.error_fault.specs.declared.kind.FaultKind.TheVariants.{Custom}
 use Rattle.error_core.specs.declared.error.Node.{Node}
 use Rattle.error_core.specs.declared.error.Node.TheVariants.{Leaf, Many}
 use Rattle.error_core.specs.declared.error.Error.TheInside.{Inside}

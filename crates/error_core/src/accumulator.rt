@@ -1,11 +1,13 @@
+//! Errors that are collected while an input is read.
+
 ghost use Rattle.std.specs.Prelude.{◌≡◌, ◌↔◌, ◌++◌, ◌∷◌, [], OnOk, OnErr, IsOk};
-ghost use Rattle.fault_core.specs.Outcome.{Value, settle};
+ghost use Rattle.error_fault.specs.Outcome.{Value, settle};
 ghost use Rattle.error_core.specs.Told.{held};
 ghost use Rattle.error_core.specs.Answers.{Answers, Handles};
 
 use crate::error::Error;
 use crate::fail::{Fail, Result};
-use fault_core::Mem;
+use error_fault::Mem;
 use std::alloc::{AllocError, Global};
 use std::marker::Model;
 

@@ -1,6 +1,8 @@
+//! Clones of errors.
+
 use crate::error::{Error, Node};
 use crate::siblings::push_child;
-use fault_core::{Mem, TryClone};
+use error_fault::{Mem, TryClone};
 use std::alloc::Global;
 
 impl TryClone for Error {

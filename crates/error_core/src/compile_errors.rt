@@ -6,11 +6,11 @@ ghost use Rattle.error_core.specs.Syn.{syn_fault};
 ghost use Rattle.error_core.specs.Told.{leaves};
 
 use crate::error::Error;
-use fault_core::{Items, Mem, Span, Text};
+use error_fault::{Items, Mem, Span, Text};
 use node_core::SynError;
 use std::alloc::Global;
 use tok_core::quoted;
-use token_core::{Delimiter, Group, Ident, Literal, Punct, TokenStream, TokenTree};
+use tok_types::{Delimiter, Group, Ident, Literal, Punct, TokenStream, TokenTree};
 
 /// For each fault, in order, `::core::compile_error!{"text"}` with each token at its place. Want of
 /// memory drops the faults.

@@ -1,9 +1,11 @@
+//! The calls that make an error of one fault.
+
 ghost use Rattle.std.specs.Prelude.{◌≡◌, [], IfOk, Some, None};
-ghost use Rattle.fault_core.specs.Kind.{set_of};
+ghost use Rattle.error_fault.specs.Kind.{set_of};
 ghost use Rattle.error_core.specs.Changes.{leaf};
 
 use crate::error::Error;
-use fault_core::{Fault, FaultKind, Mem, Shared, Text, name_set};
+use error_fault::{Fault, FaultKind, Mem, Shared, Text, name_set};
 use std::alloc::Global;
 use std::collections::BTreeSet;
 

@@ -1,10 +1,12 @@
+//! An error: a tree of faults that is never empty.
+
 ghost use Rattle.std.specs.Prelude.{◌≡◌, ◌+◌, ◌<◌, ◌≤◌, [], ◌∷◌, length, flat_map, IfOk, IsTrue, ◌↔◌, IsSome, sum_by};
 ghost use Rattle.std.specs.Option.{unwrap_or};
-ghost use Rattle.fault_core.specs.Faults.{span_one, at};
+ghost use Rattle.error_fault.specs.Faults.{span_one, at};
 ghost use Rattle.error_core.specs.Told.{One, leaves, span_of, held};
 ghost use Rattle.error_core.specs.Changes.{spanned, located, joined};
 
-use fault_core::{Fault, FaultKind, Items, Mem, Span, Text};
+use error_fault::{Fault, FaultKind, Items, Mem, Span, Text};
 use std::alloc::{AllocError, Global};
 use std::marker::Model;
 
@@ -52,10 +54,10 @@ impl Error {
     pub(crate) fn from_fault(alloc: Global, fault: Fault) -> Error
         ensures { result ≡ One fault }
     {
-        let Fault { kind, path, span } = fault;
+        let (kind, locations, span) = fault.into_parts();
         Error {
             node: Node::Leaf(kind),
-            locations: path,
+            locations,
             span,
             count: 1,
             alloc,

@@ -1,3 +1,5 @@
+//! Why a call gives no value: faults, or want of memory.
+
 use crate::error::Error;
 use std::alloc::{AllocError, AllocFailed};
 

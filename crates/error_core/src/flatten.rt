@@ -1,9 +1,11 @@
+//! The faults of an error from left to right.
+
 ghost use Rattle.std.specs.Prelude.{◌≡◌, ◌++◌, ◌∷◌, [], map, length, IfOk, OnOk};
 ghost use Rattle.error_core.specs.Changes.{flat};
 ghost use Rattle.error_core.specs.Told.{leaves, below};
 
 use crate::error::{Error, Node};
-use fault_core::{Fault, FaultKind, Items, Mem, Span, Text};
+use error_fault::{Fault, FaultKind, Items, Mem, Span, Text};
 use std::alloc::Global;
 
 impl Error {

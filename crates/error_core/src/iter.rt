@@ -1,9 +1,11 @@
+//! The children of an error, by value.
+
 ghost use Rattle.std.specs.Prelude.{◌≡◌, map, length, IfOk};
 ghost use Rattle.std.specs.Iterator.{YieldsFirst, item_count};
 ghost use Rattle.error_core.specs.Told.{part_of, parts};
 
 use crate::error::{Error, Node};
-use fault_core::{Fault, Mem};
+use error_fault::{Fault, Mem};
 use std::alloc::Global;
 use std::iter::FusedIterator;
 use std::marker::Model;

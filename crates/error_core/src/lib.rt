@@ -17,14 +17,12 @@ mod laws;
 mod nodes;
 mod siblings;
 mod syn;
-#[cfg(test)]
-mod tests;
 mod text;
 
 pub use accumulator::Accumulator;
 pub use compile_errors::into_compile_error;
 pub use error::Error;
+pub use error_fault::{Fault, FaultKind, Items, Mem, Span, Text, TryClone};
 pub use fail::{Fail, Result};
-pub use fault_core::{Fault, FaultKind, Items, Mem, Span, Text, TryClone};
 pub use iter::IntoIter;
 pub use laws::flat_stays_flat;

@@ -1,17 +1,19 @@
+//! Errors that speak of nodes.
+
 ghost use Rattle.std.specs.Prelude.{◌≡◌, [], IfOk};
-ghost use Rattle.fault_core.specs.Fault.{at_span};
-ghost use Rattle.fault_core.specs.Faults.{span_one, at};
-ghost use Rattle.fault_core.specs.Kind.{set_of};
-ghost use Rattle.expr_core.specs.PathText.{path_text};
-ghost use Rattle.span_core.specs.Spanned.{expr_span, lit_span};
+ghost use Rattle.error_fault.specs.Fault.{at_span};
+ghost use Rattle.error_fault.specs.Faults.{span_one, at};
+ghost use Rattle.error_fault.specs.Kind.{set_of};
+ghost use Rattle.node_make.specs.PathText.{path_text};
+ghost use Rattle.node_span.specs.Spanned.{expr_span, lit_span};
 ghost use Rattle.error_core.specs.Changes.{leaf, located, spanned};
 ghost use Rattle.error_core.specs.NodeKinds.{expr_kind, lit_kind};
 ghost use Rattle.error_core.specs.Told.{One, leaves};
 
 use crate::error::Error;
-use fault_core::{FaultKind, Mem, Text};
+use error_fault::{FaultKind, Mem, Text};
 use node_core::{Expr, Lit, LitStr, Path, path_to_string};
-use span_core::Spanned;
+use node_span::Spanned;
 use std::alloc::Global;
 
 /// Errors that speak of nodes. A path stands in them by its text, without a leading `::` and without

@@ -1,10 +1,12 @@
+//! Alternatives for unknown fields.
+
 ghost use Rattle.std.specs.Prelude.{◌≡◌, ◌++◌, ◌∷◌, [], length, IfOk, OnOk};
-ghost use Rattle.fault_core.specs.Faults.{siblings};
-ghost use Rattle.fault_core.specs.Kind.{with_alternatives};
+ghost use Rattle.error_fault.specs.Faults.{siblings};
+ghost use Rattle.error_fault.specs.Kind.{with_alternatives};
 ghost use Rattle.error_core.specs.Told.{leaves, span_of};
 
 use crate::error::{Error, Node};
-use fault_core::{FaultKind, Mem, Text};
+use error_fault::{FaultKind, Mem, Text};
 use std::alloc::Global;
 
 impl Error {

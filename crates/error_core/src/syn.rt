@@ -1,22 +1,23 @@
+//! Errors as errors of syntax, and back.
+
 ghost use Rattle.std.specs.Prelude.{◌≡◌, map, IfOk};
-ghost use Rattle.fault_core.specs.Fault.{at_span};
+ghost use Rattle.error_fault.specs.Fault.{at_span};
 ghost use Rattle.node_core.specs.Error.{faults_of};
 ghost use Rattle.error_core.specs.Syn.{syn_fault};
 ghost use Rattle.error_core.specs.Told.{One, leaves};
 
 use crate::error::Error;
-use fault_core::{Fault, FaultKind, Items, Mem, Span, Text, fault_text, kind_text};
+use error_fault::{Fault, FaultKind, Items, Mem, Span, Text, fault_text, kind_text};
 use node_core::SynError;
 use std::alloc::Global;
 
 impl Error {
     /// The first fault of the error of syntax: its text is the message, and it stands at its place.
-    pub fn from_syn(alloc: Global, e: SynError) -> Mem<Error>
+    pub fn from_syn(alloc: Global, mut e: SynError) -> Mem<Error>
         ensures { IfOk result (λ error. error ≡ One (at_span (FaultKind.Custom e.first.1) e.first.0)) }
     {
-        let SynError { first, more: _ } = e;
-        let (span, message) = first;
-        let fault = Fault::at_span(alloc, FaultKind::Custom(message), span);
+        let message = std::mem::replace(&mut e.first.1, Text::new(alloc));
+        let fault = Fault::at_span(alloc, FaultKind::Custom(message), e.first.0);
         Ok(Error::from_fault(alloc, fault))
     }
 

@@ -1,8 +1,10 @@
+//! The text of an error.
+
 ghost use Rattle.std.specs.Prelude.{◌≡◌, ◌++◌, IfOk, OnOk};
 ghost use Rattle.error_core.specs.Told.{error_text};
 
 use crate::error::{Error, Node};
-use fault_core::{Mem, Text, kind_text, path_text};
+use error_fault::{Mem, Text, kind_text, path_text};
 use std::alloc::Global;
 use std::fmt::{self, Display};
 

@@ -5,11 +5,11 @@ use Rattle.std.specs.List.{position_from}
 use Rattle.std.proofs.lemmas.Iterator.Adapters.{position_from-zero}
 use Rattle.base_core.specs.declared.text.Text.{Text}
 use Rattle.node_core.specs.declared.attr.Meta.{Meta}
-use Rattle.first_core.specs.declared.nested.NestedMeta.TheVariants as nested
-use Rattle.fault_core.specs.declared.fault.Fault.{Fault}
-use Rattle.fault_core.specs.declared.kind.FaultKind.TheVariants.{UnknownField}
-use Rattle.fault_core.specs.Kind.{set_of}
-use Rattle.fault_core.specs.Fault.{at_span}
+use Rattle.run_first.specs.declared.nested.NestedMeta.TheVariants as nested
+use Rattle.error_fault.specs.declared.fault.Fault.{Fault}
+use Rattle.error_fault.specs.declared.kind.FaultKind.TheVariants.{UnknownField}
+use Rattle.error_fault.specs.Kind.{set_of}
+use Rattle.error_fault.specs.Fault.{at_span}
 use Rattle.meaning_core.specs.declared.receiver.Receiver.{Receiver}
 use Rattle.meaning_core.specs.declared.walk.Slot.{Slot as Held}
 use Rattle.meaning_core.specs.Node.{meta_name, meta_span}

@@ -3,14 +3,14 @@ use Rattle.std.proofs.Common.{◌≡◌, ℕ, ◌+◌, ◌<◌, ◌==◌, zero, 
 use mathlib.Core.Path.{fun_ext}
 use Rattle.std.proofs.lemmas.Bool.Decides.{eqb_tells}
 use Rattle.base_core.specs.declared.text.Text.{Text}
-use Rattle.first_core.specs.declared.nested.NestedMeta.{NestedMeta}
-use Rattle.first_core.specs.declared.nested.NestedMeta.TheVariants as nested
-use Rattle.fault_core.specs.declared.fault.Fault.{Fault}
-use Rattle.fault_core.specs.declared.kind.FaultKind.TheVariants.{UnknownField}
-use Rattle.fault_core.specs.Kind.{set_of}
-use Rattle.fault_core.specs.Fault.{at_span}
-use Rattle.fault_core.specs.Faults.{at}
-use Rattle.fault_core.specs.Outcome.{Outcome, Value, Faults, faults_of, value_of}
+use Rattle.run_first.specs.declared.nested.NestedMeta.{NestedMeta}
+use Rattle.run_first.specs.declared.nested.NestedMeta.TheVariants as nested
+use Rattle.error_fault.specs.declared.fault.Fault.{Fault}
+use Rattle.error_fault.specs.declared.kind.FaultKind.TheVariants.{UnknownField}
+use Rattle.error_fault.specs.Kind.{set_of}
+use Rattle.error_fault.specs.Fault.{at_span}
+use Rattle.error_fault.specs.Faults.{at}
+use Rattle.error_fault.specs.Outcome.{Outcome, Value, Faults, faults_of, value_of}
 use Rattle.meaning_core.specs.declared.value.Value.{Value as Datum}
 use Rattle.meaning_core.specs.Value.{no_value}
 use Rattle.meaning_core.specs.Node.{item_span, meta_name}

@@ -3,11 +3,11 @@ use Rattle.std.proofs.Common.{◌≡◌, ◌≢◌, ◌<◌, ℕ, zero, suc, Boo
 use Rattle.std.specs.List.{list_any}
 use Rattle.base_core.specs.declared.text.Text.{Text}
 use Rattle.node_core.specs.declared.derive.DeriveInput.{DeriveInput}
-use Rattle.first_core.specs.declared.nested.NestedMeta.{NestedMeta}
-use Rattle.fault_core.specs.declared.fault.Fault.{Fault}
-use Rattle.fault_core.specs.declared.kind.FaultKind.TheVariants.{MissingField}
-use Rattle.fault_core.specs.Fault.{plain}
-use Rattle.fault_core.specs.Outcome.{Outcome, Value, Faults, faults_of, on_value, settle}
+use Rattle.run_first.specs.declared.nested.NestedMeta.{NestedMeta}
+use Rattle.error_fault.specs.declared.fault.Fault.{Fault}
+use Rattle.error_fault.specs.declared.kind.FaultKind.TheVariants.{MissingField}
+use Rattle.error_fault.specs.Fault.{plain}
+use Rattle.error_fault.specs.Outcome.{Outcome, Value, Faults, faults_of, on_value, settle}
 use Rattle.meaning_core.specs.declared.receiver.Receiver.{Receiver}
 use Rattle.meaning_core.specs.declared.value.Value.{Value as Datum}
 use Rattle.meaning_core.specs.declared.value.Value.TheVariants as value

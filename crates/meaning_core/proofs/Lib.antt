@@ -5,4 +5,4 @@ pub mod Nodes
 pub mod SlotLemmas
 pub mod Arms
 pub mod Finish
-pub mod PlainLemmas
+pub mod PlaceLemmas

@@ -1,7 +1,7 @@
 -- The span of a list of trees, from its first and its last.
 use Rattle.std.proofs.Common.{◌≡◌, ◌-◌, List, [], ◌∷◌, length, Option, Some, None, refl, ap, ap₂, sym, ◌∙◌, subst, arith, slice_get}
-use Rattle.token_core.specs.Span.{joined}
-use Rattle.token_core.specs.declared.tree.TokenTree.{TokenTree}
+use Rattle.tok_types.specs.Span.{joined}
+use Rattle.tok_types.specs.declared.tree.TokenTree.{TokenTree}
 use Rattle.meaning_core.specs.Node.{tree_span, last_of, trees_span}
 
 abbrev value_or : {A : Type 0} → A → Option A → A

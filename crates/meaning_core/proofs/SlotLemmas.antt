@@ -4,11 +4,11 @@ use Rattle.std.specs.List.{list_any}
 use Rattle.std.proofs.lemmas.List.{map-set, set-get_or}
 use Rattle.base_core.specs.declared.text.Text.{Text}
 use Rattle.node_core.specs.declared.attr.Meta.{Meta}
-use Rattle.first_core.specs.declared.nested.NestedMeta.TheVariants as nested
-use Rattle.fault_core.specs.declared.fault.Fault.{Fault}
-use Rattle.fault_core.specs.declared.kind.FaultKind.TheVariants.{DuplicateField}
-use Rattle.fault_core.specs.Fault.{at_span, located}
-use Rattle.fault_core.specs.Outcome.{Outcome, Value, Faults}
+use Rattle.run_first.specs.declared.nested.NestedMeta.TheVariants as nested
+use Rattle.error_fault.specs.declared.fault.Fault.{Fault}
+use Rattle.error_fault.specs.declared.kind.FaultKind.TheVariants.{DuplicateField}
+use Rattle.error_fault.specs.Fault.{at_span, located}
+use Rattle.error_fault.specs.Outcome.{Outcome, Value, Faults}
 use Rattle.meaning_core.specs.declared.value.Value.{Value as Datum}
 use Rattle.meaning_core.specs.declared.value.Value.TheVariants as value
 use Rattle.meaning_core.specs.declared.walk.Slot.{Slot as Held}

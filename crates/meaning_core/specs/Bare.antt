@@ -1,11 +1,11 @@
 -- Expressions without the invisible groups around them.
 use Rattle.std.specs.Prelude.{codes}
 use Rattle.base_core.specs.declared.text.Text.{Text}
-use Rattle.token_core.specs.declared.span.Span.{Span}
-use Rattle.expr_core.specs.declared.expr.Expr.{Expr}
-use Rattle.expr_core.specs.declared.expr.Expr.TheFolds.{fold-Expr}
-use Rattle.expr_core.specs.declared.expr.Expr.TheOpen.{Expr-F, ExprPath-F}
-use Rattle.expr_core.specs.declared.lit.Lit.{Lit}
+use Rattle.tok_types.specs.declared.span.Span.{Span}
+use Rattle.node_expr.specs.declared.expr.Expr.{Expr}
+use Rattle.node_expr.specs.declared.expr.Expr.TheFolds.{fold-Expr}
+use Rattle.node_expr.specs.declared.expr.Expr.TheOpen.{Expr-F, ExprPath-F}
+use Rattle.node_expr.specs.declared.lit.Lit.{Lit}
 use Rattle.meaning_core.specs.Node.{tokens_span}
 
 -- a literal, or the name of another kind and where it stands

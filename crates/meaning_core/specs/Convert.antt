@@ -1,20 +1,20 @@
 -- Conversions: how an item, a list of items and nothing are read at a type.
 use Rattle.std.specs.Prelude.{ℕ, List, [], ◌∷◌, Option, Some, None, unwrap_or, codes}
 use Rattle.base_core.specs.declared.text.Text.{Text}
-use Rattle.token_core.specs.declared.span.Span.{Span}
-use Rattle.token_core.specs.declared.tree.TokenStream.{TokenStream}
+use Rattle.tok_types.specs.declared.span.Span.{Span}
+use Rattle.tok_types.specs.declared.tree.TokenStream.{TokenStream}
 use Rattle.node_core.specs.declared.attr.Meta.{Meta}
 use Rattle.node_core.specs.declared.attr.Meta.TheVariants as meta
-use Rattle.expr_core.specs.declared.expr.Expr.{Expr}
-use Rattle.expr_core.specs.declared.lit.Lit.{Lit}
-use Rattle.expr_core.specs.declared.lit.Lit.TheVariants as lit
-use Rattle.first_core.specs.Nested.{nested_of}
-use Rattle.first_core.specs.declared.nested.NestedMeta.{NestedMeta}
-use Rattle.first_core.specs.declared.nested.NestedMeta.TheVariants as nested
-use Rattle.fault_core.specs.declared.fault.Fault.{Fault}
-use Rattle.fault_core.specs.declared.kind.FaultKind.TheVariants.{Custom, UnexpectedFormat, UnexpectedType}
-use Rattle.fault_core.specs.Fault.{at_span}
-use Rattle.fault_core.specs.Outcome.{Outcome, Value, Faults, refused, with_span}
+use Rattle.node_expr.specs.declared.expr.Expr.{Expr}
+use Rattle.node_expr.specs.declared.lit.Lit.{Lit}
+use Rattle.node_expr.specs.declared.lit.Lit.TheVariants as lit
+use Rattle.run_first.specs.Nested.{nested_of}
+use Rattle.run_first.specs.declared.nested.NestedMeta.{NestedMeta}
+use Rattle.run_first.specs.declared.nested.NestedMeta.TheVariants as nested
+use Rattle.error_fault.specs.declared.fault.Fault.{Fault}
+use Rattle.error_fault.specs.declared.kind.FaultKind.TheVariants.{Custom, UnexpectedFormat, UnexpectedType}
+use Rattle.error_fault.specs.Fault.{at_span}
+use Rattle.error_fault.specs.Outcome.{Outcome, Value, Faults, refused, with_span}
 use Rattle.meaning_core.specs.declared.value.Value.{Value as Datum}
 use Rattle.meaning_core.specs.declared.value.Value.TheVariants as value
 use Rattle.meaning_core.specs.Decl.{FieldType, TextType, ListType, DeclaredType}

@@ -6,11 +6,11 @@ use Rattle.base_core.specs.declared.text.Text.{Text}
 use Rattle.node_core.specs.declared.attr.Attribute.{Attribute}
 use Rattle.node_core.specs.declared.attr.Meta.{Meta}
 use Rattle.node_core.specs.declared.attr.Meta.TheVariants as meta
-use Rattle.first_core.specs.Nested.{nested_of}
-use Rattle.first_core.specs.declared.nested.NestedMeta.{NestedMeta}
-use Rattle.fault_core.specs.declared.fault.Fault.{Fault}
-use Rattle.fault_core.specs.declared.kind.FaultKind.TheVariants.{Custom}
-use Rattle.fault_core.specs.Fault.{at_span}
+use Rattle.run_first.specs.Nested.{nested_of}
+use Rattle.run_first.specs.declared.nested.NestedMeta.{NestedMeta}
+use Rattle.error_fault.specs.declared.fault.Fault.{Fault}
+use Rattle.error_fault.specs.declared.kind.FaultKind.TheVariants.{Custom}
+use Rattle.error_fault.specs.Fault.{at_span}
 use Rattle.meaning_core.specs.Node.{meta_name, meta_path_text, meta_span}
 use Rattle.meaning_core.specs.Convert.{list_fault}
 

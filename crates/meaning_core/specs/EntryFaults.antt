@@ -2,16 +2,16 @@
 use Rattle.std.specs.Prelude.{ℕ, Bool, cond, List, [], ◌∷◌, ◌++◌, length, flat_map, Option, Some, None, unwrap_or, codes}
 use Rattle.std.specs.Fmt.{decimal}
 use Rattle.base_core.specs.declared.text.Text.{Text}
-use Rattle.token_core.specs.declared.span.Span.{Span}
+use Rattle.tok_types.specs.declared.span.Span.{Span}
 use Rattle.node_core.specs.declared.attr.Meta.{Meta}
-use Rattle.first_core.specs.declared.nested.NestedMeta.{NestedMeta}
-use Rattle.first_core.specs.declared.nested.NestedMeta.TheVariants as nested
-use Rattle.fault_core.specs.declared.fault.Fault.{Fault}
-use Rattle.fault_core.specs.declared.kind.FaultKind.TheVariants.{DuplicateField, UnexpectedFormat, UnknownField}
-use Rattle.fault_core.specs.Kind.{set_of}
-use Rattle.fault_core.specs.Fault.{at_span}
-use Rattle.fault_core.specs.Faults.{at}
-use Rattle.fault_core.specs.Outcome.{Outcome, Value, Faults, faults_of, bind, with_span}
+use Rattle.run_first.specs.declared.nested.NestedMeta.{NestedMeta}
+use Rattle.run_first.specs.declared.nested.NestedMeta.TheVariants as nested
+use Rattle.error_fault.specs.declared.fault.Fault.{Fault}
+use Rattle.error_fault.specs.declared.kind.FaultKind.TheVariants.{DuplicateField, UnexpectedFormat, UnknownField}
+use Rattle.error_fault.specs.Kind.{set_of}
+use Rattle.error_fault.specs.Fault.{at_span}
+use Rattle.error_fault.specs.Faults.{at}
+use Rattle.error_fault.specs.Outcome.{Outcome, Value, Faults, faults_of, bind, with_span}
 use Rattle.meaning_core.specs.declared.value.Value.{Value as Datum}
 use Rattle.meaning_core.specs.Node.{item_span, lit_span, meta_name}
 use Rattle.meaning_core.specs.Decl.{FieldType, Shape, Single, Many, Flat, Transform, FieldDecl, Decl, element, has_flat, names}

@@ -1,11 +1,11 @@
 -- The value of a field, and where a field is missing.
 use Rattle.std.specs.Prelude.{List, [], ◌∷◌, Option, Some, None}
 use Rattle.base_core.specs.declared.text.Text.{Text}
-use Rattle.first_core.specs.declared.nested.NestedMeta.{NestedMeta}
-use Rattle.fault_core.specs.declared.fault.Fault.{Fault}
-use Rattle.fault_core.specs.declared.kind.FaultKind.TheVariants.{MissingField}
-use Rattle.fault_core.specs.Fault.{plain}
-use Rattle.fault_core.specs.Outcome.{Outcome, Value, Faults, faults_of, with_siblings}
+use Rattle.run_first.specs.declared.nested.NestedMeta.{NestedMeta}
+use Rattle.error_fault.specs.declared.fault.Fault.{Fault}
+use Rattle.error_fault.specs.declared.kind.FaultKind.TheVariants.{MissingField}
+use Rattle.error_fault.specs.Fault.{plain}
+use Rattle.error_fault.specs.Outcome.{Outcome, Value, Faults, faults_of, with_siblings}
 use Rattle.meaning_core.specs.declared.value.Value.{Value as Datum}
 use Rattle.meaning_core.specs.declared.value.Value.TheVariants as value
 use Rattle.meaning_core.specs.Value.{member}

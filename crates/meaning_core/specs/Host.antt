@@ -2,8 +2,8 @@
 use Rattle.std.specs.Prelude.{Option, None, codes}
 use Rattle.base_core.specs.declared.text.Text.{Text}
 use Rattle.node_core.specs.declared.attr.Meta.{Meta}
-use Rattle.fault_core.specs.declared.kind.FaultKind.TheVariants.{Custom}
-use Rattle.fault_core.specs.Outcome.{Outcome, refused}
+use Rattle.error_fault.specs.declared.kind.FaultKind.TheVariants.{Custom}
+use Rattle.error_fault.specs.Outcome.{Outcome, refused}
 use Rattle.meaning_core.specs.declared.value.Value.{Value as Datum}
 use Rattle.meaning_core.specs.Value.{no_value}
 use Rattle.meaning_core.specs.Decl.{FieldType, Transform}

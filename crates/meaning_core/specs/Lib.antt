@@ -14,4 +14,4 @@ pub mod Meaning
 pub mod State
 pub mod Walk
 pub mod Receiver
-pub mod Plain
+pub mod Places

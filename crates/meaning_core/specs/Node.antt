@@ -1,21 +1,21 @@
 -- What a reading asks of a node: its text, the name of its kind, and its place.
 use Rattle.std.specs.Prelude.{if◌then◌else◌, List, [], ◌∷◌, ◌++◌, codes}
 use Rattle.base_core.specs.declared.text.Text.{Text}
-use Rattle.token_core.specs.Span.{joined}
-use Rattle.token_core.specs.declared.span.Span.{Span}
-use Rattle.token_core.specs.declared.span.Span.TheVariants.{CallSite}
-use Rattle.token_core.specs.declared.tree.Group.{Group, out-Group}
-use Rattle.token_core.specs.declared.tree.TokenStream.{TokenStream, out-TokenStream}
-use Rattle.token_core.specs.declared.tree.TokenTree.{TokenTree, out-TokenTree}
-use Rattle.token_core.specs.declared.tree.TokenTree.TheOpen.{TokenTree-F}
-use Rattle.expr_core.specs.PathText.{path_text}
+use Rattle.tok_types.specs.Span.{joined}
+use Rattle.tok_types.specs.declared.span.Span.{Span}
+use Rattle.tok_types.specs.declared.span.Span.TheVariants.{CallSite}
+use Rattle.tok_types.specs.declared.tree.Group.{Group, out-Group}
+use Rattle.tok_types.specs.declared.tree.TokenStream.{TokenStream, out-TokenStream}
+use Rattle.tok_types.specs.declared.tree.TokenTree.{TokenTree, out-TokenTree}
+use Rattle.tok_types.specs.declared.tree.TokenTree.TheOpen.{TokenTree-F}
+use Rattle.node_make.specs.PathText.{path_text}
 use Rattle.node_core.specs.declared.attr.Meta.{Meta}
 use Rattle.node_core.specs.declared.attr.Meta.TheVariants as meta
-use Rattle.expr_core.specs.declared.lit.Lit.{Lit}
-use Rattle.expr_core.specs.declared.lit.Lit.TheVariants as lit
-use Rattle.expr_core.specs.declared.path.Path.{Path, out-Path}
-use Rattle.first_core.specs.declared.nested.NestedMeta.{NestedMeta}
-use Rattle.first_core.specs.declared.nested.NestedMeta.TheVariants as nested
+use Rattle.node_expr.specs.declared.lit.Lit.{Lit}
+use Rattle.node_expr.specs.declared.lit.Lit.TheVariants as lit
+use Rattle.node_expr.specs.declared.path.Path.{Path, out-Path}
+use Rattle.run_first.specs.declared.nested.NestedMeta.{NestedMeta}
+use Rattle.run_first.specs.declared.nested.NestedMeta.TheVariants as nested
 
 -- the name of a literal's kind
 abbrev pub lit_kind : Lit → Text

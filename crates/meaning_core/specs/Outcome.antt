@@ -1,8 +1,8 @@
 -- How an outcome is kept: a value and no fault, or no value and at least one fault.
 use Rattle.std.specs.Prelude.{Bool, true, false, List, [], ◌∷◌, Option, Some, None, codes}
-use Rattle.fault_core.specs.declared.fault.Fault.{Fault}
-use Rattle.fault_core.specs.declared.kind.FaultKind.TheVariants.{Custom}
-use Rattle.fault_core.specs.Outcome.{Outcome, Value, Faults, refused}
+use Rattle.error_fault.specs.declared.fault.Fault.{Fault}
+use Rattle.error_fault.specs.declared.kind.FaultKind.TheVariants.{Custom}
+use Rattle.error_fault.specs.Outcome.{Outcome, Value, Faults, refused}
 use Rattle.meaning_core.specs.declared.value.Value.{Value as Datum}
 
 -- the faults where there is one, else the value

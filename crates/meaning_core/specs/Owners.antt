@@ -2,8 +2,8 @@
 use Rattle.std.specs.Prelude.{ℕ, ◌==◌, zero, suc, Bool, true, false, cond, List, [], ◌∷◌, filter, Option, Some, None, option_map, is_none}
 use Rattle.std.specs.Str.{bytes_eq}
 use Rattle.base_core.specs.declared.text.Text.{Text}
-use Rattle.first_core.specs.declared.nested.NestedMeta.{NestedMeta}
-use Rattle.first_core.specs.declared.nested.NestedMeta.TheVariants as nested
+use Rattle.run_first.specs.declared.nested.NestedMeta.{NestedMeta}
+use Rattle.run_first.specs.declared.nested.NestedMeta.TheVariants as nested
 use Rattle.meaning_core.specs.Node.{meta_name}
 use Rattle.meaning_core.specs.Decl.{FieldDecl, TextType, Single, is_named}
 

@@ -2,12 +2,12 @@
 use Rattle.std.specs.Prelude.{ℕ, List, [], ◌∷◌, map, flat_map, Option, Some, None, if◌then◌else◌, codes, Bool, false}
 use Rattle.std.specs.Str.{bytes_eq}
 use Rattle.base_core.specs.declared.text.Text.{Text}
-use Rattle.token_core.specs.Ident.{ident_text}
-use Rattle.token_core.specs.declared.tree.Group.{Group, out-Group}
-use Rattle.token_core.specs.declared.tree.TokenStream.{TokenStream, out-TokenStream}
-use Rattle.token_core.specs.declared.tree.TokenTree.{TokenTree, out-TokenTree}
-use Rattle.token_core.specs.declared.tree.TokenTree.TheOpen.{TokenTree-F}
-use Rattle.token_core.specs.declared.ident.Ident.{Ident}
+use Rattle.tok_types.specs.Ident.{ident_text}
+use Rattle.tok_types.specs.declared.tree.Group.{Group, out-Group}
+use Rattle.tok_types.specs.declared.tree.TokenStream.{TokenStream, out-TokenStream}
+use Rattle.tok_types.specs.declared.tree.TokenTree.{TokenTree, out-TokenTree}
+use Rattle.tok_types.specs.declared.tree.TokenTree.TheOpen.{TokenTree-F}
+use Rattle.tok_types.specs.declared.ident.Ident.{Ident}
 use Rattle.node_core.specs.declared.attr.Attribute.{Attribute}
 use Rattle.node_core.specs.declared.attr.Meta.{Meta}
 use Rattle.node_core.specs.declared.attr.Meta.TheVariants as meta
@@ -17,8 +17,8 @@ use Rattle.node_core.specs.declared.data.Field.{Field}
 use Rattle.node_core.specs.declared.data.Fields.{Fields}
 use Rattle.node_core.specs.declared.data.Fields.TheVariants as fields
 use Rattle.node_core.specs.declared.derive.DeriveInput.{DeriveInput}
-use Rattle.fault_core.specs.declared.kind.FaultKind.TheVariants.{Custom}
-use Rattle.fault_core.specs.Outcome.{Outcome, refused}
+use Rattle.error_fault.specs.declared.kind.FaultKind.TheVariants.{Custom}
+use Rattle.error_fault.specs.Outcome.{Outcome, refused}
 use Rattle.meaning_core.specs.declared.receiver.Receiver.{Receiver}
 use Rattle.meaning_core.specs.declared.value.Value.{Value as Datum}
 use Rattle.meaning_core.specs.Node.{meta_name}

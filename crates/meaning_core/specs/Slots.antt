@@ -2,10 +2,10 @@
 use Rattle.std.specs.Prelude.{◌≢◌, Bool, true, false, IsTrue, List, [], ◌∷◌, ◌++◌, map, Option, Some, None, Ok, Err, Result}
 use Rattle.std.specs.List.{list_any}
 use Rattle.base_core.specs.declared.text.Text.{Text}
-use Rattle.fault_core.specs.declared.fault.Fault.{Fault}
-use Rattle.fault_core.specs.declared.kind.FaultKind.TheVariants.{MissingField}
-use Rattle.fault_core.specs.Fault.{plain}
-use Rattle.fault_core.specs.Outcome.{Outcome, Value, Faults}
+use Rattle.error_fault.specs.declared.fault.Fault.{Fault}
+use Rattle.error_fault.specs.declared.kind.FaultKind.TheVariants.{MissingField}
+use Rattle.error_fault.specs.Fault.{plain}
+use Rattle.error_fault.specs.Outcome.{Outcome, Value, Faults}
 use Rattle.meaning_core.specs.declared.value.Value.{Value as Datum}
 use Rattle.meaning_core.specs.declared.value.Value.TheVariants as value
 use Rattle.meaning_core.specs.declared.walk.Slot.{Slot as Held}

@@ -1,3 +1,5 @@
+//! Laws of the walk.
+
 ghost use Rattle.meaning_core.specs.Walk.{WalkIsFilters, DirectIsMeaning};
 
 /// Behind any entries, the slots, the faults and the kept items of a walk are filters of those entries.

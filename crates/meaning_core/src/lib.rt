@@ -5,20 +5,17 @@
 #![tactic(auto)]
 
 mod laws;
+mod names;
 mod node;
 mod outcome;
-mod plain;
 mod receiver;
-#[cfg(test)]
-mod tests;
 mod text;
 mod value;
 mod walk;
 
-pub use fault_core::{Fault, FaultKind, Items, Mem, Span, Text, TryClone};
+pub use error_fault::{Fault, FaultKind, Items, Mem, Span, Text, TryClone};
 pub use laws::{direct_is_meaning, walk_is_filters};
-pub use names_core::Names;
+pub use names::Names;
 pub use outcome::Outcome;
-pub use plain::plain_item_meaning;
 pub use receiver::Receiver;
 pub use value::{Style, Value};

@@ -1,3 +1,5 @@
+//! The kinds and places of nodes.
+
 ghost use Rattle.std.specs.Prelude.{◌≡◌};
 ghost use Rattle.meaning_core.specs.Node.{lit_kind, lit_span, meta_path, meta_span, tokens_span, tree_span};
 

@@ -1,17 +1,18 @@
+//! What a subject means: a value, or faults.
+
 ghost use Rattle.std.specs.Prelude.{◌≡◌, ◌≢◌, [], Some, IfOk, option_map};
 ghost use Rattle.std.specs.Option.{option_copied};
-ghost use Rattle.fault_core.specs.Outcome as outcome;
+ghost use Rattle.error_fault.specs.Outcome as outcome;
 
 use crate::value::Value;
 use base_core::{Items, Mem, TryClone};
-use fault_core::Fault;
+use error_fault::Fault;
 use std::alloc::Global;
 use std::marker::Model;
 
 /// What a subject means: one value, or at least one fault.
 ///
 /// Only a reading of a subject makes one; elsewhere it can be cloned.
-#[derive(Drop)]
 pub struct Outcome {
     answer: Option<Value>,
     faults: Items<Fault>,
@@ -19,7 +20,7 @@ pub struct Outcome {
 
 impl Model for Outcome {
     ghost use Rattle.std.specs.Prelude.{IsTrue};
-    ghost use Rattle.fault_core.specs.Outcome.{Outcome};
+    ghost use Rattle.error_fault.specs.Outcome.{Outcome};
     ghost use Rattle.meaning_core.specs.declared.value.Value.{Value as Datum};
     ghost use Rattle.meaning_core.specs.contracts.value.Value as contents;
     ghost use Rattle.std.specs.Coded.{codes};
@@ -36,7 +37,7 @@ impl Model for Outcome {
 }
 
 impl Outcome {
-    ghost use Rattle.fault_core.specs.Outcome.{Value, value_of, faults_of};
+    ghost use Rattle.error_fault.specs.Outcome.{Value, value_of, faults_of};
 
     /// The value, where there is one. It takes no memory.
     pub fn value(&self) -> Option<&Value>
@@ -78,5 +79,14 @@ impl TryClone for Outcome {
             answer: self.answer.try_clone(alloc)?,
             faults: self.faults.try_clone(alloc)?,
         })
+    }
+}
+
+impl Drop for Outcome {
+    fn drop(self) {
+        let Self {
+            answer: _answer,
+            faults: _faults,
+        } = self;
     }
 }

@@ -1,12 +1,14 @@
+//! A declaration as a reading of subjects needs it.
+
 ghost use Rattle.std.specs.Prelude.{◌≡◌, ◌++◌, IfOk, OnOk};
 ghost use Rattle.meaning_core.specs.Entries.{has_name};
 ghost use Rattle.meaning_core.specs.Node.{meta_name};
 ghost use Rattle.meaning_core.specs.Receiver.{receiver_of, receiver_decl, subject_meaning, option_names, meta_names, words_of, field_names, attribute_names};
 
+use crate::names::Names;
 use crate::node::meta_path;
 use crate::outcome::Outcome;
 use crate::walk::Walk;
-use names_core::Names;
 use node_core::{
     Attribute, Data, DeriveInput, Fields, Items, Mem, Meta, Text, TokenTree, TryClone,
     path_to_string,
@@ -15,7 +17,6 @@ use std::alloc::Global;
 
 /// A declaration as a reading of subjects needs it: its name, the names of the attributes that it
 /// reads, and the names of its fields, each a text that has to be given.
-#[derive(Drop)]
 pub struct Receiver {
     pub name: Text,
     pub attributes: Names,
@@ -122,4 +123,14 @@ fn read_field_names(alloc: Global, body: &Data) -> Mem<Items<Text>>
         }
     }
     Ok(names)
+}
+
+impl Drop for Receiver {
+    fn drop(self) {
+        let Self {
+            name: _name,
+            attributes: _attributes,
+            fields: _fields,
+        } = self;
+    }
 }

@@ -1,6 +1,8 @@
+//! The text that an item gives.
+
 ghost use Rattle.std.specs.Prelude.{◌≡◌, None, Some, IfOk};
-ghost use Rattle.fault_core.specs.Fault.{at_span};
-ghost use Rattle.fault_core.specs.Outcome.{Outcome};
+ghost use Rattle.error_fault.specs.Fault.{at_span};
+ghost use Rattle.error_fault.specs.Outcome.{Outcome};
 ghost use Rattle.meaning_core.specs.Convert.{list_fault, text_cells, of_lit, of_bare};
 ghost use Rattle.meaning_core.specs.Bare.{bare};
 ghost use Rattle.meaning_core.specs.Decl.{TextType};
@@ -8,12 +10,12 @@ ghost use Rattle.meaning_core.specs.Host.{no_host};
 ghost use Rattle.meaning_core.specs.EntryFaults.{read_at};
 ghost use Rattle.meaning_core.specs.Receiver.{no_earlier};
 ghost use Rattle.meaning_core.specs.Slots.{text_outcome};
-ghost use Rattle.first_core.specs.declared.nested.NestedMeta.TheVariants as nested;
+ghost use Rattle.run_first.specs.declared.nested.NestedMeta.TheVariants as nested;
 
 use crate::node::{lit_kind, lit_span, meta_span, tokens_span};
-use fault_core::{Fault, FaultKind};
-use first_core::{NestedMeta, parse_meta_list};
+use error_fault::{Fault, FaultKind};
 use node_core::{Expr, Lit, Mem, Meta, Span, Text, TokenStream, TryClone};
+use run_first::{NestedMeta, parse_meta_list};
 use std::alloc::Global;
 
 /// The fault of a list whose tokens are no nested items.

@@ -1,3 +1,5 @@
+//! What an item means, as data.
+
 ghost use Rattle.std.specs.Prelude.{◌≡◌, IfOk};
 
 use base_core::{Items, Mem, Text, TryClone};
@@ -18,7 +20,6 @@ impl TryClone for Style {
 }
 
 /// What an item means, as data.
-#[derive(Drop)]
 pub enum Value {
     Text(Text),
     List(Items<Value>),
@@ -71,4 +72,19 @@ fn clone_fields(fields: &Items<(Text, Value)>, alloc: Global) -> Mem<Items<(Text
         copies.push((name, value))?;
     }
     Ok(copies)
+}
+
+impl Drop for Value {
+    #[cycle(drops)]
+    fn drop(self) {
+        match self {
+            Value::Text(_a) => {}
+            Value::List(_a) => {}
+            Value::Struct {
+                name: _name,
+                style: _style,
+                fields: _fields,
+            } => {}
+        }
+    }
 }

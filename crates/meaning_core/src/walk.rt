@@ -1,5 +1,7 @@
+//! The walk over the attributes of a subject.
+
 ghost use Rattle.std.specs.Prelude.{◌≡◌, ◌++◌, ◌∷◌, [], ◌<◌, None, IfOk, OnOk, length, map, fold, replicate};
-ghost use Rattle.first_core.specs.declared.nested.NestedMeta.TheVariants as nested;
+ghost use Rattle.run_first.specs.declared.nested.NestedMeta.TheVariants as nested;
 ghost use Rattle.meaning_core.specs.Decl.{TextType};
 ghost use Rattle.meaning_core.specs.Host.{no_host};
 ghost use Rattle.meaning_core.specs.EntryFaults.{read_at};
@@ -15,13 +17,12 @@ use crate::outcome::Outcome;
 use crate::receiver::Receiver;
 use crate::text::{list_fault, read_text};
 use crate::value::{Style, Value};
-use fault_core::Fault;
-use first_core::{NestedMeta, parse_meta_list};
+use error_fault::Fault;
 use node_core::{Attribute, Items, Mem, Meta, Path, Text, TryClone, path_to_string};
+use run_first::{NestedMeta, parse_meta_list};
 use std::alloc::Global;
 
 /// What the items so far have given a field.
-#[derive(Drop)]
 pub(crate) enum Slot {
     Unseen,
     Failed,
@@ -30,7 +31,6 @@ pub(crate) enum Slot {
 
 /// One walk over the attributes of a subject: a slot for each field of the receiver, and all that is
 /// wrong so far.
-#[derive(Drop)]
 pub(crate) struct Walk {
     slots: Items<Slot>,
     faults: Items<Fault>,
@@ -247,4 +247,23 @@ fn push_path(alloc: Global, text: &mut Text, path: &Path) -> Mem<()>
     }
     let name = path_to_string(alloc, path)?;
     text.push_str(name.as_str())
+}
+
+impl Drop for Slot {
+    fn drop(self) {
+        match self {
+            Slot::Unseen => {}
+            Slot::Failed => {}
+            Slot::Read(_text) => {}
+        }
+    }
+}
+
+impl Drop for Walk {
+    fn drop(self) {
+        let Self {
+            slots: _slots,
+            faults: _faults,
+        } = self;
+    }
 }

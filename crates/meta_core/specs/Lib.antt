@@ -1,4 +1,5 @@
-pub mod Values
-pub mod Nested
-pub mod Nodes
-pub mod Answers
+pub use Rattle.meta_nested.specs.Answers
+pub use Rattle.meta_nested.specs.Nested
+pub use Rattle.meta_nested.specs.Nodes
+pub use Rattle.meta_nested.specs.Values
+pub use Rattle.node_expr.specs.PathText

@@ -1,16 +1,9 @@
-//! Nested items: what stands between the parentheses of an attribute, as in `#[my(a = 1, b(c), "d")]`.
-//!
-//! [`NestedMeta::parse_meta_list`] reads a list of them. A value that is no expression is kept with
-//! its fault, so that whoever asked for it may read its tokens in another way.
+//! The lists in attributes, as darling_core::ast: what callers need of them, under one name.
 #![tactic(auto)]
 
-mod item;
-mod nested;
-mod nodes;
-mod value;
-
-pub use nested::{MetaNameValueInvalidExpr, NestedMeta};
-
-// The definitions speak of these, so proofs of other crates have to name them.
-pub use item::{Found, ItemStart};
-pub use value::Value;
+pub use error_core::Error;
+pub use meta_nested::{MetaNameValueInvalidExpr, NestedMeta};
+pub use node_core::{
+    Expr, Items, Lit, Mem, Meta, Path, Span, SynError, TokenStream, TryClone, path_to_string,
+};
+pub use syn_core::{Parse, ParseFail};

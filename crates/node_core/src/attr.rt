@@ -1,8 +1,7 @@
-use expr_core::{Expr, Path};
-use token_core::{Delimiter, Span, TokenStream};
+use node_expr::{Expr, Path};
+use tok_types::{Delimiter, Span, TokenStream};
 
 /// `#[meta]`
-#[derive(Drop)]
 #[derive_where(PartialEq, Eq, Hash)]
 pub struct Attribute {
     pub meta: Meta,
@@ -11,7 +10,6 @@ pub struct Attribute {
 }
 
 /// What an attribute holds: `path`, `path(tokens)`, or `path = value`
-#[derive(Drop)]
 #[derive_where(PartialEq, Eq, Hash)]
 pub enum Meta {
     /// `path`
@@ -23,7 +21,6 @@ pub enum Meta {
 }
 
 /// `path(tokens)`, `path[tokens]`, or `path{tokens}`
-#[derive(Drop)]
 #[derive_where(PartialEq, Eq, Hash)]
 pub struct MetaList {
     pub path: Path,
@@ -34,7 +31,6 @@ pub struct MetaList {
 }
 
 /// `path = value`
-#[derive(Drop)]
 #[derive_where(PartialEq, Eq, Hash)]
 pub struct MetaNameValue {
     pub path: Path,
@@ -43,4 +39,45 @@ pub struct MetaNameValue {
     pub value: Expr,
     #[derive_where(skip(EqHashOrd))]
     pub span: Span,
+}
+
+impl Drop for Attribute {
+    fn drop(self) {
+        let Self {
+            meta: _meta,
+            span: _,
+        } = self;
+    }
+}
+
+impl Drop for Meta {
+    fn drop(self) {
+        match self {
+            Meta::Path(_a) => {}
+            Meta::List(_a) => {}
+            Meta::NameValue(_a) => {}
+        }
+    }
+}
+
+impl Drop for MetaList {
+    fn drop(self) {
+        let Self {
+            path: _path,
+            delimiter: _,
+            tokens: _tokens,
+            span: _,
+        } = self;
+    }
+}
+
+impl Drop for MetaNameValue {
+    fn drop(self) {
+        let Self {
+            path: _path,
+            eq_span: _,
+            value: _value,
+            span: _,
+        } = self;
+    }
 }

@@ -1,9 +1,8 @@
 use crate::attr::Attribute;
-use expr_core::{Expr, Path, Type};
-use token_core::{Ident, Items, Span};
+use node_expr::{Expr, Path, Type};
+use tok_types::{Ident, Items, Span};
 
 /// Nothing, `pub`, `pub(crate)`, or `pub(in path)`
-#[derive(Drop)]
 #[derive_where(PartialEq, Eq, Hash)]
 pub enum Visibility {
     /// Nothing is written.
@@ -23,7 +22,6 @@ pub enum Visibility {
 }
 
 /// `pub name: T` in braces, `pub T` in parentheses
-#[derive(Drop)]
 #[derive_where(PartialEq, Eq, Hash)]
 pub struct Field {
     pub attrs: Items<Attribute>,
@@ -35,7 +33,6 @@ pub struct Field {
 }
 
 /// `{ a: A, b: B }`, `(A, B)`, or nothing
-#[derive(Drop)]
 #[derive_where(PartialEq, Eq, Hash)]
 pub enum Fields {
     /// `{ a: A, b: B }`
@@ -47,7 +44,6 @@ pub enum Fields {
 }
 
 /// `{ a: A, b: B }`
-#[derive(Drop)]
 #[derive_where(PartialEq, Eq, Hash)]
 pub struct FieldsNamed {
     pub named: Items<Field>,
@@ -56,7 +52,6 @@ pub struct FieldsNamed {
 }
 
 /// `(A, B)`
-#[derive(Drop)]
 #[derive_where(PartialEq, Eq, Hash)]
 pub struct FieldsUnnamed {
     pub unnamed: Items<Field>,
@@ -65,7 +60,6 @@ pub struct FieldsUnnamed {
 }
 
 /// `Name`, `Name { a: A }`, `Name(A, B)`, or `Name = 1`
-#[derive(Drop)]
 #[derive_where(PartialEq, Eq, Hash)]
 pub struct Variant {
     pub attrs: Items<Attribute>,
@@ -77,7 +71,6 @@ pub struct Variant {
 }
 
 /// The body of a `struct`, an `enum` or a `union`
-#[derive(Drop)]
 #[derive_where(PartialEq, Eq, Hash)]
 pub enum Data {
     Struct(DataStruct),
@@ -86,7 +79,6 @@ pub enum Data {
 }
 
 /// `{ a: A, b: B }`, `(A, B);`, or `;` after `struct Name`
-#[derive(Drop)]
 #[derive_where(PartialEq, Eq, Hash)]
 pub struct DataStruct {
     pub fields: Fields,
@@ -95,7 +87,6 @@ pub struct DataStruct {
 }
 
 /// `{ A, B(T), C { c: T } }` after `enum Name`
-#[derive(Drop)]
 #[derive_where(PartialEq, Eq, Hash)]
 pub struct DataEnum {
     pub variants: Items<Variant>,
@@ -104,10 +95,112 @@ pub struct DataEnum {
 }
 
 /// `{ a: A, b: B }` after `union Name`
-#[derive(Drop)]
 #[derive_where(PartialEq, Eq, Hash)]
 pub struct DataUnion {
     pub fields: FieldsNamed,
     #[derive_where(skip(EqHashOrd))]
     pub span: Span,
+}
+
+impl Drop for Visibility {
+    fn drop(self) {
+        match self {
+            Visibility::Inherited => {}
+            Visibility::Public { span: _ } => {}
+            Visibility::Restricted {
+                in_token: _,
+                path: _path,
+                span: _,
+            } => {}
+        }
+    }
+}
+
+impl Drop for Field {
+    fn drop(self) {
+        let Self {
+            attrs: _attrs,
+            vis: _vis,
+            ident: _ident,
+            ty: _ty,
+            span: _,
+        } = self;
+    }
+}
+
+impl Drop for Fields {
+    fn drop(self) {
+        match self {
+            Fields::Named(_a) => {}
+            Fields::Unnamed(_a) => {}
+            Fields::Unit => {}
+        }
+    }
+}
+
+impl Drop for FieldsNamed {
+    fn drop(self) {
+        let Self {
+            named: _named,
+            span: _,
+        } = self;
+    }
+}
+
+impl Drop for FieldsUnnamed {
+    fn drop(self) {
+        let Self {
+            unnamed: _unnamed,
+            span: _,
+        } = self;
+    }
+}
+
+impl Drop for Variant {
+    fn drop(self) {
+        let Self {
+            attrs: _attrs,
+            ident: _ident,
+            fields: _fields,
+            discriminant: _discriminant,
+            span: _,
+        } = self;
+    }
+}
+
+impl Drop for Data {
+    fn drop(self) {
+        match self {
+            Data::Struct(_a) => {}
+            Data::Enum(_a) => {}
+            Data::Union(_a) => {}
+        }
+    }
+}
+
+impl Drop for DataStruct {
+    fn drop(self) {
+        let Self {
+            fields: _fields,
+            span: _,
+        } = self;
+    }
+}
+
+impl Drop for DataEnum {
+    fn drop(self) {
+        let Self {
+            variants: _variants,
+            span: _,
+        } = self;
+    }
+}
+
+impl Drop for DataUnion {
+    fn drop(self) {
+        let Self {
+            fields: _fields,
+            span: _,
+        } = self;
+    }
 }

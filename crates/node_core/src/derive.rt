@@ -1,10 +1,9 @@
 use crate::attr::Attribute;
 use crate::data::{Data, Visibility};
 use crate::generics::Generics;
-use token_core::{Ident, Items, Span};
+use tok_types::{Ident, Items, Span};
 
 /// An item that a derive reads: `#[attr] pub struct Name<T> { a: T }`, an `enum` or a `union`
-#[derive(Drop)]
 #[derive_where(PartialEq, Eq, Hash)]
 pub struct DeriveInput {
     pub attrs: Items<Attribute>,
@@ -14,4 +13,17 @@ pub struct DeriveInput {
     pub body: Data,
     #[derive_where(skip(EqHashOrd))]
     pub span: Span,
+}
+
+impl Drop for DeriveInput {
+    fn drop(self) {
+        let Self {
+            attrs: _attrs,
+            vis: _vis,
+            ident: _ident,
+            generics: _generics,
+            body: _body,
+            span: _,
+        } = self;
+    }
 }

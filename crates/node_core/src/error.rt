@@ -2,10 +2,10 @@ ghost use Rattle.std.specs.Prelude.{◌≡◌, ◌++◌, [], IfOk, OnOk, OnErr};
 ghost use Rattle.node_core.specs.Error.{faults_of};
 
 use std::alloc::Global;
-use token_core::{Items, Mem, Span, Text, TryClone};
+use tok_types::{Items, Mem, Span, Text, TryClone};
 
 /// Why tokens are not read: at least one fault, each a place and what is wrong there.
-#[derive(Debug, Drop)]
+#[derive(Debug)]
 pub struct SynError {
     pub first: (Span, Text),
     pub more: Items<(Span, Text)>,
@@ -49,5 +49,14 @@ impl TryClone for SynError {
             first: self.first.try_clone(alloc)?,
             more: self.more.try_clone(alloc)?,
         })
+    }
+}
+
+impl Drop for SynError {
+    fn drop(self) {
+        let Self {
+            first: _first,
+            more: _more,
+        } = self;
     }
 }

@@ -1,9 +1,8 @@
 use crate::attr::Attribute;
-use expr_core::{Expr, Type, TypeParamBound};
-use token_core::{Ident, Items, Lifetime, Span};
+use node_expr::{Expr, Type, TypeParamBound};
+use tok_types::{Ident, Items, Lifetime, Span};
 
 /// `<'a: 'b, T: Copy = u8, const N: usize = 8>`, with `where T: 'a` where it is written
-#[derive(Drop)]
 #[derive_where(PartialEq, Eq, Hash)]
 pub struct Generics {
     pub params: Items<GenericParam>,
@@ -13,7 +12,6 @@ pub struct Generics {
 }
 
 /// `'a: 'b`, `T: Copy = u8`, or `const N: usize = 8`
-#[derive(Drop)]
 #[derive_where(PartialEq, Eq, Hash)]
 pub enum GenericParam {
     /// `'a: 'b`
@@ -25,7 +23,6 @@ pub enum GenericParam {
 }
 
 /// `'a`, `'a: 'b + 'c`
-#[derive(Drop)]
 #[derive_where(PartialEq, Eq, Hash)]
 pub struct LifetimeParam {
     pub attrs: Items<Attribute>,
@@ -36,7 +33,6 @@ pub struct LifetimeParam {
 }
 
 /// `T`, `T: Copy + 'a`, `T = u8`
-#[derive(Drop)]
 #[derive_where(PartialEq, Eq, Hash)]
 pub struct TypeParam {
     pub attrs: Items<Attribute>,
@@ -48,7 +44,6 @@ pub struct TypeParam {
 }
 
 /// `const N: usize`, `const N: usize = 8`
-#[derive(Drop)]
 #[derive_where(PartialEq, Eq, Hash)]
 pub struct ConstParam {
     pub attrs: Items<Attribute>,
@@ -60,7 +55,6 @@ pub struct ConstParam {
 }
 
 /// `where 'a: 'b, T: Copy`
-#[derive(Drop)]
 #[derive_where(PartialEq, Eq, Hash)]
 pub struct WhereClause {
     pub predicates: Items<WherePredicate>,
@@ -69,7 +63,6 @@ pub struct WhereClause {
 }
 
 /// `'a: 'b`, or `for<'c> &'c T: Copy`
-#[derive(Drop)]
 #[derive_where(PartialEq, Eq, Hash)]
 pub enum WherePredicate {
     /// `'a: 'b + 'c`
@@ -87,4 +80,86 @@ pub enum WherePredicate {
         #[derive_where(skip(EqHashOrd))]
         span: Span,
     },
+}
+
+impl Drop for Generics {
+    fn drop(self) {
+        let Self {
+            params: _params,
+            where_clause: _where_clause,
+            span: _,
+        } = self;
+    }
+}
+
+impl Drop for GenericParam {
+    fn drop(self) {
+        match self {
+            GenericParam::Lifetime(_a) => {}
+            GenericParam::Ty(_a) => {}
+            GenericParam::Const(_a) => {}
+        }
+    }
+}
+
+impl Drop for LifetimeParam {
+    fn drop(self) {
+        let Self {
+            attrs: _attrs,
+            lifetime: _lifetime,
+            bounds: _bounds,
+            span: _,
+        } = self;
+    }
+}
+
+impl Drop for TypeParam {
+    fn drop(self) {
+        let Self {
+            attrs: _attrs,
+            ident: _ident,
+            bounds: _bounds,
+            default: _default,
+            span: _,
+        } = self;
+    }
+}
+
+impl Drop for ConstParam {
+    fn drop(self) {
+        let Self {
+            attrs: _attrs,
+            ident: _ident,
+            ty: _ty,
+            default: _default,
+            span: _,
+        } = self;
+    }
+}
+
+impl Drop for WhereClause {
+    fn drop(self) {
+        let Self {
+            predicates: _predicates,
+            span: _,
+        } = self;
+    }
+}
+
+impl Drop for WherePredicate {
+    fn drop(self) {
+        match self {
+            WherePredicate::Lifetime {
+                lifetime: _lifetime,
+                bounds: _bounds,
+                span: _,
+            } => {}
+            WherePredicate::Ty {
+                lifetimes: _lifetimes,
+                bounded_ty: _bounded_ty,
+                bounds: _bounds,
+                span: _,
+            } => {}
+        }
+    }
 }

@@ -1,5 +1,5 @@
 ghost use Rattle.std.specs.Prelude.{◌≡◌, true};
-ghost use Rattle.token_core.specs.declared.span.Span.{Span};
+ghost use Rattle.tok_types.specs.declared.span.Span.{Span};
 ghost use Rattle.node_core.specs.declared.derive.DeriveInput.{DeriveInput};
 
 use crate::derive::DeriveInput;

@@ -1,5 +1,5 @@
 //! The nodes of syntax: `syn`'s types, as plain data. Attributes, fields, variants, generics and
-//! whole items stand here; the expressions, types and paths in them are those of [`expr_core`].
+//! whole items stand here; the expressions, types and paths in them are those of [`node_expr`].
 //!
 //! Each node that is a struct, and each variant with named parts, keeps the span of its tokens.
 //! Equality and hashing ignore spans.
@@ -21,17 +21,17 @@ pub use data::{
 };
 pub use derive::DeriveInput;
 pub use error::SynError;
-pub use expr_core::{
+pub use generics::{
+    ConstParam, GenericParam, Generics, LifetimeParam, TypeParam, WhereClause, WherePredicate,
+};
+pub use laws::equality_of_items_ignores_their_span;
+pub use node_expr::{
     BinOp, Boxed, Delimiter, Expr, ExprArray, ExprClosure, ExprPath, ExprRange, FnArg,
     GenericArgument, Group, Ident, Items, Lifetime, Lit, LitBool, LitByte, LitByteStr, LitChar,
     LitFloat, LitInt, LitStr, Literal, Mem, Member, NamedArg, Path, PathArguments, PathSegment,
     Punct, QSelf, ReturnType, Span, Text, TokenStream, TokenTree, TraitBound, TryClone, Type,
     TypeArray, TypeFnPtr, TypeGroup, TypeImplTrait, TypeInfer, TypeNever, TypeParamBound,
-    TypeParen, TypePath, TypePtr, TypeReference, TypeSlice, TypeTraitObject, TypeTuple, UnOp, make,
-    path_to_string,
+    TypeParen, TypePath, TypePtr, TypeReference, TypeSlice, TypeTraitObject, TypeTuple, UnOp,
 };
-pub use generics::{
-    ConstParam, GenericParam, Generics, LifetimeParam, TypeParam, WhereClause, WherePredicate,
-};
-pub use laws::equality_of_items_ignores_their_span;
+pub use node_make::{make, path_to_string};
 pub use punctuated::{Comma, Punctuated};

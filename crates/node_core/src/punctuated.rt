@@ -1,9 +1,8 @@
 use std::marker::PhantomData;
-use token_core::Items;
+use tok_types::Items;
 
 /// A list that is written with the mark `P` between its items: `a, b, c` for
 /// `Punctuated<Expr, Comma>`. The marks are not kept.
-#[derive(Drop)]
 #[derive_where(PartialEq, Eq, Hash; T)]
 pub struct Punctuated<T, P> {
     pub items: Items<T>,
@@ -13,3 +12,12 @@ pub struct Punctuated<T, P> {
 /// The mark `,`
 #[derive(Clone, Copy, Debug, PartialEq, Eq, Hash)]
 pub struct Comma;
+
+impl<T: Drop, P: Drop> Drop for Punctuated<T, P> {
+    fn drop(self) {
+        let Self {
+            items: _items,
+            by: _by,
+        } = self;
+    }
+}

@@ -1,15 +1,15 @@
 -- Expressions.
 use Rattle.std.specs.Prelude.{Bool, if◌then◌else◌, List, [], ◌∷◌, ◌++◌, Option, codes}
-use Rattle.token_core.specs.declared.span.Span.{Span}
-use Rattle.token_core.specs.declared.tree.Delimiter.TheVariants as delimiter
-use Rattle.expr_core.specs.declared.expr.ExprArray.{ExprArray}
-use Rattle.expr_core.specs.declared.expr.ExprRange.{ExprRange}
-use Rattle.expr_core.specs.declared.expr.ExprClosure.{ExprClosure}
-use Rattle.expr_core.specs.declared.expr.UnOp.{UnOp}
-use Rattle.expr_core.specs.declared.expr.UnOp.TheVariants.{Deref, Not, Neg}
-use Rattle.expr_core.specs.declared.expr.BinOp.{BinOp}
-use Rattle.expr_core.specs.declared.expr.BinOp.TheVariants as op
-use Rattle.expr_core.specs.declared.expr.Expr.TheOpen.{Expr-F}
+use Rattle.tok_types.specs.declared.span.Span.{Span}
+use Rattle.tok_types.specs.declared.tree.Delimiter.TheVariants as delimiter
+use Rattle.node_expr.specs.declared.expr.ExprArray.{ExprArray}
+use Rattle.node_expr.specs.declared.expr.ExprRange.{ExprRange}
+use Rattle.node_expr.specs.declared.expr.ExprClosure.{ExprClosure}
+use Rattle.node_expr.specs.declared.expr.UnOp.{UnOp}
+use Rattle.node_expr.specs.declared.expr.UnOp.TheVariants.{Deref, Not, Neg}
+use Rattle.node_expr.specs.declared.expr.BinOp.{BinOp}
+use Rattle.node_expr.specs.declared.expr.BinOp.TheVariants as op
+use Rattle.node_expr.specs.declared.expr.Expr.TheOpen.{Expr-F}
 use Rattle.print_core.specs.Marks.{Trees, contents, ident, mark, word, group, comma, colons, joined, ended, tuple, optional, unless_empty}
 use Rattle.print_core.specs.Literals.{lit_tokens, member_tokens}
 use Rattle.print_core.specs.Paths.{Styled, Arguments, PathParts, angled}

@@ -1,10 +1,10 @@
 -- Items: attributes, visibilities, fields and variants, generics and where clauses, and function arguments.
 use Rattle.std.specs.Prelude.{Bool, true, false, if◌then◌else◌, List, [], ◌∷◌, ◌++◌, map, flat_map, Option, Some, None, codes}
 use Rattle.std.specs.Option.{option_map}
-use Rattle.token_core.specs.declared.ident.Ident.{Ident}
-use Rattle.token_core.specs.declared.ident.Lifetime.{Lifetime}
-use Rattle.token_core.specs.declared.span.Span.{Span}
-use Rattle.token_core.specs.declared.tree.Delimiter.TheVariants as delimiter
+use Rattle.tok_types.specs.declared.ident.Ident.{Ident}
+use Rattle.tok_types.specs.declared.ident.Lifetime.{Lifetime}
+use Rattle.tok_types.specs.declared.span.Span.{Span}
+use Rattle.tok_types.specs.declared.tree.Delimiter.TheVariants as delimiter
 use Rattle.node_core.specs.declared.attr.Attribute.{Attribute}
 use Rattle.node_core.specs.declared.attr.Meta.{Meta}
 use Rattle.node_core.specs.declared.attr.Meta.TheVariants as meta
@@ -24,20 +24,20 @@ use Rattle.node_core.specs.declared.data.DataStruct.{DataStruct}
 use Rattle.node_core.specs.declared.data.DataEnum.{DataEnum}
 use Rattle.node_core.specs.declared.data.DataUnion.{DataUnion}
 use Rattle.node_core.specs.declared.derive.DeriveInput.{DeriveInput}
-use Rattle.expr_core.specs.declared.expr.Expr.{Expr}
-use Rattle.expr_core.specs.declared.expr.Expr.TheOpen.{Type-F}
+use Rattle.node_expr.specs.declared.expr.Expr.{Expr}
+use Rattle.node_expr.specs.declared.expr.Expr.TheOpen.{Type-F}
 use Rattle.node_core.specs.declared.generics.Generics.{Generics}
 use Rattle.node_core.specs.declared.generics.GenericParam.{GenericParam}
 use Rattle.node_core.specs.declared.generics.GenericParam.TheVariants as param
 use Rattle.node_core.specs.declared.generics.LifetimeParam.{LifetimeParam}
 use Rattle.node_core.specs.declared.generics.TypeParam.{TypeParam}
-use Rattle.expr_core.specs.declared.generics.TypeParamBound.{TypeParamBound}
+use Rattle.node_expr.specs.declared.generics.TypeParamBound.{TypeParamBound}
 use Rattle.node_core.specs.declared.generics.ConstParam.{ConstParam}
 use Rattle.node_core.specs.declared.generics.WhereClause.{WhereClause}
 use Rattle.node_core.specs.declared.generics.WherePredicate.{WherePredicate}
 use Rattle.node_core.specs.declared.generics.WherePredicate.TheVariants as predicate
-use Rattle.expr_core.specs.declared.ty.«Type».{«Type» as Type', out-Type}
-use Rattle.expr_core.specs.declared.ty.FnArg.{FnArg}
+use Rattle.node_expr.specs.declared.ty.«Type».{«Type» as Type', out-Type}
+use Rattle.node_expr.specs.declared.ty.FnArg.{FnArg}
 use Rattle.print_core.specs.declared.path.PathStyle.TheVariants.{Plain}
 use Rattle.print_core.specs.Marks.{Trees, contents, ident, lifetime, mark, word, group, comma, joined, unless_empty, optional}
 use Rattle.print_core.specs.Paths.{angled, binder, sum_of}

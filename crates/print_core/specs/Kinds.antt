@@ -1,25 +1,25 @@
 -- The nodes that lead to one other kind of node: each rule of types and expressions at the nodes themselves.
 use Rattle.std.specs.Prelude.{List, map, Option, Some, None}
 use Rattle.std.specs.Option.{option_map}
-use Rattle.token_core.specs.declared.span.Span.TheVariants.{CallSite}
-use Rattle.expr_core.specs.declared.expr.Expr.{Expr}
-use Rattle.expr_core.specs.declared.expr.ExprArray.{ExprArray}
-use Rattle.expr_core.specs.declared.expr.ExprRange.{ExprRange}
-use Rattle.expr_core.specs.declared.expr.ExprClosure.{ExprClosure}
-use Rattle.expr_core.specs.declared.generics.TypeParamBound.{TypeParamBound}
-use Rattle.expr_core.specs.declared.ty.«Type».{«Type» as Type'}
-use Rattle.expr_core.specs.declared.ty.NamedArg.{NamedArg}
-use Rattle.expr_core.specs.declared.ty.ReturnType.{ReturnType}
-use Rattle.expr_core.specs.declared.ty.ReturnType.TheVariants.{Default, Ty}
-use Rattle.expr_core.specs.declared.ty.TypeReference.{TypeReference}
-use Rattle.expr_core.specs.declared.ty.TypePtr.{TypePtr}
-use Rattle.expr_core.specs.declared.ty.TypeSlice.{TypeSlice}
-use Rattle.expr_core.specs.declared.ty.TypeTuple.{TypeTuple}
-use Rattle.expr_core.specs.declared.ty.TypeParen.{TypeParen}
-use Rattle.expr_core.specs.declared.ty.TypeGroup.{TypeGroup}
-use Rattle.expr_core.specs.declared.ty.TypeFnPtr.{TypeFnPtr}
-use Rattle.expr_core.specs.declared.ty.TypeTraitObject.{TypeTraitObject}
-use Rattle.expr_core.specs.declared.ty.TypeImplTrait.{TypeImplTrait}
+use Rattle.tok_types.specs.declared.span.Span.TheVariants.{CallSite}
+use Rattle.node_expr.specs.declared.expr.Expr.{Expr}
+use Rattle.node_expr.specs.declared.expr.ExprArray.{ExprArray}
+use Rattle.node_expr.specs.declared.expr.ExprRange.{ExprRange}
+use Rattle.node_expr.specs.declared.expr.ExprClosure.{ExprClosure}
+use Rattle.node_expr.specs.declared.generics.TypeParamBound.{TypeParamBound}
+use Rattle.node_expr.specs.declared.ty.«Type».{«Type» as Type'}
+use Rattle.node_expr.specs.declared.ty.NamedArg.{NamedArg}
+use Rattle.node_expr.specs.declared.ty.ReturnType.{ReturnType}
+use Rattle.node_expr.specs.declared.ty.ReturnType.TheVariants.{Default, Ty}
+use Rattle.node_expr.specs.declared.ty.TypeReference.{TypeReference}
+use Rattle.node_expr.specs.declared.ty.TypePtr.{TypePtr}
+use Rattle.node_expr.specs.declared.ty.TypeSlice.{TypeSlice}
+use Rattle.node_expr.specs.declared.ty.TypeTuple.{TypeTuple}
+use Rattle.node_expr.specs.declared.ty.TypeParen.{TypeParen}
+use Rattle.node_expr.specs.declared.ty.TypeGroup.{TypeGroup}
+use Rattle.node_expr.specs.declared.ty.TypeFnPtr.{TypeFnPtr}
+use Rattle.node_expr.specs.declared.ty.TypeTraitObject.{TypeTraitObject}
+use Rattle.node_expr.specs.declared.ty.TypeImplTrait.{TypeImplTrait}
 use Rattle.print_core.specs.Marks.{Trees}
 use Rattle.print_core.specs.Paths.{return_of}
 use Rattle.print_core.specs.Types.{reference_rule, ptr_rule, slice_rule, type_tuple_rule, type_paren_rule, type_group_rule, named_arg_rule, fn_ptr_rule, trait_object_rule, impl_trait_rule}

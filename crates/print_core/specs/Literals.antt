@@ -1,14 +1,14 @@
 -- Literals, and what stands after the dot of a field.
 use Rattle.std.specs.Prelude.{Bool, [], ◌++◌, if◌then◌else◌, codes}
-use Rattle.token_core.specs.declared.span.Span.{Span}
-use Rattle.token_core.specs.declared.tree.Literal.{Literal}
-use Rattle.expr_core.specs.declared.lit.Lit.{Lit}
-use Rattle.expr_core.specs.declared.lit.Lit.TheVariants.{Str, ByteStr, Byte, Char, Int, Float, «Bool» as Truth, Verbatim}
-use Rattle.expr_core.specs.declared.lit.LitInt.{LitInt}
-use Rattle.expr_core.specs.declared.lit.LitFloat.{LitFloat}
-use Rattle.expr_core.specs.declared.lit.LitBool.{LitBool}
-use Rattle.expr_core.specs.declared.expr.Member.{Member}
-use Rattle.expr_core.specs.declared.expr.Member.TheVariants.{Named, Unnamed}
+use Rattle.tok_types.specs.declared.span.Span.{Span}
+use Rattle.tok_types.specs.declared.tree.Literal.{Literal}
+use Rattle.node_expr.specs.declared.lit.Lit.{Lit}
+use Rattle.node_expr.specs.declared.lit.Lit.TheVariants.{Str, ByteStr, Byte, Char, Int, Float, «Bool» as Truth, Verbatim}
+use Rattle.node_expr.specs.declared.lit.LitInt.{LitInt}
+use Rattle.node_expr.specs.declared.lit.LitFloat.{LitFloat}
+use Rattle.node_expr.specs.declared.lit.LitBool.{LitBool}
+use Rattle.node_expr.specs.declared.expr.Member.{Member}
+use Rattle.node_expr.specs.declared.expr.Member.TheVariants.{Named, Unnamed}
 use Rattle.print_core.specs.Marks.{Trees, ident, literal, mark, word}
 
 -- a number, after a minus where it is negative

@@ -1,14 +1,14 @@
 -- The tokens that the printing makes: marks, words, groups, and lists of parts.
 use Rattle.std.specs.Prelude.{ℕ, ◌==◌, Bool, true, false, if◌then◌else◌, List, [], ◌∷◌, ◌++◌, length, Option, Some, None, codes}
-use Rattle.token_core.specs.declared.span.Span.{Span}
-use Rattle.token_core.specs.declared.ident.Ident.{Ident}
-use Rattle.token_core.specs.declared.ident.Lifetime.{Lifetime}
-use Rattle.token_core.specs.declared.tree.Delimiter.{Delimiter}
-use Rattle.token_core.specs.declared.tree.Literal.{Literal}
-use Rattle.token_core.specs.declared.tree.Group.{roll-Group}
-use Rattle.token_core.specs.declared.tree.TokenTree.{TokenTree}
-use Rattle.token_core.specs.declared.tree.TokenTree.TheVariants as tree
-use Rattle.token_core.specs.declared.tree.TokenStream.{TokenStream, out-TokenStream, roll-TokenStream}
+use Rattle.tok_types.specs.declared.span.Span.{Span}
+use Rattle.tok_types.specs.declared.ident.Ident.{Ident}
+use Rattle.tok_types.specs.declared.ident.Lifetime.{Lifetime}
+use Rattle.tok_types.specs.declared.tree.Delimiter.{Delimiter}
+use Rattle.tok_types.specs.declared.tree.Literal.{Literal}
+use Rattle.tok_types.specs.declared.tree.Group.{roll-Group}
+use Rattle.tok_types.specs.declared.tree.TokenTree.{TokenTree}
+use Rattle.tok_types.specs.declared.tree.TokenTree.TheVariants as tree
+use Rattle.tok_types.specs.declared.tree.TokenStream.{TokenStream, out-TokenStream, roll-TokenStream}
 
 abbrev pub Trees : Type 0
 Trees = List TokenTree

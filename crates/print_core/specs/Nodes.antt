@@ -1,17 +1,17 @@
 -- The tokens of a node: its rule, over the tokens of its parts.
 use Rattle.std.specs.Prelude.{List}
-use Rattle.expr_core.specs.declared.expr.Expr.{Expr}
-use Rattle.expr_core.specs.declared.generics.TypeParamBound.{TypeParamBound}
-use Rattle.expr_core.specs.declared.path.GenericArgument.{GenericArgument}
-use Rattle.expr_core.specs.declared.path.PathArguments.{PathArguments}
-use Rattle.expr_core.specs.declared.ty.«Type».{«Type» as Type'}
-use Rattle.expr_core.specs.declared.expr.ExprPath.{ExprPath}
-use Rattle.expr_core.specs.declared.generics.TraitBound.{TraitBound}
-use Rattle.expr_core.specs.declared.path.Path.{Path}
-use Rattle.expr_core.specs.declared.path.PathSegment.{PathSegment}
-use Rattle.expr_core.specs.declared.ty.TypeArray.{TypeArray}
-use Rattle.expr_core.specs.declared.ty.TypePath.{TypePath}
-use Rattle.expr_core.specs.declared.expr.Expr.TheFolds.{fold-Expr, fold-TypeParamBound, fold-GenericArgument, fold-PathArguments, fold-Type, fold-ExprPath, fold-TraitBound, fold-Path, fold-PathSegment, fold-TypeArray, fold-TypePath}
+use Rattle.node_expr.specs.declared.expr.Expr.{Expr}
+use Rattle.node_expr.specs.declared.generics.TypeParamBound.{TypeParamBound}
+use Rattle.node_expr.specs.declared.path.GenericArgument.{GenericArgument}
+use Rattle.node_expr.specs.declared.path.PathArguments.{PathArguments}
+use Rattle.node_expr.specs.declared.ty.«Type».{«Type» as Type'}
+use Rattle.node_expr.specs.declared.expr.ExprPath.{ExprPath}
+use Rattle.node_expr.specs.declared.generics.TraitBound.{TraitBound}
+use Rattle.node_expr.specs.declared.path.Path.{Path}
+use Rattle.node_expr.specs.declared.path.PathSegment.{PathSegment}
+use Rattle.node_expr.specs.declared.ty.TypeArray.{TypeArray}
+use Rattle.node_expr.specs.declared.ty.TypePath.{TypePath}
+use Rattle.node_expr.specs.declared.expr.Expr.TheFolds.{fold-Expr, fold-TypeParamBound, fold-GenericArgument, fold-PathArguments, fold-Type, fold-ExprPath, fold-TraitBound, fold-Path, fold-PathSegment, fold-TypeArray, fold-TypePath}
 use Rattle.print_core.specs.declared.path.PathStyle.{PathStyle}
 use Rattle.print_core.specs.Marks.{Trees}
 use Rattle.print_core.specs.Paths.{Styled, Arguments, PathParts, path_in, path_rule, segment_rule, arguments_rule, argument_rule, bound_rule, trait_bound_rule, type_path_rule, expr_path_rule}

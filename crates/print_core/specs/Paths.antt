@@ -2,13 +2,13 @@
 --
 -- A rule has the printed tokens of a node's parts where the node has the parts.
 use Rattle.std.specs.Prelude.{ℕ, Bool, ◌==◌, if◌then◌else◌, List, [], ◌∷◌, ◌++◌, map, take, drop, Option, Some, None, codes}
-use Rattle.token_core.specs.declared.span.Span.{Span}
-use Rattle.token_core.specs.declared.ident.Lifetime.{Lifetime}
-use Rattle.token_core.specs.declared.tree.Delimiter.TheVariants.{Parenthesis}
-use Rattle.expr_core.specs.declared.path.QSelf.{QSelf}
-use Rattle.expr_core.specs.declared.ty.ReturnType.{ReturnType}
-use Rattle.expr_core.specs.declared.ty.ReturnType.TheVariants.{Default, Ty}
-use Rattle.expr_core.specs.declared.expr.Expr.TheOpen.{GenericArgument-F, PathArguments-F, Path-F, PathSegment-F, ExprPath-F, TypePath-F, TypeParamBound-F, TraitBound-F}
+use Rattle.tok_types.specs.declared.span.Span.{Span}
+use Rattle.tok_types.specs.declared.ident.Lifetime.{Lifetime}
+use Rattle.tok_types.specs.declared.tree.Delimiter.TheVariants.{Parenthesis}
+use Rattle.node_expr.specs.declared.path.QSelf.{QSelf}
+use Rattle.node_expr.specs.declared.ty.ReturnType.{ReturnType}
+use Rattle.node_expr.specs.declared.ty.ReturnType.TheVariants.{Default, Ty}
+use Rattle.node_expr.specs.declared.expr.Expr.TheOpen.{GenericArgument-F, PathArguments-F, Path-F, PathSegment-F, ExprPath-F, TypePath-F, TypeParamBound-F, TraitBound-F}
 use Rattle.print_core.specs.declared.path.PathStyle.{PathStyle}
 use Rattle.print_core.specs.declared.path.PathStyle.TheVariants.{Plain, Turbofish}
 use Rattle.print_core.specs.Marks.{Trees, ident, lifetime, mark, word, group, comma, plus, colons, after, joined, unless_empty}

@@ -1,22 +1,22 @@
 -- Types.
 use Rattle.std.specs.Prelude.{Bool, if◌then◌else◌, List, [], ◌++◌, map, Option, Some, None, codes}
 use Rattle.std.specs.Option.{option_map}
-use Rattle.token_core.specs.declared.ident.Ident.{Ident}
-use Rattle.token_core.specs.declared.span.Span.{Span}
-use Rattle.token_core.specs.declared.tree.Delimiter.TheVariants as delimiter
-use Rattle.expr_core.specs.declared.ty.NamedArg.{NamedArg}
-use Rattle.expr_core.specs.declared.ty.TypeReference.{TypeReference}
-use Rattle.expr_core.specs.declared.ty.TypePtr.{TypePtr}
-use Rattle.expr_core.specs.declared.ty.TypeSlice.{TypeSlice}
-use Rattle.expr_core.specs.declared.ty.TypeTuple.{TypeTuple}
-use Rattle.expr_core.specs.declared.ty.TypeParen.{TypeParen}
-use Rattle.expr_core.specs.declared.ty.TypeGroup.{TypeGroup}
-use Rattle.expr_core.specs.declared.ty.TypeFnPtr.{TypeFnPtr}
-use Rattle.expr_core.specs.declared.ty.TypeTraitObject.{TypeTraitObject}
-use Rattle.expr_core.specs.declared.ty.TypeImplTrait.{TypeImplTrait}
-use Rattle.expr_core.specs.declared.ty.TypeNever.{TypeNever}
-use Rattle.expr_core.specs.declared.ty.TypeInfer.{TypeInfer}
-use Rattle.expr_core.specs.declared.expr.Expr.TheOpen.{Type-F, TypeArray-F}
+use Rattle.tok_types.specs.declared.ident.Ident.{Ident}
+use Rattle.tok_types.specs.declared.span.Span.{Span}
+use Rattle.tok_types.specs.declared.tree.Delimiter.TheVariants as delimiter
+use Rattle.node_expr.specs.declared.ty.NamedArg.{NamedArg}
+use Rattle.node_expr.specs.declared.ty.TypeReference.{TypeReference}
+use Rattle.node_expr.specs.declared.ty.TypePtr.{TypePtr}
+use Rattle.node_expr.specs.declared.ty.TypeSlice.{TypeSlice}
+use Rattle.node_expr.specs.declared.ty.TypeTuple.{TypeTuple}
+use Rattle.node_expr.specs.declared.ty.TypeParen.{TypeParen}
+use Rattle.node_expr.specs.declared.ty.TypeGroup.{TypeGroup}
+use Rattle.node_expr.specs.declared.ty.TypeFnPtr.{TypeFnPtr}
+use Rattle.node_expr.specs.declared.ty.TypeTraitObject.{TypeTraitObject}
+use Rattle.node_expr.specs.declared.ty.TypeImplTrait.{TypeImplTrait}
+use Rattle.node_expr.specs.declared.ty.TypeNever.{TypeNever}
+use Rattle.node_expr.specs.declared.ty.TypeInfer.{TypeInfer}
+use Rattle.node_expr.specs.declared.expr.Expr.TheOpen.{Type-F, TypeArray-F}
 use Rattle.print_core.specs.Marks.{Trees, ident, lifetime, mark, word, group, comma, joined, tuple, optional}
 use Rattle.print_core.specs.Paths.{Styled, Arguments, PathParts, binder, sum_of, return_of}
 

@@ -3,7 +3,7 @@ use crate::push::{push_group, push_mark};
 use crate::to_tokens::ToTokens;
 use node_core::{Attribute, Meta, MetaList, MetaNameValue};
 use std::alloc::Global;
-use token_core::{Delimiter, Items, Mem, TokenTree};
+use tok_types::{Delimiter, Items, Mem, TokenTree};
 
 /// `#[meta]`
 impl ToTokens for Attribute {

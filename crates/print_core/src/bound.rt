@@ -9,7 +9,7 @@ use crate::push::{push_mark, push_plus, push_word};
 use crate::to_tokens::ToTokens;
 use node_core::{TraitBound, TypeParamBound};
 use std::alloc::Global;
-use token_core::{Items, Lifetime, Mem, Span, TokenTree};
+use tok_types::{Items, Lifetime, Mem, Span, TokenTree};
 
 impl ToTokens for TypeParamBound {
     ghost printing = { bound_tokens };

@@ -10,7 +10,7 @@ use node_core::{
     Visibility, WhereClause,
 };
 use std::alloc::Global;
-use token_core::{Delimiter, Items, Mem, TokenTree};
+use tok_types::{Delimiter, Items, Mem, TokenTree};
 
 /// Nothing, `pub`, `pub(crate)`, `pub(in path)`
 impl ToTokens for Visibility {

@@ -4,7 +4,7 @@ use crate::push::{push_mark, push_word};
 use crate::to_tokens::ToTokens;
 use node_core::{Data, DeriveInput, FnArg};
 use std::alloc::Global;
-use token_core::{Items, Mem, TokenTree};
+use tok_types::{Items, Mem, TokenTree};
 
 /// `#[attr] pub struct Name<T> where .. { a: T }`, an `enum` or a `union`
 impl ToTokens for DeriveInput {

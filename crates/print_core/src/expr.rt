@@ -10,7 +10,7 @@ use crate::to_tokens::ToTokens;
 use crate::ty::print_mutability;
 use node_core::{BinOp, Expr, ExprArray, ExprClosure, ExprPath, ExprRange, GenericArgument, UnOp};
 use std::alloc::Global;
-use token_core::{Delimiter, Items, Mem, Span, TokenTree};
+use tok_types::{Delimiter, Items, Mem, Span, TokenTree};
 
 impl ToTokens for Expr {
     ghost printing = { expr_tokens };
@@ -169,7 +169,7 @@ impl ToTokens for ExprClosure {
 
 /// Alone, with no node around it.
 impl ToTokens for UnOp {
-    ghost use Rattle.token_core.specs.declared.span.Span.TheVariants.{CallSite};
+    ghost use Rattle.tok_types.specs.declared.span.Span.TheVariants.{CallSite};
 
     ghost printing = { λ op. un_op_tokens op CallSite };
 
@@ -180,7 +180,7 @@ impl ToTokens for UnOp {
 
 /// Alone, with no node around it.
 impl ToTokens for BinOp {
-    ghost use Rattle.token_core.specs.declared.span.Span.TheVariants.{CallSite};
+    ghost use Rattle.tok_types.specs.declared.span.Span.TheVariants.{CallSite};
 
     ghost printing = { λ op. bin_op_tokens op CallSite };
 

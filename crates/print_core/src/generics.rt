@@ -11,7 +11,7 @@ use node_core::{
     ConstParam, GenericParam, Generics, LifetimeParam, Type, TypeParam, WhereClause, WherePredicate,
 };
 use std::alloc::Global;
-use token_core::{Items, Lifetime, Mem, Span, TokenTree};
+use tok_types::{Items, Lifetime, Mem, Span, TokenTree};
 
 /// `<'a, T, const N: usize>`, or nothing without parameters. The where clause prints apart.
 impl ToTokens for Generics {

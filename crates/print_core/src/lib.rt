@@ -2,7 +2,7 @@
 //!
 //! A node's tokens are those of its form in the grammar. Marks, words and groups that the printing
 //! makes have the span of their node; where the node keeps none, that of the nearest node around it
-//! that keeps one, else [`Span::CallSite`](token_core::Span::CallSite). Kept tokens stay as they are.
+//! that keeps one, else [`Span::CallSite`](tok_types::Span::CallSite). Kept tokens stay as they are.
 #![tactic(auto)]
 
 mod attr;

@@ -9,11 +9,11 @@ use crate::push::{push_mark, push_word};
 use crate::to_tokens::ToTokens;
 use node_core::{Comma, Punctuated};
 use std::alloc::Global;
-use token_core::{Items, Mem, Span, TokenTree};
+use tok_types::{Items, Mem, Span, TokenTree};
 
 /// `a, b`, with no node around it
 impl<T: ToTokens> ToTokens for Punctuated<T, Comma> {
-    ghost use Rattle.token_core.specs.declared.span.Span.TheVariants.{CallSite};
+    ghost use Rattle.tok_types.specs.declared.span.Span.TheVariants.{CallSite};
 
     ghost printing = { λ it. joined (comma CallSite) (map T.printing it.items) };
 

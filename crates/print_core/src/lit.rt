@@ -2,7 +2,7 @@ use crate::push::{push_mark, push_word};
 use crate::to_tokens::ToTokens;
 use node_core::{Lit, LitBool, LitByte, LitByteStr, LitChar, LitFloat, LitInt, LitStr, Member};
 use std::alloc::Global;
-use token_core::{Items, Mem, TokenTree};
+use tok_types::{Items, Mem, TokenTree};
 
 impl ToTokens for Lit {
     ghost use Rattle.print_core.specs.Literals.{lit_tokens};

@@ -9,7 +9,7 @@ use crate::to_tokens::ToTokens;
 use crate::ty::{print_return, print_types};
 use node_core::{GenericArgument, Path, PathArguments, PathSegment};
 use std::alloc::Global;
-use token_core::{Delimiter, Items, Mem, Span, TokenTree};
+use tok_types::{Delimiter, Items, Mem, Span, TokenTree};
 
 /// How the arguments in angles stand in a path.
 #[derive(Clone, Copy, Debug, PartialEq, Eq)]
@@ -44,7 +44,7 @@ impl ToTokens for PathSegment {
 
 /// Nothing, `<T>`, or `(A) -> B`
 impl ToTokens for PathArguments {
-    ghost use Rattle.token_core.specs.declared.span.Span.TheVariants.{CallSite};
+    ghost use Rattle.tok_types.specs.declared.span.Span.TheVariants.{CallSite};
     ghost use Rattle.print_core.specs.declared.path.PathStyle.TheVariants.{Plain};
 
     ghost printing = { λ it. arguments_tokens it Plain CallSite };

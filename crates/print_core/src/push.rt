@@ -3,7 +3,7 @@ ghost use Rattle.std.specs.Prelude.{◌≡◌, ◌++◌, OnOk};
 ghost use Rattle.print_core.specs.Marks.{mark, word, group, comma, plus, colons};
 
 use std::alloc::Global;
-use token_core::{Delimiter, Group, Ident, Items, Mem, Punct, Span, Text, TokenStream, TokenTree};
+use tok_types::{Delimiter, Group, Ident, Items, Mem, Punct, Span, Text, TokenStream, TokenTree};
 
 /// Writes the mark of these characters, each joint but the last.
 pub fn push_mark(trees: &mut Items<TokenTree>, characters: &[char], span: Span) -> Mem<()>

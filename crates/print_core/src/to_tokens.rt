@@ -1,10 +1,10 @@
 use std::alloc::Global;
-use token_core::{Items, Mem, TokenStream, TokenTree};
+use tok_types::{Items, Mem, TokenStream, TokenTree};
 
 /// What has tokens.
 pub trait ToTokens {
     ghost use Rattle.std.specs.Prelude.{◌≡◌, ◌++◌, List, IfOk, OnOk, OnErr};
-    ghost use Rattle.token_core.specs.declared.tree.TokenTree.{TokenTree};
+    ghost use Rattle.tok_types.specs.declared.tree.TokenTree.{TokenTree};
     ghost use Rattle.print_core.specs.Marks.{contents};
 
     ghost printing: { Self → List TokenTree };

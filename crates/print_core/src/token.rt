@@ -3,7 +3,7 @@ ghost use Rattle.std.specs.Prelude.{◌∷◌, []};
 
 use crate::to_tokens::ToTokens;
 use std::alloc::Global;
-use token_core::{
+use tok_types::{
     Boxed, Group, Ident, Items, Lifetime, Literal, Mem, Punct, TokenStream, TokenTree, TryClone,
 };
 
@@ -30,7 +30,7 @@ impl ToTokens for Lifetime {
 }
 
 impl ToTokens for Punct {
-    ghost use Rattle.token_core.specs.declared.tree.TokenTree.TheVariants as tree;
+    ghost use Rattle.tok_types.specs.declared.tree.TokenTree.TheVariants as tree;
 
     ghost printing = { λ it. tree.Punct it ∷ [] };
 
@@ -52,7 +52,7 @@ impl ToTokens for Literal {
 }
 
 impl ToTokens for Group {
-    ghost use Rattle.token_core.specs.declared.tree.TokenTree.TheVariants as tree;
+    ghost use Rattle.tok_types.specs.declared.tree.TokenTree.TheVariants as tree;
 
     ghost printing = { λ it. tree.Group it ∷ [] };
 

@@ -15,7 +15,7 @@ use node_core::{
     TypeTraitObject, TypeTuple,
 };
 use std::alloc::Global;
-use token_core::{Delimiter, Ident, Items, Mem, Span, TokenTree};
+use tok_types::{Delimiter, Ident, Items, Mem, Span, TokenTree};
 
 impl ToTokens for Type {
     ghost printing = { type_tokens };

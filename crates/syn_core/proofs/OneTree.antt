@@ -1,6 +1,6 @@
 -- A grammar that computes gives one tree.
 use Rattle.std.proofs.Common.{◌≡◌, Option, Some, rules, sym, ◌∙◌}
-use Rattle.token_core.specs.declared.tree.TokenStream.{TokenStream}
+use Rattle.tok_types.specs.declared.tree.TokenStream.{TokenStream}
 use Rattle.syn_core.specs.OneTree.{HaveOneTree}
 
 pub one_tree : {A : Type 0} (tree_of : TokenStream → Option A) → HaveOneTree tree_of

@@ -1,8 +1,8 @@
 -- How a public parser answers.
 use Rattle.std.specs.Prelude.{◌≡◌, ℕ, List, [], Option, Some, None, Result, Ok, Err}
-use Rattle.token_core.specs.declared.span.Span.{Span}
-use Rattle.token_core.specs.declared.tree.TokenStream.{TokenStream}
-use Rattle.span_core.specs.Spanned.{stream_span}
+use Rattle.tok_types.specs.declared.span.Span.{Span}
+use Rattle.tok_types.specs.declared.tree.TokenStream.{TokenStream}
+use Rattle.node_span.specs.Spanned.{stream_span}
 use Rattle.node_core.specs.declared.error.SynError.{SynError}
 use Rattle.syn_core.specs.declared.fail.ParseFail.{ParseFail}
 use Rattle.syn_core.specs.declared.fail.ParseFail.TheVariants.{Syn, NoMemory}

@@ -1,7 +1,7 @@
 ghost use Rattle.syn_core.specs.Parses.{Refuses, fault_at};
 
-use expr_core::Span;
 use node_core::SynError;
+use node_expr::Span;
 use std::alloc::{AllocError, AllocFailed, Global};
 
 /// Why a parser gives no tree.

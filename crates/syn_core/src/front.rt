@@ -1,28 +1,28 @@
 //! What stands at the front of tokens, with the limit of depth that every parser keeps.
 
 ghost use Rattle.std.specs.Prelude.{◌≡◌, true};
-ghost use Rattle.depth_core.specs.Depth.{expr_depth, path_depth, type_depth};
-ghost use Rattle.grammar_core.specs.Arguments as arguments;
-ghost use Rattle.grammar_core.specs.Grammar.{max_depth, within};
-ghost use Rattle.grammar_core.specs.Input as input;
-ghost use Rattle.grammar_core.specs.Paths as paths;
-ghost use Rattle.grammar_core.specs.Readers.{any_level};
-ghost use Rattle.grammar_core.specs.Reads.{Reads};
-ghost use Rattle.grammar_core.specs.Words.{name_of};
-ghost use Rattle.item_core.specs.Generics as generic_rules;
-ghost use Rattle.item_core.specs.Items as item_rules;
-ghost use Rattle.item_core.specs.Lists.{Flat};
-ghost use Rattle.item_core.specs.Visibility as visibility_rules;
-ghost use Rattle.rule_core.specs.Lists.{all_depth};
+ghost use Rattle.syn_grammar.specs.Depth.{expr_depth, path_depth, type_depth};
+ghost use Rattle.syn_grammar.specs.Arguments as arguments;
+ghost use Rattle.syn_grammar.specs.Grammar.{max_depth, within};
+ghost use Rattle.syn_grammar.specs.Input as input;
+ghost use Rattle.syn_grammar.specs.Paths as paths;
+ghost use Rattle.syn_grammar.specs.Readers.{any_level};
+ghost use Rattle.syn_grammar.specs.Reads.{Reads};
+ghost use Rattle.syn_grammar.specs.Words.{name_of};
+ghost use Rattle.syn_items.specs.Generics as generic_rules;
+ghost use Rattle.syn_items.specs.Items as item_rules;
+ghost use Rattle.syn_items.specs.Lists.{Flat};
+ghost use Rattle.syn_items.specs.Visibility as visibility_rules;
+ghost use Rattle.syn_lists.specs.Lists.{all_depth};
 
 use base_core::Items;
-use expr_core::{Expr, FnArg, Ident, Path, TokenStream, Type};
-use grammar_core::Cursor;
 use node_core::{DeriveInput, TypeParam, Visibility, WhereClause};
-use rule_core::{
+use node_expr::{Expr, FnArg, Ident, Path, TokenStream, Type};
+use std::alloc::Global;
+use syn_grammar::Cursor;
+use syn_rules::{
     ANY_LEVEL, Front, MAX_DEPTH, MAX_PATTERN, items_after, pattern, read_expr, read_path, read_type,
 };
-use std::alloc::Global;
 
 /// A type, where a `dyn` or `impl` has several bounds.
 pub(crate) fn ty(alloc: Global, tokens: &mut Cursor<'_>) -> Front<Type>
@@ -54,7 +54,7 @@ pub(crate) fn name(alloc: Global, tokens: &mut Cursor<'_>) -> Front<Ident>
 }
 
 /// One argument of a function, as deep as its type: `name: T`, `&(mut a, _): T`
-#[tactic(auto, unfolding(grammar_core::specs::Arguments::fn_arg))]
+#[tactic(auto, unfolding(syn_grammar::specs::Arguments::fn_arg))]
 fn fn_arg(alloc: Global, tokens: &mut Cursor<'_>) -> Front<FnArg>
     ensures { Reads (λ arg. type_depth arg.ty) max_depth (arguments.fn_arg (within max_depth) tokens.old) result tokens.new }
 {
@@ -125,33 +125,33 @@ pub(crate) fn path_list(alloc: Global, tokens: &mut Cursor<'_>) -> Front<Items<P
 pub(crate) fn items(alloc: Global, tokens: &mut Cursor<'_>) -> Front<Items<DeriveInput>>
     ensures { Flat (item_rules.items tokens.old) result tokens.new }
 {
-    item_core::items(alloc, tokens)
+    syn_items::items(alloc, tokens)
 }
 
 /// One item.
 pub(crate) fn item(alloc: Global, tokens: &mut Cursor<'_>) -> Front<DeriveInput>
     ensures { Flat (item_rules.item tokens.old) result tokens.new }
 {
-    item_core::item(alloc, tokens)
+    syn_items::item(alloc, tokens)
 }
 
 /// A `where` clause.
 pub(crate) fn where_clause(alloc: Global, tokens: &mut Cursor<'_>) -> Front<WhereClause>
     ensures { Flat (generic_rules.where_clause tokens.old) result tokens.new }
 {
-    item_core::where_clause(alloc, tokens)
+    syn_items::where_clause(alloc, tokens)
 }
 
 /// A visibility.
 pub(crate) fn visibility(alloc: Global, tokens: &mut Cursor<'_>) -> Front<Visibility>
     ensures { Flat (visibility_rules.visibility tokens.old) result tokens.new }
 {
-    item_core::visibility(alloc, tokens)
+    syn_items::visibility(alloc, tokens)
 }
 
 /// A type parameter.
 pub(crate) fn type_param(alloc: Global, tokens: &mut Cursor<'_>) -> Front<TypeParam>
     ensures { Flat (generic_rules.one_type_param tokens.old) result tokens.new }
 {
-    item_core::one_type_param(alloc, tokens)
+    syn_items::one_type_param(alloc, tokens)
 }

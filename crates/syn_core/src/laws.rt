@@ -1,7 +1,7 @@
 //! What every grammar promises. This function does nothing: its clauses are the law.
 
-ghost use Rattle.grammar_core.specs.Trees as trees;
-ghost use Rattle.item_core.specs.Trees as item_trees;
+ghost use Rattle.syn_grammar.specs.Trees as trees;
+ghost use Rattle.syn_items.specs.Trees as item_trees;
 ghost use Rattle.syn_core.specs.OneTree.{HaveOneTree};
 
 /// A list of tokens has at most one tree in each grammar.

@@ -8,12 +8,12 @@ mod laws;
 mod parse;
 
 pub use fail::{Parse, ParseFail};
-pub use grammar_core::lit_of;
-pub use item_core::item_front;
 pub use laws::tokens_have_one_tree;
 pub use parse::{
     parse_derive_input, parse_expr, parse_expr_array, parse_expr_path, parse_expr_range,
     parse_exprs, parse_fn_args, parse_ident, parse_idents, parse_items, parse_path, parse_paths,
     parse_type, parse_type_param, parse_visibility, parse_where,
 };
-pub use rule_core::MAX_DEPTH;
+pub use syn_grammar::lit_of;
+pub use syn_items::item_front;
+pub use syn_rules::MAX_DEPTH;

@@ -1,22 +1,21 @@
 //! The public parsers. Each reads all of the tokens, or refuses them with one fault where they stand.
 
 ghost use Rattle.std.specs.Prelude.{◌≡◌, ℕ, codes};
-ghost use Rattle.expr_core.specs.declared.expr.Expr.{out-Expr};
-ghost use Rattle.grammar_core.specs.Input.{Parser};
-ghost use Rattle.grammar_core.specs.Trees as trees;
-ghost use Rattle.item_core.specs.Trees as item_trees;
-ghost use Rattle.rule_core.specs.Lists.{ReadsItems};
+ghost use Rattle.syn_grammar.specs.Input.{Parser};
+ghost use Rattle.syn_grammar.specs.Trees as trees;
+ghost use Rattle.syn_items.specs.Trees as item_trees;
+ghost use Rattle.syn_lists.specs.Lists.{ReadsItems};
 ghost use Rattle.syn_core.specs.Parses.{Parses, Refuses, fault_over};
 
 use crate::fail::{Parse, ParseFail};
 use crate::front;
 use base_core::Items;
-use expr_core::{Expr, ExprArray, ExprPath, ExprRange, FnArg, Ident, Path, TokenStream, Type};
-use grammar_core::Cursor;
 use node_core::{DeriveInput, TypeParam, Visibility, WhereClause};
-use rule_core::{Front, all_of};
-use span_core::Spanned;
+use node_expr::{Expr, ExprArray, ExprPath, ExprRange, FnArg, Ident, Path, TokenStream, Type};
+use node_span::Spanned;
 use std::alloc::Global;
+use syn_grammar::Cursor;
+use syn_rules::{Front, all_of};
 
 /// The one fault over all of the tokens.
 fn refusal(alloc: Global, tokens: &TokenStream, text: &str) -> ParseFail
@@ -73,36 +72,36 @@ pub fn parse_ident(alloc: Global, tokens: &TokenStream) -> Parse<Ident>
 }
 
 /// An array of expressions: `[a, b]`
-#[tactic(auto, unfolding(grammar_core::specs::Trees::expr_array_of))]
+#[tactic(auto, unfolding(syn_grammar::specs::Trees::expr_array_of))]
 pub fn parse_expr_array(alloc: Global, tokens: &TokenStream) -> Parse<ExprArray>
     ensures { Parses (codes "expected an array") tokens.now (trees.expr_array_of tokens.now) result }
 {
     let expr = expr_or(alloc, tokens, "expected an array")?;
-    match as_array(expr) {
+    match expr.into_array() {
         Some(array) => Ok(array),
         None => Err(refusal(alloc, tokens, "expected an array")),
     }
 }
 
 /// A path as an expression: `a::b::<T>`, `<T as Trait>::f`
-#[tactic(auto, unfolding(grammar_core::specs::Trees::expr_path_of))]
+#[tactic(auto, unfolding(syn_grammar::specs::Trees::expr_path_of))]
 pub fn parse_expr_path(alloc: Global, tokens: &TokenStream) -> Parse<ExprPath>
     ensures { Parses (codes "expected an expression path") tokens.now (trees.expr_path_of tokens.now) result }
 {
     let expr = expr_or(alloc, tokens, "expected an expression path")?;
-    match as_path(expr) {
+    match expr.into_path() {
         Some(path) => Ok(path),
         None => Err(refusal(alloc, tokens, "expected an expression path")),
     }
 }
 
 /// A range: `a..b`, `..=b`, `..`
-#[tactic(auto, unfolding(grammar_core::specs::Trees::expr_range_of))]
+#[tactic(auto, unfolding(syn_grammar::specs::Trees::expr_range_of))]
 pub fn parse_expr_range(alloc: Global, tokens: &TokenStream) -> Parse<ExprRange>
     ensures { Parses (codes "expected a range") tokens.now (trees.expr_range_of tokens.now) result }
 {
     let expr = expr_or(alloc, tokens, "expected a range")?;
-    match as_range(expr) {
+    match expr.into_range() {
         Some(range) => Ok(range),
         None => Err(refusal(alloc, tokens, "expected a range")),
     }
@@ -186,31 +185,4 @@ fn expr_or(alloc: Global, tokens: &TokenStream, text: &str) -> Parse<Expr>
     ensures { Parses text.now tokens.now (trees.expr_of tokens.now) result }
 {
     whole(alloc, tokens, text, front::expr)
-}
-
-fn as_array(expr: Expr) -> Option<ExprArray>
-    ensures { result ≡ trees.array_in (out-Expr expr) }
-{
-    match expr {
-        Expr::Array(array) => Some(array),
-        _ => None,
-    }
-}
-
-fn as_path(expr: Expr) -> Option<ExprPath>
-    ensures { result ≡ trees.path_in (out-Expr expr) }
-{
-    match expr {
-        Expr::Path(path) => Some(path),
-        _ => None,
-    }
-}
-
-fn as_range(expr: Expr) -> Option<ExprRange>
-    ensures { result ≡ trees.range_in (out-Expr expr) }
-{
-    match expr {
-        Expr::Range(range) => Some(range),
-        _ => None,
-    }
 }

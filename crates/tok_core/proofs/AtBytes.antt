@@ -4,7 +4,7 @@ use Rattle.std.proofs.Math.Seq.{take-append_seam, drop-append_seam}
 use Rattle.std.proofs.lemmas.Str.{encodes-append}
 use Rattle.std.specs.List.{AllByRecursion}
 use Rattle.std.specs.Str.{encode_utf8_all}
-use Rattle.scan_core.specs.Characters.{Characters}
+use Rattle.tok_scan.specs.Characters.{Characters}
 use Rattle.tok_core.specs.Spells.{IsAtItsBytes, Piece, Stand}
 
 pub all_at_bytes : (bytes before : List ℕ) (from to : ℕ) (text rest : Characters) (ps : List Piece) → bytes ≡ before ++ encode_utf8_all text → length before ≡ from

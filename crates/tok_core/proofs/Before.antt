@@ -3,14 +3,14 @@ use Rattle.std.proofs.Common.{◌≡◌, inl, inr, ℕ, ◌+◌, ◌<◌, ◌≤
 use Rattle.std.proofs.lemmas.List.{append-nil}
 use Rattle.std.proofs.lemmas.Str.{encodes-append}
 use Rattle.std.specs.Str.{encode_utf8_all}
-use Rattle.scan_core.proofs.Raws.{AreClosings-drop}
-use Rattle.scan_core.specs.Characters.{Characters}
-use Rattle.scan_core.specs.Closings.{AreClosings}
-use Rattle.scan_core.specs.Pieces.{IsPieceAt}
-use Rattle.scan_core.specs.declared.ends.Closing.{Closing}
-use Rattle.scan_core.specs.declared.kind.Kind.{Kind}
-use Rattle.token_core.specs.declared.tree.Delimiter.{Delimiter}
-use Rattle.token_core.specs.declared.tree.TokenStream.{TokenStream}
+use Rattle.tok_scan.proofs.Raws.{AreClosings-drop}
+use Rattle.tok_scan.specs.Characters.{Characters}
+use Rattle.tok_scan.specs.Closings.{AreClosings}
+use Rattle.tok_scan.specs.Pieces.{IsPieceAt}
+use Rattle.tok_scan.specs.declared.ends.Closing.{Closing}
+use Rattle.tok_scan.specs.declared.kind.Kind.{Kind}
+use Rattle.tok_types.specs.declared.tree.Delimiter.{Delimiter}
+use Rattle.tok_types.specs.declared.tree.TokenStream.{TokenStream}
 use Rattle.tok_core.specs.Endings.{open_after, open_after_one, Closes, EndsAt, Refused, deep, wrong}
 use Rattle.tok_core.specs.Flat.{Flat, flat_stream}
 use Rattle.tok_core.specs.Nests.{flat_nest, open_in, Cause, IsFull, IsAmiss}

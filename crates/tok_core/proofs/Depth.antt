@@ -3,7 +3,7 @@ use Rattle.std.proofs.Common.{◌≡◌, ⊎_elim, ℕ, ◌+◌, ◌<◌, ◌≤
 use Rattle.std.proofs.lemmas.Bool.{cases_lt}
 use Rattle.std.proofs.lemmas.Bool.Decides.{nat_tests}
 use Rattle.std.proofs.lemmas.List.{append-nil}
-use Rattle.token_core.specs.declared.tree.Delimiter.{Delimiter}
+use Rattle.tok_types.specs.declared.tree.Delimiter.{Delimiter}
 use Rattle.tok_core.specs.Endings.{limit, open_after}
 use Rattle.tok_core.specs.Flat.{Flat, Tree, Trees, leaf, branch, no_trees, more_trees, closing, flat_of, flats_of, depth_of, depths_of, end_of}
 use Rattle.tok_core.proofs.Nesting.{same_delimiter-self}

@@ -4,7 +4,7 @@ use Rattle.std.proofs.lemmas.Grind.{flat_map-append}
 use Rattle.std.proofs.lemmas.List.{take_more, append-nil}
 use Rattle.std.proofs.lemmas.Str.{encodes-append}
 use Rattle.std.specs.Str.{encode_utf8_all}
-use Rattle.scan_core.specs.Characters.{Characters}
+use Rattle.tok_scan.specs.Characters.{Characters}
 use Rattle.tok_core.specs.Quoted.{escaped, quoted}
 
 -- a character more

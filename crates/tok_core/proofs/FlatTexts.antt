@@ -2,7 +2,7 @@
 use Rattle.std.proofs.Common.{◌≡◌, ℕ, Bool, true, false, ◌||◌, List, [], ◌∷◌, ◌++◌, refl, sym, ap, ◌∙◌, append_assoc}
 use Rattle.std.proofs.lemmas.List.{append-nil}
 use Rattle.std.specs.Str.{encode_utf8_all}
-use Rattle.scan_core.specs.Characters as characters
+use Rattle.tok_scan.specs.Characters as characters
 use Rattle.tok_core.specs.Flat.{Flat, token, opening, closing, Tree, Trees, leaf, branch, no_trees, more_trees, flat_of, flats_of, end_of}
 use Rattle.tok_core.specs.Printing.{token_text, joins, tree_joins, between, text_of, texts_of}
 

@@ -1,9 +1,9 @@
 -- Trees and open groups, as flat tokens.
 use Rattle.std.proofs.Common.{◌≡◌, ℕ, ◌+◌, true, List, [], ◌∷◌, ◌++◌, length, Some, refl, sym, ap, ◌∙◌, arith, append_assoc}
 use Rattle.std.proofs.lemmas.List.{append-nil}
-use Rattle.token_core.specs.declared.tree.Delimiter.{Delimiter}
-use Rattle.token_core.specs.declared.tree.Delimiter.TheVariants as delimiter
-use Rattle.token_core.specs.declared.tree.TokenTree.{TokenTree}
+use Rattle.tok_types.specs.declared.tree.Delimiter.{Delimiter}
+use Rattle.tok_types.specs.declared.tree.Delimiter.TheVariants as delimiter
+use Rattle.tok_types.specs.declared.tree.TokenTree.{TokenTree}
 use Rattle.tok_core.specs.Endings.{same_delimiter}
 use Rattle.tok_core.specs.Flat.{Flat, flat_tree, flat_trees, opening, closing}
 use Rattle.tok_core.specs.Nests.{flat_frame, flat_frames, open_over}

@@ -1,13 +1,13 @@
 -- A text has one reading.
 use Rattle.std.proofs.Common.{◌≡◌, ⊎_elim, ℕ, ◌+◌, true, false, nat_lt, List, [], ◌∷◌, ◌++◌, length, Option, Some, None, option_and_then, refl, sym, ap, ◌∙◌, subst, arith}
 use Rattle.std.specs.Str.{encode_utf8_all}
-use Rattle.scan_core.proofs.OnePiece.{same-kind, same-front, same-after, no-IsPieceAt-nil}
-use Rattle.scan_core.specs.Characters.{Characters}
-use Rattle.scan_core.specs.Pieces.{IsPieceAt}
-use Rattle.scan_core.specs.declared.kind.Kind.{Kind}
-use Rattle.scan_core.specs.declared.kind.Kind.TheVariants as kind
-use Rattle.token_core.specs.declared.tree.Delimiter.{Delimiter}
-use Rattle.token_core.specs.declared.tree.TokenStream.{TokenStream}
+use Rattle.tok_scan.proofs.OnePiece.{same-kind, same-front, same-after, no-IsPieceAt-nil}
+use Rattle.tok_scan.specs.Characters.{Characters}
+use Rattle.tok_scan.specs.Pieces.{IsPieceAt}
+use Rattle.tok_scan.specs.declared.kind.Kind.{Kind}
+use Rattle.tok_scan.specs.declared.kind.Kind.TheVariants as kind
+use Rattle.tok_types.specs.declared.tree.Delimiter.{Delimiter}
+use Rattle.tok_types.specs.declared.tree.TokenStream.{TokenStream}
 use Rattle.tok_core.specs.Endings.{limit, is_top, open_after, starts_group, Ending, done, deep, wrong, Stops, EndsAt}
 use Rattle.tok_core.specs.Flat.{Flat}
 use Rattle.tok_core.specs.Spells.{Piece, Stand, kept, token_of, tokens_of, Spells}

@@ -1,7 +1,7 @@
 -- What a reading answers, by how the text ends.
 use Rattle.std.proofs.Common.{◌≡◌, inl, inr, ℕ, [], Result, Ok, Err, IfOk, IfErr, refl, sym, ap, ◌∙◌}
-use Rattle.scan_core.specs.Characters.{Characters}
-use Rattle.token_core.specs.declared.tree.TokenStream.{TokenStream}
+use Rattle.tok_scan.specs.Characters.{Characters}
+use Rattle.tok_types.specs.declared.tree.TokenStream.{TokenStream}
 use Rattle.tok_core.specs.Endings.{open_after, Closes, IsWithin, Ending, done, deep, wrong, EndsAt, Refused, Answers}
 use Rattle.tok_core.specs.Flat.{stream_view}
 use Rattle.tok_core.specs.Spells.{Spells}

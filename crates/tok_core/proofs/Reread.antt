@@ -2,11 +2,11 @@
 use Rattle.std.proofs.Common.{◌≡◌, ℕ, true, List, [], ◌∷◌, map, Option, Some, None, option_and_then, Result, Ok, Err, IfOk, IfErr, MatchResult, chars, refl, sym, ap, ◌∙◌, subst}
 use Rattle.std.proofs.lemmas.Str.{encodes-chars, encodes_same}
 use Rattle.std.specs.Str.{IsUtf8}
-use Rattle.scan_core.specs.Characters.{Characters}
-use Rattle.token_core.specs.declared.span.Span.{Span}
-use Rattle.token_core.specs.declared.span.Span.TheVariants.{CallSite}
-use Rattle.token_core.specs.declared.tree.Delimiter.{Delimiter}
-use Rattle.token_core.specs.declared.tree.TokenStream.{TokenStream}
+use Rattle.tok_scan.specs.Characters.{Characters}
+use Rattle.tok_types.specs.declared.span.Span.{Span}
+use Rattle.tok_types.specs.declared.span.Span.TheVariants.{CallSite}
+use Rattle.tok_types.specs.declared.tree.Delimiter.{Delimiter}
+use Rattle.tok_types.specs.declared.tree.TokenStream.{TokenStream}
 use Rattle.tok_core.specs.Bare.{SameButSpans, flat_at}
 use Rattle.tok_core.specs.Endings.{open_after, open_after_one, done, deep, wrong, EndsAt, Refused}
 use Rattle.tok_core.specs.Flat.{Flat, token, opening, closing, flat_stream, stream_view}

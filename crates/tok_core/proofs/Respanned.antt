@@ -1,16 +1,16 @@
 -- The flat tokens of a stream whose spans are changed.
 use Rattle.std.proofs.Common.{◌≡◌, List, [], ◌∷◌, ◌++◌, map, refl, sym, ap, ◌∙◌, subst, rules}
 use Rattle.std.proofs.lemmas.List.{map-append}
-use Rattle.token_core.specs.declared.span.Span.{Span}
-use Rattle.token_core.specs.declared.span.Span.TheVariants.{CallSite}
-use Rattle.token_core.specs.declared.tree.Group.{Group, roll-Group}
-use Rattle.token_core.specs.declared.tree.TokenStream.{TokenStream, roll-TokenStream}
-use Rattle.token_core.specs.declared.tree.TokenTree.{TokenTree, roll-TokenTree, the_lemmas}
-use Rattle.token_core.specs.declared.tree.TokenTree.TheFolds.{fold-Group, ind-TokenStream, map-TokenTree}
-use Rattle.token_core.specs.declared.tree.TokenTree.TheOpen.{TokenTree-F, Group-F, TokenStream-F}
+use Rattle.tok_types.specs.declared.span.Span.{Span}
+use Rattle.tok_types.specs.declared.span.Span.TheVariants.{CallSite}
+use Rattle.tok_types.specs.declared.tree.Group.{Group, roll-Group}
+use Rattle.tok_types.specs.declared.tree.TokenStream.{TokenStream, roll-TokenStream}
+use Rattle.tok_types.specs.declared.tree.TokenTree.{TokenTree, roll-TokenTree, the_lemmas}
+use Rattle.tok_types.specs.declared.tree.TokenTree.TheFolds.{fold-Group, ind-TokenStream, map-TokenTree}
+use Rattle.tok_types.specs.declared.tree.TokenTree.TheOpen.{TokenTree-F, Group-F, TokenStream-F}
 use Rattle.tok_core.specs.Bare.{SameButSpans, token_at, flat_at}
 use Rattle.tok_core.specs.Flat.{opening, closing, start_of, end_of, Tree, Trees, leaf, branch, no_trees, more_trees, trees_of, tree_step, group_step, stream_step, tree_view, stream_view, flat_of, flats_of, flat_stream}
-use Rattle.token_core.specs.Respan.{group_at, tree_at, stream_at}
+use Rattle.tok_types.specs.Respan.{group_at, tree_at, stream_at}
 use Rattle.tok_core.proofs.Trees.{flat_stream-same}
 
 -- the tree with this span everywhere, and trees

@@ -5,20 +5,20 @@ use Rattle.std.proofs.lemmas.Str.{encodes-append}
 use lib.Utf8.{encode}
 use Rattle.std.specs.List.{AllByRecursion}
 use Rattle.std.specs.Str.{encode_utf8_all}
-use Rattle.scan_core.proofs.Apart.{IsPieceAt-Finds, name_kind, IsPieceAt-name, IsPieceAt-literal, IsPieceAt-lifetime, begins_mark-apart, begins_mark-joined, IsPieceAt-mark_apart, IsPieceAt-mark_joined, name-plain, name-raw}
-use Rattle.scan_core.proofs.Breaks.{IsApart}
-use Rattle.scan_core.proofs.White.{Finds-white, Finds-open, Finds-close}
-use Rattle.scan_core.specs.Characters as characters
-use Rattle.scan_core.specs.Characters.{Characters, is_mark}
-use Rattle.scan_core.specs.Pieces.{begins_mark, IsPieceAt}
-use Rattle.scan_core.specs.declared.kind.Kind.{Kind}
-use Rattle.scan_core.specs.declared.kind.Kind.TheVariants as kind
-use Rattle.token_core.specs.declared.ident.Ident.{Ident}
-use Rattle.token_core.specs.declared.span.Span.{Span}
-use Rattle.token_core.specs.declared.span.Span.TheVariants.{CallSite, At}
-use Rattle.token_core.specs.declared.tree.Delimiter.{Delimiter}
-use Rattle.token_core.specs.declared.tree.Delimiter.TheVariants as delimiter
-use Rattle.token_core.specs.declared.tree.Punct.{Punct}
+use Rattle.tok_scan.proofs.Apart.{IsPieceAt-Finds, name_kind, IsPieceAt-name, IsPieceAt-literal, IsPieceAt-lifetime, begins_mark-apart, begins_mark-joined, IsPieceAt-mark_apart, IsPieceAt-mark_joined, name-plain, name-raw}
+use Rattle.tok_scan.proofs.Breaks.{IsApart}
+use Rattle.tok_scan.proofs.White.{Finds-white, Finds-open, Finds-close}
+use Rattle.tok_scan.specs.Characters as characters
+use Rattle.tok_scan.specs.Characters.{Characters, is_mark}
+use Rattle.tok_scan.specs.Pieces.{begins_mark, IsPieceAt}
+use Rattle.tok_scan.specs.declared.kind.Kind.{Kind}
+use Rattle.tok_scan.specs.declared.kind.Kind.TheVariants as kind
+use Rattle.tok_types.specs.declared.ident.Ident.{Ident}
+use Rattle.tok_types.specs.declared.span.Span.{Span}
+use Rattle.tok_types.specs.declared.span.Span.TheVariants.{CallSite, At}
+use Rattle.tok_types.specs.declared.tree.Delimiter.{Delimiter}
+use Rattle.tok_types.specs.declared.tree.Delimiter.TheVariants as delimiter
+use Rattle.tok_types.specs.declared.tree.Punct.{Punct}
 use Rattle.tok_core.specs.Bare.{flat_at}
 use Rattle.tok_core.specs.Flat.{Flat, token, ident, lifetime, punct, literal, opening, closing}
 use Rattle.tok_core.specs.Printing.{between}

@@ -1,16 +1,16 @@
 -- A stream is determined by its flat tokens.
 use Rattle.std.proofs.Common.{◌≡◌, ℕ, List, [], ◌∷◌, ◌++◌, map, Some, refl, sym, ap, ◌∙◌, subst, append_assoc}
 use Rattle.std.proofs.lemmas.List.{append-nil}
-use Rattle.token_core.specs.declared.span.Span.{Span}
-use Rattle.token_core.specs.declared.span.Span.TheVariants.{CallSite, At}
-use Rattle.token_core.specs.declared.tree.Delimiter.{Delimiter}
-use Rattle.token_core.specs.declared.tree.Group.{Group, roll-Group}
-use Rattle.token_core.specs.declared.tree.TokenStream.{TokenStream, roll-TokenStream}
-use Rattle.token_core.specs.declared.tree.TokenTree.{TokenTree, roll-TokenTree}
-use Rattle.token_core.specs.declared.tree.TokenTree.TheFolds.{fold-Group, fold-roll-TokenTree, fold-roll-Group, fold-roll-TokenStream, ind-TokenStream, map-TokenTree}
-use Rattle.token_core.specs.declared.tree.TokenTree.TheOpen.{TokenTree-F, Group-F, TokenStream-F}
-use Rattle.token_core.specs.declared.tree.TokenTree.TheVariants as tree
-use Rattle.token_core.specs.declared.tree.TokenTree.TheVariants.{rolls-Ident, rolls-Lifetime, rolls-Punct, rolls-Literal, rolls-Group}
+use Rattle.tok_types.specs.declared.span.Span.{Span}
+use Rattle.tok_types.specs.declared.span.Span.TheVariants.{CallSite, At}
+use Rattle.tok_types.specs.declared.tree.Delimiter.{Delimiter}
+use Rattle.tok_types.specs.declared.tree.Group.{Group, roll-Group}
+use Rattle.tok_types.specs.declared.tree.TokenStream.{TokenStream, roll-TokenStream}
+use Rattle.tok_types.specs.declared.tree.TokenTree.{TokenTree, roll-TokenTree}
+use Rattle.tok_types.specs.declared.tree.TokenTree.TheFolds.{fold-Group, fold-roll-TokenTree, fold-roll-Group, fold-roll-TokenStream, ind-TokenStream, map-TokenTree}
+use Rattle.tok_types.specs.declared.tree.TokenTree.TheOpen.{TokenTree-F, Group-F, TokenStream-F}
+use Rattle.tok_types.specs.declared.tree.TokenTree.TheVariants as tree
+use Rattle.tok_types.specs.declared.tree.TokenTree.TheVariants.{rolls-Ident, rolls-Lifetime, rolls-Punct, rolls-Literal, rolls-Group}
 use Rattle.tok_core.specs.Flat.{Flat, token, ident, lifetime, punct, literal, opening, closing, Place, start_of, end_of, Tree, Trees, leaf, branch, no_trees, more_trees, trees_of, tree_step, group_step, stream_step, tree_view, stream_view, flat_of, flats_of, flat_stream}
 
 -- ---- trees by their flat tokens

@@ -1,10 +1,10 @@
 -- Tokens without their places.
 use Rattle.std.specs.Prelude.{◌≡◌}
-use Rattle.token_core.specs.declared.span.Span.{Span}
-use Rattle.token_core.specs.declared.span.Span.TheVariants.{CallSite}
-use Rattle.token_core.specs.declared.tree.TokenStream.{TokenStream}
+use Rattle.tok_types.specs.declared.span.Span.{Span}
+use Rattle.tok_types.specs.declared.span.Span.TheVariants.{CallSite}
+use Rattle.tok_types.specs.declared.tree.TokenStream.{TokenStream}
 use Rattle.tok_core.specs.Flat.{Flat, Token, ident, lifetime, punct, literal, token, opening, closing, start_of, end_of}
-use Rattle.token_core.specs.Respan.{stream_at}
+use Rattle.tok_types.specs.Respan.{stream_at}
 
 -- The streams are the same, all but their spans.
 abbrev pub SameButSpans : TokenStream → TokenStream → Type 0

@@ -1,12 +1,12 @@
 -- How deep groups may nest, and where a text that spells no tokens is refused.
 use Rattle.std.specs.Prelude.{◌≡◌, ◌≤◌, ◌<◌, ◌⊎◌, ℕ, Bool, true, false, List, [], ◌∷◌, length, drop, nat_lt, if◌then◌else◌, option_and_then, Option, Some, None, Result, Err}
-use Rattle.scan_core.specs.Characters.{Characters}
-use Rattle.scan_core.specs.Pieces.{IsPieceAt}
-use Rattle.scan_core.specs.declared.kind.Kind.{Kind}
-use Rattle.scan_core.specs.declared.kind.Kind.TheVariants as kind
-use Rattle.token_core.specs.declared.tree.Delimiter.{Delimiter}
-use Rattle.token_core.specs.declared.tree.Delimiter.TheVariants as delimiter
-use Rattle.token_core.specs.declared.tree.TokenStream.{TokenStream}
+use Rattle.tok_scan.specs.Characters.{Characters}
+use Rattle.tok_scan.specs.Pieces.{IsPieceAt}
+use Rattle.tok_scan.specs.declared.kind.Kind.{Kind}
+use Rattle.tok_scan.specs.declared.kind.Kind.TheVariants as kind
+use Rattle.tok_types.specs.declared.tree.Delimiter.{Delimiter}
+use Rattle.tok_types.specs.declared.tree.Delimiter.TheVariants as delimiter
+use Rattle.tok_types.specs.declared.tree.TokenStream.{TokenStream}
 use Rattle.tok_core.specs.Flat.{Flat, token, opening, closing, flat_stream, stream_view, depths_of}
 use Rattle.tok_core.specs.Spells.{Piece, Stand, tokens_of}
 use Rattle.tok_core.specs.declared.error.LexError.{LexError}

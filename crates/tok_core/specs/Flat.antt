@@ -1,16 +1,16 @@
 -- The flat tokens that a stream of trees stands for.
 use Rattle.std.specs.Prelude.{ℕ, suc, List, [], ◌∷◌, ◌++◌, map, Option, Some, None, max}
-use Rattle.token_core.specs.declared.ident.Ident.{Ident}
-use Rattle.token_core.specs.declared.ident.Lifetime.{Lifetime}
-use Rattle.token_core.specs.declared.span.Span.{Span}
-use Rattle.token_core.specs.declared.span.Span.TheVariants.{CallSite, At}
-use Rattle.token_core.specs.declared.tree.Delimiter.{Delimiter}
-use Rattle.token_core.specs.declared.tree.Literal.{Literal}
-use Rattle.token_core.specs.declared.tree.Punct.{Punct}
-use Rattle.token_core.specs.declared.tree.TokenStream.{TokenStream}
-use Rattle.token_core.specs.declared.tree.TokenTree.{TokenTree}
-use Rattle.token_core.specs.declared.tree.TokenTree.TheFolds.{fold-TokenTree, fold-TokenStream}
-use Rattle.token_core.specs.declared.tree.TokenTree.TheOpen.{TokenTree-F, Group-F, TokenStream-F}
+use Rattle.tok_types.specs.declared.ident.Ident.{Ident}
+use Rattle.tok_types.specs.declared.ident.Lifetime.{Lifetime}
+use Rattle.tok_types.specs.declared.span.Span.{Span}
+use Rattle.tok_types.specs.declared.span.Span.TheVariants.{CallSite, At}
+use Rattle.tok_types.specs.declared.tree.Delimiter.{Delimiter}
+use Rattle.tok_types.specs.declared.tree.Literal.{Literal}
+use Rattle.tok_types.specs.declared.tree.Punct.{Punct}
+use Rattle.tok_types.specs.declared.tree.TokenStream.{TokenStream}
+use Rattle.tok_types.specs.declared.tree.TokenTree.{TokenTree}
+use Rattle.tok_types.specs.declared.tree.TokenTree.TheFolds.{fold-TokenTree, fold-TokenStream}
+use Rattle.tok_types.specs.declared.tree.TokenTree.TheOpen.{TokenTree-F, Group-F, TokenStream-F}
 
 -- a source and one of its bytes, or none
 abbrev pub Place : Type 0

@@ -1,8 +1,8 @@
 -- The flat tokens of a text that is read in part: for private clauses.
 use Rattle.std.specs.Prelude.{◌≡◌, ℕ, true, false, nat_lt, length, List, [], ◌∷◌, ◌++◌, Some}
-use Rattle.scan_core.specs.declared.kind.Kind.{Kind}
-use Rattle.scan_core.specs.declared.kind.Kind.TheVariants as kind
-use Rattle.token_core.specs.declared.tree.Delimiter.{Delimiter}
+use Rattle.tok_scan.specs.declared.kind.Kind.{Kind}
+use Rattle.tok_scan.specs.declared.kind.Kind.TheVariants as kind
+use Rattle.tok_types.specs.declared.tree.Delimiter.{Delimiter}
 use Rattle.tok_core.specs.Endings.{limit, is_top, starts_group}
 use Rattle.tok_core.specs.Flat.{Flat, opening, flat_trees}
 use Rattle.tok_core.specs.declared.error.LexError.{LexError}

@@ -1,9 +1,9 @@
 -- The text of tokens.
 use Rattle.std.specs.Prelude.{ℕ, Bool, true, false, if◌then◌else◌, List, [], ◌++◌, codes, encode_utf8}
 use Rattle.std.specs.Str.{encode_utf8_all}
-use Rattle.scan_core.specs.Characters as characters
-use Rattle.token_core.specs.Ident.{ident_text}
-use Rattle.token_core.specs.declared.tree.TokenStream.{TokenStream}
+use Rattle.tok_scan.specs.Characters as characters
+use Rattle.tok_types.specs.Ident.{ident_text}
+use Rattle.tok_types.specs.declared.tree.TokenStream.{TokenStream}
 use Rattle.tok_core.specs.Flat.{Token, ident, lifetime, punct, literal, Tree, Trees, leaf, branch, no_trees, more_trees, stream_view}
 
 -- a token as it is written

@@ -1,6 +1,6 @@
 -- A text as a string literal.
 use Rattle.std.specs.Prelude.{ℕ, ◌==◌, if◌then◌else◌, [], ◌∷◌, ◌++◌, flat_map, codes}
-use Rattle.scan_core.specs.Characters.{Characters}
+use Rattle.tok_scan.specs.Characters.{Characters}
 
 -- a character of it: `\`, `"`, line feed, carriage return, tab and NUL by an escape, any other as it is
 abbrev pub escaped : ℕ → Characters

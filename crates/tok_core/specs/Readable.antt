@@ -2,14 +2,14 @@
 use Rattle.std.specs.Prelude.{◌≡◌, ℕ, Bool, true, false, ◌&&◌, ◌||◌, ◌==◌, if◌then◌else◌, List, [], ◌∷◌}
 use Rattle.std.specs.List.{AllByRecursion}
 use Rattle.std.specs.Str.{encode_utf8_all}
-use Rattle.scan_core.specs.Characters.{Characters, is_mark}
-use Rattle.scan_core.specs.Pieces.{IsPieceAt}
-use Rattle.scan_core.specs.declared.kind.Kind.{Kind}
-use Rattle.scan_core.specs.declared.kind.Kind.TheVariants as kind
-use Rattle.token_core.specs.Ident.{ident_text}
-use Rattle.token_core.specs.declared.ident.Ident.{Ident}
-use Rattle.token_core.specs.declared.tree.Delimiter.TheVariants as delimiter
-use Rattle.token_core.specs.declared.tree.TokenStream.{TokenStream}
+use Rattle.tok_scan.specs.Characters.{Characters, is_mark}
+use Rattle.tok_scan.specs.Pieces.{IsPieceAt}
+use Rattle.tok_scan.specs.declared.kind.Kind.{Kind}
+use Rattle.tok_scan.specs.declared.kind.Kind.TheVariants as kind
+use Rattle.tok_types.specs.Ident.{ident_text}
+use Rattle.tok_types.specs.declared.ident.Ident.{Ident}
+use Rattle.tok_types.specs.declared.tree.Delimiter.TheVariants as delimiter
+use Rattle.tok_types.specs.declared.tree.TokenStream.{TokenStream}
 use Rattle.tok_core.specs.Endings.{IsWithin}
 use Rattle.tok_core.specs.Flat.{Flat, token, ident, lifetime, punct, literal, opening, closing, flat_stream}
 

@@ -1,15 +1,15 @@
 -- Which tokens a text spells.
 use Rattle.std.specs.Prelude.{◌≡◌, ℕ, ◌+◌, ◌-◌, true, false, ◌&&◌, ◌==◌, if◌then◌else◌, List, [], ◌∷◌, ◌++◌, length, take, drop, slice_index, slice_range, codes, Some}
 use Rattle.std.specs.Str.{encode_utf8_all}
-use Rattle.scan_core.specs.Characters.{Characters}
-use Rattle.scan_core.specs.Pieces.{IsPieceAt}
-use Rattle.scan_core.specs.declared.kind.Kind.{Kind}
-use Rattle.scan_core.specs.declared.kind.Kind.TheVariants as kind
-use Rattle.token_core.specs.declared.ident.Ident.{Ident}
-use Rattle.token_core.specs.declared.span.Span.{Span}
-use Rattle.token_core.specs.declared.span.Span.TheVariants.{At}
-use Rattle.token_core.specs.declared.tree.Delimiter.TheVariants as delimiter
-use Rattle.token_core.specs.declared.tree.TokenStream.{TokenStream}
+use Rattle.tok_scan.specs.Characters.{Characters}
+use Rattle.tok_scan.specs.Pieces.{IsPieceAt}
+use Rattle.tok_scan.specs.declared.kind.Kind.{Kind}
+use Rattle.tok_scan.specs.declared.kind.Kind.TheVariants as kind
+use Rattle.tok_types.specs.declared.ident.Ident.{Ident}
+use Rattle.tok_types.specs.declared.span.Span.{Span}
+use Rattle.tok_types.specs.declared.span.Span.TheVariants.{At}
+use Rattle.tok_types.specs.declared.tree.Delimiter.TheVariants as delimiter
+use Rattle.tok_types.specs.declared.tree.TokenStream.{TokenStream}
 use Rattle.tok_core.specs.Flat.{Flat, token, ident, lifetime, punct, literal, opening, closing, start_of, end_of, flat_stream}
 use Rattle.tok_core.specs.Quoted.{quoted}
 

@@ -2,13 +2,13 @@
 ghost use Rattle.std.specs.Prelude.{◌≡◌, ℕ, List, [], chars, map};
 ghost use Rattle.std.specs.List.{AllByRecursion};
 ghost use Rattle.std.specs.Str.{IsUtf8};
-ghost use Rattle.scan_core.specs.Characters.{Characters};
+ghost use Rattle.tok_scan.specs.Characters.{Characters};
 ghost use Rattle.tok_core.specs.Bare.{flat_at};
 ghost use Rattle.tok_core.specs.Flat.{flat_stream};
-ghost use Rattle.token_core.specs.Respan.{stream_at};
+ghost use Rattle.tok_types.specs.Respan.{stream_at};
 ghost use Rattle.tok_core.specs.Spells.{IsAtItsBytes, Piece, Spells, Stand};
-ghost use Rattle.token_core.specs.declared.span.Span.{Span};
-ghost use Rattle.token_core.specs.declared.tree.TokenStream.{TokenStream};
+ghost use Rattle.tok_types.specs.declared.span.Span.{Span};
+ghost use Rattle.tok_types.specs.declared.tree.TokenStream.{TokenStream};
 
 /// Two streams with the same flat tokens are one.
 pub fn flat_tokens_tell_the_stream()

@@ -12,8 +12,6 @@ mod printing;
 mod quoting;
 mod reading;
 mod spans;
-#[cfg(test)]
-mod tests;
 mod token;
 
 pub use error::LexError;
@@ -25,7 +23,7 @@ pub use printing::{read_again, to_text};
 pub use quoting::quoted;
 pub use reading::lex;
 pub use spans::respan;
-pub use token_core::{
+pub use tok_types::{
     Boxed, Delimiter, Group, Ident, Items, Lifetime, Literal, Mem, Punct, Span, Text, TokenStream,
     TokenTree, TryClone,
 };

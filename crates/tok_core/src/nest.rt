@@ -7,9 +7,9 @@ ghost use Rattle.tok_core.specs.Spells.{doc_tokens, token_of};
 
 use crate::error::LexError;
 use crate::token;
-use scan_core::Kind;
 use std::alloc::Global;
-use token_core::{Delimiter, Items, Mem, Span, TokenStream, TokenTree};
+use tok_scan::Kind;
+use tok_types::{Delimiter, Items, Mem, Span, TokenStream, TokenTree};
 
 /// How many groups may be open at once.
 const MAX_OPEN: usize = 128;

@@ -8,9 +8,9 @@ ghost use Rattle.tok_core.specs.Spells.{Spells};
 
 use crate::error::LexError;
 use crate::reading::lex;
-use scan_core::{closing, opening};
 use std::alloc::Global;
-use token_core::{Mem, Text, TokenStream, TokenTree};
+use tok_scan::{closing, opening};
+use tok_types::{Mem, Text, TokenStream, TokenTree};
 
 /// The text of the tokens: each as it is written, a group between its delimiters, with one space
 /// between two neighbours and none after a joint mark.

@@ -3,13 +3,13 @@ ghost use Rattle.std.specs.Str.{chars, encode_utf8_all};
 ghost use Rattle.tok_core.specs.Endings.{Answers, Closes, EndsAt, IsWithin, Refused, deep, wrong};
 ghost use Rattle.tok_core.specs.Spells as spec;
 ghost use Rattle.tok_core.specs.Spells.{Spells};
-ghost use Rattle.token_core.specs.declared.tree.TokenStream.{TokenStream};
+ghost use Rattle.tok_types.specs.declared.tree.TokenStream.{TokenStream};
 
 use crate::error::LexError;
 use crate::nest::Nest;
-use scan_core::{Kind, behind, byte_length, characters, closings, piece_with};
 use std::alloc::Global;
-use token_core::TokenStream;
+use tok_scan::{Kind, behind, byte_length, characters, closings, piece_with};
+use tok_types::TokenStream;
 
 /// What the tokens of a piece keep of its characters where `after` follows: all, but of a
 /// documentation comment a carriage return before its line feed.

@@ -1,7 +1,7 @@
 ghost use Rattle.std.specs.Prelude.{◌≡◌, map};
-ghost use Rattle.token_core.specs.Respan.{stream_at, tree_at};
+ghost use Rattle.tok_types.specs.Respan.{stream_at, tree_at};
 
-use token_core::{Group, Ident, Items, Lifetime, Literal, Punct, Span, TokenStream, TokenTree};
+use tok_types::{Items, Punct, Span, TokenStream, TokenTree};
 
 /// Puts `span` in the place of every span. It takes no memory.
 pub fn respan(tokens: &mut TokenStream, span: Span)
@@ -10,38 +10,18 @@ pub fn respan(tokens: &mut TokenStream, span: Span)
     respan_trees(&mut tokens.trees, span);
 }
 
-fn respan_ident(ident: Ident, span: Span) -> Ident
-    ensures { result ≡ record ident { span = span } }
-{
-    let Ident { text, raw, .. } = ident;
-    Ident { text, raw, span }
-}
-
 #[cycle(respan)]
-fn respan_tree(tree: TokenTree, span: Span) -> TokenTree
-    ensures { result ≡ tree_at span tree }
+fn respan_tree(tree: &mut TokenTree, span: Span)
+    ensures { tree.new ≡ tree_at span tree.old }
 {
     match tree {
-        TokenTree::Ident(it) => TokenTree::Ident(respan_ident(it, span)),
-        TokenTree::Lifetime(Lifetime { ident }) => TokenTree::Lifetime(Lifetime {
-            ident: respan_ident(ident, span),
-        }),
-        TokenTree::Punct(Punct { ch, joint, .. }) => TokenTree::Punct(Punct { ch, joint, span }),
-        TokenTree::Literal(Literal { text, .. }) => TokenTree::Literal(Literal { text, span }),
-        TokenTree::Group(
-            Group {
-                delimiter,
-                stream: TokenStream { mut trees },
-                ..
-            },
-        ) => {
-            respan_trees(&mut trees, span);
-            let stream = TokenStream { trees };
-            TokenTree::Group(Group {
-                delimiter,
-                stream,
-                span,
-            })
+        TokenTree::Ident(it) => it.span = span,
+        TokenTree::Lifetime(it) => it.ident.span = span,
+        TokenTree::Punct(it) => it.span = span,
+        TokenTree::Literal(it) => it.span = span,
+        TokenTree::Group(it) => {
+            respan_trees(&mut it.stream.trees, span);
+            it.span = span;
         }
     }
 }
@@ -54,7 +34,8 @@ fn respan_trees(trees: &mut Items<TokenTree>, span: Span)
     for i in 0..trees.len() {
         let ch = ' ';
         let joint = false;
-        let tree = trees.replace(i, TokenTree::Punct(Punct { ch, joint, span }));
-        trees.set(i, respan_tree(tree, span));
+        let mut tree = trees.replace(i, TokenTree::Punct(Punct { ch, joint, span }));
+        respan_tree(&mut tree, span);
+        trees.set(i, tree);
     }
 }

@@ -7,7 +7,7 @@ ghost use Rattle.tok_core.specs.Spells.{doc_tokens, ident_of};
 
 use crate::quoting::quoted_characters;
 use std::alloc::Global;
-use token_core::{
+use tok_types::{
     Delimiter, Group, Ident, Items, Lifetime, Literal, Mem, Punct, Span, Text, TokenStream,
     TokenTree,
 };
@@ -15,7 +15,7 @@ use token_core::{
 fn name(alloc: Global, characters: &[char], raw: bool, span: Span) -> Mem<Ident>
     ensures { IfOk result (λ it. it ≡ record { text = encode_utf8_all characters.now; raw = raw; span = span }) }
 {
-    let text = Text::from_string(scan_core::text_of(alloc, characters)?);
+    let text = Text::from_string(tok_scan::text_of(alloc, characters)?);
     Ok(Ident { text, raw, span })
 }
 
@@ -55,7 +55,7 @@ pub(crate) fn literal(alloc: Global, characters: &[char], span: Span) -> Mem<Tok
     ensures { IfOk result (λ t. flat_tree t
         ≡ flat.token (flat.literal (record { text = encode_utf8_all characters.now; span = span })) ∷ []) }
 {
-    let text = Text::from_string(scan_core::text_of(alloc, characters)?);
+    let text = Text::from_string(tok_scan::text_of(alloc, characters)?);
     Ok(TokenTree::Literal(Literal { text, span }))
 }
 

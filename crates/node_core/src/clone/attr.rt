@@ -1,6 +1,6 @@
 use crate::attr::{Attribute, Meta, MetaList, MetaNameValue};
 use std::alloc::Global;
-use token_core::{Mem, TryClone};
+use tok_types::{Mem, TryClone};
 
 impl TryClone for Attribute {
     fn try_clone(&self, alloc: Global) -> Mem<Attribute> {

@@ -3,7 +3,7 @@ use crate::data::{
     Visibility,
 };
 use std::alloc::Global;
-use token_core::{Mem, TryClone};
+use tok_types::{Mem, TryClone};
 
 impl TryClone for Visibility {
     fn try_clone(&self, alloc: Global) -> Mem<Visibility> {

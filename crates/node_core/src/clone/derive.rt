@@ -1,6 +1,6 @@
 use crate::derive::DeriveInput;
 use std::alloc::Global;
-use token_core::{Mem, TryClone};
+use tok_types::{Mem, TryClone};
 
 impl TryClone for DeriveInput {
     fn try_clone(&self, alloc: Global) -> Mem<DeriveInput> {

@@ -2,7 +2,7 @@ use crate::generics::{
     ConstParam, GenericParam, Generics, LifetimeParam, TypeParam, WhereClause, WherePredicate,
 };
 use std::alloc::Global;
-use token_core::{Mem, TryClone};
+use tok_types::{Mem, TryClone};
 
 impl TryClone for Generics {
     fn try_clone(&self, alloc: Global) -> Mem<Generics> {

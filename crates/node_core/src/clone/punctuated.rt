@@ -1,7 +1,7 @@
 use crate::punctuated::{Comma, Punctuated};
 use std::alloc::Global;
 use std::marker::PhantomData;
-use token_core::{Mem, TryClone};
+use tok_types::{Mem, TryClone};
 
 impl<T: TryClone + Drop, P> TryClone for Punctuated<T, P> {
     fn try_clone(&self, alloc: Global) -> Mem<Punctuated<T, P>> {

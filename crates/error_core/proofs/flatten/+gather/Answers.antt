@@ -13,4 +13,4 @@ returns-in-None n c =
     omega (arith, c.loop-child.child-iterator.rest.ok, c.in-None.ensures.steps.0) in
     let done = gather_done c.in-Many.errors.items c.loop-child.yielded (into_iter_items c.loop-child.child-iterator) c.args.above.now c.error.inside.locations c.error.inside.span c.args.error (sym it ∙ c.loop-child.invariant.2) none two is in
     c.loop-child.invariant.3 ∙ ap (λ faults. c.args.faults.now ++ faults)
-    (ap (λ path. map (below path) (held c.loop-child.yielded)) (c.path.view_is ∙ c.in_ok-path.ensures) ∙ done)
+    (ap (λ path. map (below path) (held c.loop-child.yielded)) c.in_ok-path.ensures ∙ done)

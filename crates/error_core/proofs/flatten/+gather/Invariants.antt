@@ -11,4 +11,4 @@ invariant-loop-child l =
     (goal.iterator-loop-child).can_next l.child-iterator ×
     (goal.iterator-loop-child).is_finite l.child-iterator ×
     (into_iter_items l.initial.child-iterator ≡ l.yielded ++ into_iter_items l.child-iterator) ×
-    (l.faults ≡ l.initial.faults ++ map (below l.path-inside.vec.items) (held l.yielded))
+    (l.faults ≡ l.initial.faults ++ map (below l.path) (held l.yielded))

@@ -1,7 +1,7 @@
 use Rattle.std.proofs.Common.{rules, arith, true}
-use Rattle.depth_core.specs.Depth.{expr_depth}
-use Rattle.grammar_core.specs.Grammar.{max_depth, within}
-use Rattle.grammar_core.specs.Readers.{any_level}
+use Rattle.syn_grammar.specs.Depth.{expr_depth}
+use Rattle.syn_grammar.specs.Grammar.{max_depth, within}
+use Rattle.syn_grammar.specs.Readers.{any_level}
 use Rattle.syn_core.proofs.front.exprs.Goals as goal
 
 pub returns : goal.returns

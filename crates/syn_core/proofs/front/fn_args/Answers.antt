@@ -1,7 +1,7 @@
 use Rattle.std.proofs.Common.{rules, arith, true}
-use Rattle.depth_core.specs.Depth.{type_depth}
-use Rattle.grammar_core.specs.Arguments.{fn_arg}
-use Rattle.grammar_core.specs.Grammar.{max_depth, within}
+use Rattle.syn_grammar.specs.Depth.{type_depth}
+use Rattle.syn_grammar.specs.Arguments.{fn_arg}
+use Rattle.syn_grammar.specs.Grammar.{max_depth, within}
 use Rattle.syn_core.proofs.front.fn_args.Goals as goal
 
 pub returns : goal.returns

@@ -1,6 +1,6 @@
 use Rattle.std.proofs.Common.{rules, arith, true}
-use Rattle.grammar_core.specs.Input.{take_as}
-use Rattle.grammar_core.specs.Words.{name_of}
+use Rattle.syn_grammar.specs.Input.{take_as}
+use Rattle.syn_grammar.specs.Words.{name_of}
 use Rattle.syn_core.proofs.front.names.Goals as goal
 
 pub returns : goal.returns

@@ -1,7 +1,7 @@
 use Rattle.std.proofs.Common.{rules, arith, true}
-use Rattle.depth_core.specs.Depth.{path_depth}
-use Rattle.grammar_core.specs.Grammar.{max_depth, within}
-use Rattle.grammar_core.specs.Paths.{path}
+use Rattle.syn_grammar.specs.Depth.{path_depth}
+use Rattle.syn_grammar.specs.Grammar.{max_depth, within}
+use Rattle.syn_grammar.specs.Paths.{path}
 use Rattle.syn_core.proofs.front.path_list.Goals as goal
 
 pub returns : goal.returns

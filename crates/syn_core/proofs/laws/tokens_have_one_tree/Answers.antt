@@ -1,5 +1,5 @@
-use Rattle.grammar_core.specs.Trees.{type_of, path_of, expr_of, ident_of, expr_array_of, expr_path_of, expr_range_of, fn_args_of, exprs_of, idents_of, paths_of}
-use Rattle.item_core.specs.Trees.{derive_input_of, items_of, type_param_of, visibility_of, where_of}
+use Rattle.syn_grammar.specs.Trees.{type_of, path_of, expr_of, ident_of, expr_array_of, expr_path_of, expr_range_of, fn_args_of, exprs_of, idents_of, paths_of}
+use Rattle.syn_items.specs.Trees.{derive_input_of, items_of, type_param_of, visibility_of, where_of}
 use Rattle.syn_core.proofs.OneTree.{one_tree}
 use Rattle.syn_core.proofs.laws.tokens_have_one_tree.Goals as goal
 

@@ -1,8 +1,8 @@
 use Rattle.std.proofs.Common.{rules, true}
-use Rattle.depth_core.specs.Depth.{expr_depth}
-use Rattle.grammar_core.specs.Grammar.{max_depth, within}
-use Rattle.grammar_core.specs.Readers.{any_level}
-use Rattle.grammar_core.specs.Trees.{expr_of}
+use Rattle.syn_grammar.specs.Depth.{expr_depth}
+use Rattle.syn_grammar.specs.Grammar.{max_depth, within}
+use Rattle.syn_grammar.specs.Readers.{any_level}
+use Rattle.syn_grammar.specs.Trees.{expr_of}
 use Rattle.syn_core.proofs.parse.expr_or.Goals as goal
 
 pub returns : goal.returns

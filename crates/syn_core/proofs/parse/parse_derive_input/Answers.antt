@@ -1,6 +1,6 @@
 use Rattle.std.proofs.Common.{rules, true}
-use Rattle.item_core.specs.Items.{item}
-use Rattle.item_core.specs.Trees.{derive_input_of}
+use Rattle.syn_items.specs.Items.{item}
+use Rattle.syn_items.specs.Trees.{derive_input_of}
 use Rattle.syn_core.proofs.parse.parse_derive_input.Goals as goal
 
 pub returns : goal.returns

@@ -1,10 +1,10 @@
 use Rattle.std.proofs.Common.{rules, true}
-use Rattle.depth_core.specs.Depth.{expr_depth}
-use Rattle.grammar_core.specs.Grammar.{max_depth, within}
-use Rattle.grammar_core.specs.Readers.{any_level}
-use Rattle.grammar_core.specs.Paths.{list}
-use Rattle.rule_core.specs.Lists.{all_depth}
-use Rattle.grammar_core.specs.Trees.{exprs_of}
+use Rattle.syn_grammar.specs.Depth.{expr_depth}
+use Rattle.syn_grammar.specs.Grammar.{max_depth, within}
+use Rattle.syn_grammar.specs.Readers.{any_level}
+use Rattle.syn_grammar.specs.Paths.{list}
+use Rattle.syn_lists.specs.Lists.{all_depth}
+use Rattle.syn_grammar.specs.Trees.{exprs_of}
 use Rattle.syn_core.proofs.parse.parse_exprs.Goals as goal
 
 pub returns : goal.returns

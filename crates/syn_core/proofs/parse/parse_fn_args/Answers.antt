@@ -1,10 +1,10 @@
 use Rattle.std.proofs.Common.{rules, true}
-use Rattle.depth_core.specs.Depth.{type_depth}
-use Rattle.grammar_core.specs.Arguments.{fn_arg}
-use Rattle.grammar_core.specs.Grammar.{max_depth, within}
-use Rattle.grammar_core.specs.Paths.{list}
-use Rattle.rule_core.specs.Lists.{all_depth}
-use Rattle.grammar_core.specs.Trees.{fn_args_of}
+use Rattle.syn_grammar.specs.Depth.{type_depth}
+use Rattle.syn_grammar.specs.Arguments.{fn_arg}
+use Rattle.syn_grammar.specs.Grammar.{max_depth, within}
+use Rattle.syn_grammar.specs.Paths.{list}
+use Rattle.syn_lists.specs.Lists.{all_depth}
+use Rattle.syn_grammar.specs.Trees.{fn_args_of}
 use Rattle.syn_core.proofs.parse.parse_fn_args.Goals as goal
 
 pub returns : goal.returns

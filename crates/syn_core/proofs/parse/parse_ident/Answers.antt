@@ -1,7 +1,7 @@
 use Rattle.std.proofs.Common.{rules, true}
-use Rattle.grammar_core.specs.Input.{take_as}
-use Rattle.grammar_core.specs.Words.{name_of}
-use Rattle.grammar_core.specs.Trees.{ident_of}
+use Rattle.syn_grammar.specs.Input.{take_as}
+use Rattle.syn_grammar.specs.Words.{name_of}
+use Rattle.syn_grammar.specs.Trees.{ident_of}
 use Rattle.syn_core.proofs.parse.parse_ident.Goals as goal
 
 pub returns : goal.returns

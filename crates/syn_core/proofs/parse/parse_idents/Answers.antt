@@ -1,9 +1,9 @@
 use Rattle.std.proofs.Common.{rules, true}
-use Rattle.grammar_core.specs.Input.{take_as}
-use Rattle.grammar_core.specs.Words.{name_of}
-use Rattle.grammar_core.specs.Paths.{list}
-use Rattle.rule_core.specs.Lists.{all_depth}
-use Rattle.grammar_core.specs.Trees.{idents_of}
+use Rattle.syn_grammar.specs.Input.{take_as}
+use Rattle.syn_grammar.specs.Words.{name_of}
+use Rattle.syn_grammar.specs.Paths.{list}
+use Rattle.syn_lists.specs.Lists.{all_depth}
+use Rattle.syn_grammar.specs.Trees.{idents_of}
 use Rattle.syn_core.proofs.parse.parse_idents.Goals as goal
 
 pub returns : goal.returns

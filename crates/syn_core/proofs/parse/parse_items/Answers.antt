@@ -1,6 +1,6 @@
 use Rattle.std.proofs.Common.{rules, true}
-use Rattle.item_core.specs.Items.{items}
-use Rattle.item_core.specs.Trees.{items_of}
+use Rattle.syn_items.specs.Items.{items}
+use Rattle.syn_items.specs.Trees.{items_of}
 use Rattle.syn_core.proofs.parse.parse_items.Goals as goal
 
 pub returns : goal.returns

@@ -1,8 +1,8 @@
 use Rattle.std.proofs.Common.{rules, true}
-use Rattle.depth_core.specs.Depth.{path_depth}
-use Rattle.grammar_core.specs.Grammar.{max_depth, within}
-use Rattle.grammar_core.specs.Paths.{path}
-use Rattle.grammar_core.specs.Trees.{path_of}
+use Rattle.syn_grammar.specs.Depth.{path_depth}
+use Rattle.syn_grammar.specs.Grammar.{max_depth, within}
+use Rattle.syn_grammar.specs.Paths.{path}
+use Rattle.syn_grammar.specs.Trees.{path_of}
 use Rattle.syn_core.proofs.parse.parse_path.Goals as goal
 
 pub returns : goal.returns

@@ -1,9 +1,9 @@
 use Rattle.std.proofs.Common.{rules, true}
-use Rattle.depth_core.specs.Depth.{path_depth}
-use Rattle.grammar_core.specs.Grammar.{max_depth, within}
-use Rattle.grammar_core.specs.Paths.{list, path}
-use Rattle.rule_core.specs.Lists.{all_depth}
-use Rattle.grammar_core.specs.Trees.{paths_of}
+use Rattle.syn_grammar.specs.Depth.{path_depth}
+use Rattle.syn_grammar.specs.Grammar.{max_depth, within}
+use Rattle.syn_grammar.specs.Paths.{list, path}
+use Rattle.syn_lists.specs.Lists.{all_depth}
+use Rattle.syn_grammar.specs.Trees.{paths_of}
 use Rattle.syn_core.proofs.parse.parse_paths.Goals as goal
 
 pub returns : goal.returns

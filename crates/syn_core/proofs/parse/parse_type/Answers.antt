@@ -1,7 +1,7 @@
 use Rattle.std.proofs.Common.{rules, true}
-use Rattle.depth_core.specs.Depth.{type_depth}
-use Rattle.grammar_core.specs.Grammar.{max_depth, within}
-use Rattle.grammar_core.specs.Trees.{type_of}
+use Rattle.syn_grammar.specs.Depth.{type_depth}
+use Rattle.syn_grammar.specs.Grammar.{max_depth, within}
+use Rattle.syn_grammar.specs.Trees.{type_of}
 use Rattle.syn_core.proofs.parse.parse_type.Goals as goal
 
 pub returns : goal.returns

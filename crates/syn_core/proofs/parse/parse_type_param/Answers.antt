@@ -1,6 +1,6 @@
 use Rattle.std.proofs.Common.{rules, true}
-use Rattle.item_core.specs.Generics.{one_type_param}
-use Rattle.item_core.specs.Trees.{type_param_of}
+use Rattle.syn_items.specs.Generics.{one_type_param}
+use Rattle.syn_items.specs.Trees.{type_param_of}
 use Rattle.syn_core.proofs.parse.parse_type_param.Goals as goal
 
 pub returns : goal.returns

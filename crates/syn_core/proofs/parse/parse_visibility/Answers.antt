@@ -1,6 +1,6 @@
 use Rattle.std.proofs.Common.{rules, true}
-use Rattle.item_core.specs.Visibility.{visibility}
-use Rattle.item_core.specs.Trees.{visibility_of}
+use Rattle.syn_items.specs.Visibility.{visibility}
+use Rattle.syn_items.specs.Trees.{visibility_of}
 use Rattle.syn_core.proofs.parse.parse_visibility.Goals as goal
 
 pub returns : goal.returns

@@ -1,6 +1,6 @@
 use Rattle.std.proofs.Common.{rules, true}
-use Rattle.item_core.specs.Generics.{where_clause}
-use Rattle.item_core.specs.Trees.{where_of}
+use Rattle.syn_items.specs.Generics.{where_clause}
+use Rattle.syn_items.specs.Trees.{where_of}
 use Rattle.syn_core.proofs.parse.parse_where.Goals as goal
 
 pub returns : goal.returns

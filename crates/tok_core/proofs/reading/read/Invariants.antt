@@ -1,5 +1,5 @@
 use Rattle.std.proofs.Common.{length}
-use Rattle.scan_core.specs.Closings.{AreClosings}
+use Rattle.tok_scan.specs.Closings.{AreClosings}
 use Rattle.tok_core.proofs.Before.{Before}
 use Rattle.tok_core.proofs.reading.read.Given as goal
 

@@ -1,5 +1,5 @@
 use Rattle.std.proofs.Common.{add-one}
-use Rattle.token_core.specs.Respan.{tree_at}
+use Rattle.tok_types.specs.Respan.{tree_at}
 use Rattle.tok_core.proofs.Lists.{slice_set-map_take}
 use Rattle.tok_core.proofs.spans.+respan.Goals as goal
 

@@ -1,5 +1,5 @@
 use Rattle.std.proofs.Common.{◌≡◌, ◌++◌, take, drop, map}
-use Rattle.token_core.specs.Respan.{tree_at}
+use Rattle.tok_types.specs.Respan.{tree_at}
 use Rattle.tok_core.proofs.spans.+respan.Given as goal
 
 abbrev pub invariant-respan_trees-loop-i : goal.invariant-respan_trees-loop-i

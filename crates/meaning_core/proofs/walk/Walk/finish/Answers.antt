@@ -1,6 +1,6 @@
 use Rattle.std.proofs.Common.{◌≡◌, ◌≢◌, ◌<◌, ◌≤◌, ◌∙◌, [], ◌++◌, List, length, ap, sym, refl, true≢false, arith}
 use Rattle.std.proofs.lemmas.List.{length-set}
-use Rattle.fault_core.specs.Outcome.{Value, settle}
+use Rattle.error_fault.specs.Outcome.{Value, settle}
 use Rattle.meaning_core.specs.Value.{struct_of}
 use Rattle.meaning_core.specs.Slots.{missing_of, members_of, missing_one, member_one}
 use Rattle.meaning_core.specs.declared.walk.Slot.TheVariants.{Unseen}

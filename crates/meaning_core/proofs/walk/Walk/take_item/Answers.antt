@@ -1,6 +1,6 @@
 use Rattle.std.proofs.Common.{◌≡◌, ◌∙◌, ap, refl}
 use Rattle.std.proofs.lemmas.Result.{on_ok_weaker}
-use Rattle.expr_core.specs.PathText.{path_text}
+use Rattle.node_make.specs.PathText.{path_text}
 use Rattle.meaning_core.specs.Node.{meta_name}
 use Rattle.meaning_core.proofs.Arms.{step-field, step-unknown}
 use Rattle.meaning_core.proofs.walk.Walk.take_item.Goals as goal

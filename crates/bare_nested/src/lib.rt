@@ -1,6 +1,0 @@
-//! Nested items without their places, and that reading them does not see places.
-#![tactic(auto)]
-
-mod laws;
-
-pub use laws::nested_items_see_no_spans;

@@ -1,3 +1,0 @@
-pub mod Deepest
-pub mod Depths
-pub mod MadeDepths

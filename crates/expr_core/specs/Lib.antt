@@ -1,5 +1,0 @@
-pub mod Folds
-pub mod Layers
-pub mod Make
-pub mod PathIdent
-pub mod PathText

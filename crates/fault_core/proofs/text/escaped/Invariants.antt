@@ -1,6 +1,0 @@
-use Rattle.std.proofs.Common.{◌≡◌, flat_map}
-use Rattle.fault_core.specs.FaultText.{escaped_char}
-use Rattle.fault_core.proofs.text.escaped.Given as goal
-
-abbrev pub invariant-loop-c : goal.invariant-loop-c
-invariant-loop-c l = l.shown ≡ flat_map escaped_char l.yielded

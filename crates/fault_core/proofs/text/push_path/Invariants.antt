@@ -1,6 +1,0 @@
-use Rattle.std.proofs.Common.{◌≡◌, ◌++◌, codes, flat_map, take}
-use Rattle.fault_core.proofs.text.push_path.Given as goal
-
-abbrev pub invariant-loop-name : goal.invariant-loop-name
-invariant-loop-name l =
-    l.out ≡ l.initial.out ++ flat_map (λ part. codes "/" ++ part) (take l.name-index l.inner)

@@ -1,6 +1,0 @@
-use Rattle.std.proofs.Common.{rules, true}
-use Rattle.item_core.specs.Attributes.{signed}
-use Rattle.item_core.proofs.attr.number_of.Goals as goal
-
-pub returns : goal.returns
-returns c = c.all_of.ensures (λ it. 0) 0 signed (record { reads = λ old new result post. search rules })

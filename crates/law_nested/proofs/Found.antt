@@ -1,0 +1,21 @@
+-- What is read between two commas, and how it is printed.
+use Rattle.std.specs.Prelude.{[]}
+use Rattle.meta_nested.specs.declared.item.Found.{Found}
+use Rattle.meta_nested.specs.declared.item.Found.TheVariants as found
+use Rattle.meta_nested.specs.Nodes.{nested_tokens}
+use Rattle.print_core.specs.Marks.{Trees}
+use Rattle.law_nested.specs.Bare.{bare_nested}
+use Rattle.law_nested.specs.Shut.{Shut}
+
+abbrev pub bare_found : Found → Found
+bare_found (found.Item it) = found.Item (bare_nested it)
+bare_found (found.Attribute place) = found.Attribute place
+
+abbrev pub found_tokens : Found → Trees
+found_tokens (found.Item it) = nested_tokens it
+found_tokens (found.Attribute place) = []
+
+-- an item, and no attribute that stands in the place of a value
+abbrev pub Good : Found → Type 0
+Good (found.Item it) = Shut it
+Good (found.Attribute place) = ⊥

@@ -1,0 +1,11 @@
+pub mod SpansValues
+pub mod SpansItems
+pub mod Stops
+pub mod Found
+pub mod Beginnings
+pub mod Values
+pub mod Literals
+pub mod Bads
+pub mod Pairs
+pub mod Wholes
+pub mod Shuts

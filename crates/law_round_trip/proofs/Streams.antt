@@ -1,0 +1,11 @@
+-- A stream is its tokens.
+use Rattle.std.proofs.Common.{◌≡◌, rules}
+use Rattle.tok_types.specs.declared.tree.TokenStream.{TokenStream, the_lemmas}
+use Rattle.print_core.specs.Marks.{Trees, contents}
+use Rattle.law_round_trip.specs.Printed.{stream}
+
+pub contents-stream : (trees : Trees) → contents (stream trees) ≡ trees
+contents-stream trees = search (rules, the_lemmas)
+
+pub stream-contents : (tokens : TokenStream) → stream (contents tokens) ≡ tokens
+stream-contents tokens = search (rules, the_lemmas)

@@ -1,6 +1,0 @@
-use Rattle.std.proofs.Common.{sym, ◌∙◌}
-use Rattle.lit_core.proofs.Literals.{value_of-IsValue}
-use Rattle.lit_core.proofs.laws.literal_has_one_value.Goals as goal
-
-pub returns : goal.returns
-returns c = λ text a b h k. sym (value_of-IsValue text a h) ∙ value_of-IsValue text b k

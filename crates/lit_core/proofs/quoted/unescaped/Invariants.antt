@@ -1,9 +1,0 @@
-use Rattle.std.proofs.Common.{◌≡◌, ◌++◌, ◌-◌, drop, length}
-use Rattle.lit_core.specs.Reading.{unescaped}
-use Rattle.lit_core.proofs.quoted.unescaped.Given as goal
-
-abbrev pub invariant-loop-i : goal.invariant-loop-i
-invariant-loop-i l = l.value.items ++ unescaped l.byte 0 (drop l.i l.content) ≡ unescaped l.byte 0 l.content
-
-abbrev pub decreases-loop-i : goal.decreases-loop-i
-decreases-loop-i l = length l.content - l.i

@@ -1,0 +1,4 @@
+pub mod Values
+pub mod Nested
+pub mod Nodes
+pub mod Answers

@@ -1,0 +1,193 @@
+//! One nested item.
+
+ghost use Rattle.std.specs.Prelude.{◌≡◌, IfOk};
+ghost use Rattle.syn_items.specs.Lists.{Flat};
+ghost use Rattle.meta_nested.specs.Nested as spec;
+
+use crate::nested::{MetaNameValueInvalidExpr, NestedMeta};
+use crate::value::{Value, take_value};
+use base_core::Mem;
+use error_core::Error;
+use node_core::{Meta, MetaNameValue};
+use node_expr::{Delimiter, Lit, LitBool, Path, Span, TokenTree};
+use std::alloc::Global;
+use syn_grammar::{
+    Cursor, Word, after_one, is_equals, is_group, is_mark, lit_of, literal_of, next_word,
+};
+use syn_items::{delimiter_of, meta_list, meta_path, signed};
+use syn_rules::Front;
+
+/// What stands in a list.
+#[derive(Drop)]
+pub enum Found {
+    Item(NestedMeta),
+    /// The `#` of an attribute that takes the place of a value.
+    Attribute(Span),
+}
+
+/// How an item begins.
+#[derive(Clone, Copy, Debug, PartialEq, Eq)]
+pub enum ItemStart {
+    Literal,
+    /// `true` or `false`, and no `=` behind it.
+    Boolean,
+    /// The minus of a number.
+    Minus,
+    Path,
+}
+
+fn bool_of(word: Word, span: Span) -> Lit
+    ensures { result ≡ spec.bool_of word span }
+{
+    match word {
+        Word::True => Lit::Bool(LitBool { value: true, span }),
+        _ => Lit::Bool(LitBool { value: false, span }),
+    }
+}
+
+#[tactic(auto, unfolding(crate::specs::Nested::boolean))]
+fn boolean(tokens: &mut Cursor<'_>) -> Front<Lit>
+    ensures { Flat (spec.boolean tokens.old) result tokens.new }
+{
+    let span = tokens.here();
+    let lit = bool_of(next_word(tokens.rest()), span);
+    tokens.skip();
+    Ok((lit, 0))
+}
+
+#[tactic(auto, unfolding(crate::specs::Nested::literal))]
+fn literal(alloc: Global, tokens: &mut Cursor<'_>) -> Front<Lit>
+    ensures { Flat (spec.literal tokens.old) result tokens.new }
+{
+    let token = tokens.take_literal(alloc)?;
+    Ok((lit_of(alloc, token)?, 0))
+}
+
+fn expected_expression(alloc: Global, place: Span) -> Mem<Error>
+    ensures { IfOk result (λ error. error ≡ spec.expected_expression place) }
+{
+    Ok(Error::custom(alloc, "expected an expression")?.with_span_at(place))
+}
+
+fn with_value(alloc: Global, path: Path, eq_span: Span, span: Span, value: Value) -> Mem<NestedMeta>
+    ensures { IfOk result (λ item. item ≡ spec.with_value path eq_span span value) }
+{
+    match value {
+        Value::Expr(value) => Ok(NestedMeta::Meta(Meta::NameValue(MetaNameValue {
+            path,
+            eq_span,
+            value,
+            span,
+        }))),
+        Value::Bad(value, place) => {
+            let error = expected_expression(alloc, place)?;
+            Ok(NestedMeta::NameValueInvalidExpr(MetaNameValueInvalidExpr {
+                path,
+                eq_span,
+                value,
+                error,
+            }))
+        }
+    }
+}
+
+fn is_attribute(trees: &[TokenTree]) -> bool
+    ensures { result ≡ spec.is_attribute trees.now }
+{
+    is_mark('#', trees) && is_group(Delimiter::Bracket, after_one(trees))
+}
+
+#[tactic(auto, unfolding(crate::specs::Nested::attribute_item))]
+fn attribute_item(tokens: &mut Cursor<'_>) -> Front<Found>
+    ensures { Flat (spec.attribute_item tokens.old) result tokens.new }
+{
+    let place = tokens.here();
+    tokens.skip_by(tokens.left());
+    Ok((Found::Attribute(place), 0))
+}
+
+#[tactic(auto, unfolding(crate::specs::Nested::value_item))]
+fn value_item(
+    alloc: Global,
+    tokens: &mut Cursor<'_>,
+    start: Span,
+    path: Path,
+    eq_span: Span,
+) -> Front<Found>
+    ensures { Flat (spec.value_item start path eq_span tokens.old) result tokens.new }
+{
+    let (value, _) = take_value(alloc, tokens, eq_span)?;
+    let span = tokens.upto(start);
+    let item = with_value(alloc, path, eq_span, span, value)?;
+    Ok((Found::Item(item), 0))
+}
+
+/// `=` and what stands behind it.
+#[tactic(auto, unfolding(crate::specs::Nested::name_value))]
+fn name_value(alloc: Global, tokens: &mut Cursor<'_>, start: Span, path: Path) -> Front<Found>
+    ensures { Flat (spec.name_value start path tokens.old) result tokens.new }
+{
+    let eq_span = tokens.here();
+    tokens.skip();
+    if is_attribute(tokens.rest()) {
+        attribute_item(tokens)
+    } else {
+        value_item(alloc, tokens, start, path, eq_span)
+    }
+}
+
+/// `path`, `path(tokens)`, `path = value`
+#[tactic(auto, unfolding(crate::specs::Nested::path_item))]
+fn path_item(alloc: Global, tokens: &mut Cursor<'_>) -> Front<Found>
+    ensures { Flat (spec.path_item tokens.old) result tokens.new }
+{
+    let start = tokens.here();
+    let (path, _) = meta_path(alloc, tokens)?;
+    if let Some(delimiter) = delimiter_of(tokens.rest()) {
+        let (list, _) = meta_list(alloc, tokens, start, path, delimiter)?;
+        return Ok((Found::Item(NestedMeta::Meta(list)), 0));
+    }
+    if is_equals(tokens.rest()) {
+        return name_value(alloc, tokens, start, path);
+    }
+    Ok((Found::Item(NestedMeta::Meta(Meta::Path(path))), 0))
+}
+
+fn is_truth(word: Word) -> bool
+    ensures { result ≡ spec.is_truth word }
+{
+    matches!(word, Word::True | Word::False)
+}
+
+fn is_boolean(trees: &[TokenTree]) -> bool
+    ensures { result ≡ spec.is_boolean trees.now }
+{
+    is_truth(next_word(trees)) && !is_equals(after_one(trees))
+}
+
+fn item_start(trees: &[TokenTree]) -> ItemStart
+    ensures { result ≡ spec.item_start trees.now }
+{
+    if literal_of(trees).is_some() {
+        ItemStart::Literal
+    } else if is_boolean(trees) {
+        ItemStart::Boolean
+    } else if is_mark('-', trees) {
+        ItemStart::Minus
+    } else {
+        ItemStart::Path
+    }
+}
+
+#[tactic(auto, unfolding(crate::specs::Nested::item))]
+pub(crate) fn item(alloc: Global, tokens: &mut Cursor<'_>) -> Front<Found>
+    ensures { Flat (spec.item tokens.old) result tokens.new }
+{
+    let (lit, _) = match item_start(tokens.rest()) {
+        ItemStart::Literal => literal(alloc, tokens)?,
+        ItemStart::Boolean => boolean(tokens)?,
+        ItemStart::Minus => signed(alloc, tokens)?,
+        ItemStart::Path => return path_item(alloc, tokens),
+    };
+    Ok((Found::Item(NestedMeta::Lit(lit)), 0))
+}

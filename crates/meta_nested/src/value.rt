@@ -1,0 +1,105 @@
+//! What stands behind the `=` of a nested item.
+
+ghost use Rattle.std.specs.Prelude.{◌≡◌, IfOk};
+ghost use Rattle.law_prefix.specs.Alike.{stops};
+ghost use Rattle.syn_items.specs.Attributes.{number_in};
+ghost use Rattle.syn_items.specs.Lists.{Flat};
+ghost use Rattle.meta_nested.specs.Values as spec;
+
+use base_core::Mem;
+use node_expr::{Expr, Lit, Span, TokenStream, TokenTree};
+use std::alloc::{AllocError, Global};
+use syn_grammar::{Cursor, ReadFail, is_comma, span_of};
+use syn_items::{number_of, stream_of};
+use syn_rules::{ANY_LEVEL, Front, MAX_DEPTH, read_expr};
+
+/// A value, or tokens in its place and where the fault is.
+#[derive(Drop)]
+pub enum Value {
+    Expr(Expr),
+    Bad(TokenStream, Span),
+}
+
+/// Whether a comma comes next, or nothing.
+fn stops(trees: &[TokenTree]) -> bool
+    ensures { result ≡ stops trees.now }
+{
+    trees.is_empty() || is_comma(trees)
+}
+
+/// The number with its sign that stands before a comma or the end.
+fn number_run(alloc: Global, trees: &[TokenTree]) -> Mem<Option<Lit>>
+    ensures { IfOk result (λ found. found ≡ spec.run_of number_in trees.now 2) }
+{
+    let (front, rest) = trees.split_at(trees.len().min(2));
+    if stops(rest) {
+        number_of(alloc, front)
+    } else {
+        Ok(None)
+    }
+}
+
+/// The value of the shortest run, and how many tokens it has. What an expression reads of a front it
+/// reads of every longer one too, so that one reading tells them all.
+fn shortest_run(alloc: Global, trees: &[TokenTree]) -> Mem<Option<(Expr, usize)>>
+    ensures { IfOk result (λ run. run ≡ spec.shortest_run trees.now) }
+{
+    if let Some(number) = number_run(alloc, trees)? {
+        return Ok(Some((Expr::Lit(number), 2)));
+    }
+    let mut ahead = Cursor::new(trees);
+    match read_expr(alloc, &mut ahead, MAX_DEPTH, ANY_LEVEL) {
+        Ok((expr, _)) => {
+            if stops(ahead.rest()) {
+                Ok(Some((expr, trees.len() - ahead.left())))
+            } else {
+                Ok(None)
+            }
+        }
+        Err(ReadFail::Syntax) => Ok(None),
+        Err(ReadFail::NoMemory) => Err(AllocError),
+    }
+}
+
+fn before_comma(trees: &[TokenTree]) -> &[TokenTree]
+    ensures { result.now ≡ spec.before_comma trees.now }
+{
+    let mut count = 0;
+    while !stops(&trees[count..]) {
+        count += 1;
+    }
+    &trees[..count]
+}
+
+fn bad_place(eq_span: Span, trees: &[TokenTree]) -> Span
+    ensures { result ≡ spec.bad_place eq_span trees.now }
+{
+    match trees.first() {
+        Some(tree) => span_of(tree),
+        None => eq_span,
+    }
+}
+
+#[tactic(auto, unfolding(crate::specs::Values::bad_value))]
+fn bad_value(alloc: Global, tokens: &mut Cursor<'_>, eq_span: Span) -> Front<Value>
+    ensures { Flat (spec.bad_value eq_span tokens.old) result tokens.new }
+{
+    let trees = before_comma(tokens.rest());
+    let kept = stream_of(alloc, trees)?;
+    tokens.skip_by(trees.len());
+    Ok((Value::Bad(kept, bad_place(eq_span, trees)), 0))
+}
+
+/// The value behind the `=` that stands at `eq_span`.
+#[tactic(auto, unfolding(crate::specs::Values::value))]
+pub(crate) fn take_value(alloc: Global, tokens: &mut Cursor<'_>, eq_span: Span) -> Front<Value>
+    ensures { Flat (spec.value eq_span tokens.old) result tokens.new }
+{
+    match shortest_run(alloc, tokens.rest())? {
+        Some((expr, count)) => {
+            tokens.skip_by(count);
+            Ok((Value::Expr(expr), 0))
+        }
+        None => bad_value(alloc, tokens, eq_span),
+    }
+}

@@ -1,0 +1,4 @@
+pub mod Folds
+pub mod Kinds
+pub mod Layers
+pub mod PathIdent

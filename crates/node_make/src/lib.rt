@@ -1,0 +1,7 @@
+//! Nodes of their parts, and the text of a path.
+#![tactic(auto)]
+
+pub mod make;
+mod path_text;
+
+pub use path_text::path_to_string;

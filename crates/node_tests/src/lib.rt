@@ -1,8 +1,0 @@
-//! Each node that a parser gives is taken out by itself: it is copied, compared, hashed and printed, and
-//! asked where it stands.
-#![tactic(auto)]
-
-#[cfg(test)]
-mod nodes;
-#[cfg(test)]
-mod parts;

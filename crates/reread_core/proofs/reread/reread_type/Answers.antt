@@ -1,9 +1,0 @@
-use Rattle.std.proofs.Common.{codes}
-use Rattle.grammar_core.specs.Grammar.{max_depth}
-use Rattle.back_core.proofs.Wholes.{type_of-back}
-use Rattle.back_core.proofs.Within.{within-backs}
-use Rattle.reread_core.proofs.Back.{comes-back}
-use Rattle.reread_core.proofs.reread.reread_type.Goals as goal
-
-pub returns : goal.returns
-returns c = comes-back (type_of-back (within-backs max_depth)) (codes "expected a type") c.in_ok-tokens.tokens c.args.tree.now c.parse_type.result c.in_ok-tokens.ensures c.parse_type.ensures

@@ -1,7 +1,0 @@
-use Rattle.std.proofs.Common.{◌-◌}
-use Rattle.grammar_core.specs.Input.{items_from}
-use Rattle.rule_core.specs.Lists.{Keeps}
-use Rattle.rule_core.proofs.list.items_after.Given as goal
-
-abbrev pub invariant-loop-turn : goal.invariant-loop-turn
-invariant-loop-turn g l = Keeps (λ old result new. g.P.Fn.post l.item (old, tt) (result, (new, tt))) items_from l.fn.found l.fn.depth l.fn.tokens l._turn-end (l._turn-end - l._turn) l.found l.depth l.tokens

@@ -1,6 +1,0 @@
-use Rattle.std.proofs.Common.{rules}
-use Rattle.span_core.proofs.Ends.{list_span-ends}
-use Rattle.span_core.proofs.spanned.join_ends.Goals as goal
-
-pub returns-in-Some-Some : goal.returns-in-Some-Some
-returns-in-Some-Some g c = search (rules, list_span-ends)

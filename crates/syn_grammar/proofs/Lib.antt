@@ -1,0 +1,5 @@
+pub mod Turns
+pub mod Literals
+pub mod Deepest
+pub mod Depths
+pub mod MadeDepths

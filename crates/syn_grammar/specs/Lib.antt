@@ -1,0 +1,17 @@
+pub mod Token
+pub mod Words
+pub mod Look
+pub mod Input
+pub mod Steps
+pub mod Readers
+pub mod Make
+pub mod Paths
+pub mod Types
+pub mod Patterns
+pub mod Literals
+pub mod Expressions
+pub mod Grammar
+pub mod Reads
+pub mod Arguments
+pub mod Trees
+pub mod Depth

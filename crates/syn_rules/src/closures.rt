@@ -1,0 +1,104 @@
+//! Closures: `move |a, b: u8| body`
+
+ghost use Rattle.std.specs.Prelude.{◌≡◌, ◌+◌};
+ghost use Rattle.tok_types.specs.declared.tree.Delimiter.TheVariants as delimiter;
+ghost use Rattle.syn_grammar.specs.Depth.{expr_depth};
+ghost use Rattle.syn_grammar.specs.Expressions as spec;
+ghost use Rattle.syn_grammar.specs.Grammar.{within};
+ghost use Rattle.syn_grammar.specs.Reads.{Reads, Gives};
+ghost use Rattle.syn_grammar.specs.Steps.{Expects};
+ghost use Rattle.syn_grammar.specs.Token.{is_group};
+ghost use Rattle.syn_rules.specs.Nests.{Nests};
+
+use crate::rules::{ANY_LEVEL, CONSTANT_LEVEL, Rules};
+use base_core::Items;
+use node_expr::{Delimiter, Expr, TokenStream, Type, TypeParamBound};
+use node_make::make;
+use std::alloc::Global;
+use syn_grammar::{Cursor, ReadFail, Word, is_group};
+use syn_lists::{Front, MAX_PATTERN, pattern, until};
+
+/// A block must come next. It is left where it is.
+#[tactic(auto, unfolding(syn_grammar::specs::Input::skipped))]
+fn expect_block(tokens: &Cursor<'_>) -> Result<(), ReadFail>
+    ensures { Expects 0 (is_group delimiter.Brace tokens.now.rest) tokens.now result tokens.now }
+{
+    if is_group(Delimiter::Brace, tokens.rest()) {
+        Ok(())
+    } else {
+        Err(ReadFail::Syntax)
+    }
+}
+
+impl<
+    T: Fn(Global, &mut Cursor<'_>, usize, bool) -> Front<Type>,
+    E: Fn(Global, &mut Cursor<'_>, usize, u8) -> Front<Expr>,
+    B: Fn(Global, &mut Cursor<'_>, usize) -> Front<Items<TypeParamBound>>,
+> Rules<T, E, B> {
+    /// A type that is kept as tokens alone.
+    #[tactic(auto, unfolding(syn_grammar::specs::Expressions::pass_type))]
+    fn pass_type(&self, tokens: &mut Cursor<'_>, many: bool) -> Result<(), ReadFail>
+        requires { Nests self.now.depth (T.pre self.now.ty) (T.post self.now.ty) (E.pre self.now.expr) (E.post self.now.expr) (B.pre self.now.bounds) (B.post self.now.bounds) }
+        ensures { Gives (spec.pass_type (within self.now.depth) many tokens.old) result tokens.new }
+    {
+        let _ty = self.ty(tokens, many)?;
+        Ok(())
+    }
+
+    /// A pattern, and its type where it is told.
+    #[tactic(auto, unfolding(syn_grammar::specs::Expressions::closure_param))]
+    fn closure_param(&self, tokens: &mut Cursor<'_>) -> Front<()>
+        requires { Nests self.now.depth (T.pre self.now.ty) (T.post self.now.ty) (E.pre self.now.expr) (E.post self.now.expr) (B.pre self.now.bounds) (B.post self.now.bounds) }
+        ensures { Reads (λ param. 0) self.now.depth (spec.closure_param (within self.now.depth) tokens.old) result tokens.new }
+    {
+        pattern(tokens, MAX_PATTERN)?;
+        if tokens.eat_colon() {
+            self.pass_type(tokens, true)?;
+        }
+        Ok(((), 0))
+    }
+
+    /// Parameters to the second `|`.
+    fn closure_params(&self, tokens: &mut Cursor<'_>) -> Result<(), ReadFail>
+        requires { Nests self.now.depth (T.pre self.now.ty) (T.post self.now.ty) (E.pre self.now.expr) (E.post self.now.expr) (B.pre self.now.bounds) (B.post self.now.bounds) }
+        ensures { Gives (spec.closure_params (within self.now.depth) tokens.old) result tokens.new }
+    {
+        let _params = until(self.alloc, tokens, '|', |tokens: &mut Cursor<'_>| {
+            self.closure_param(tokens)
+        })?;
+        Ok(())
+    }
+
+    /// The level of the body, behind its type where it is told: a block then.
+    #[tactic(auto, unfolding(syn_grammar::specs::Expressions::closure_body))]
+    fn closure_body(&self, tokens: &mut Cursor<'_>) -> Result<u8, ReadFail>
+        requires { Nests self.now.depth (T.pre self.now.ty) (T.post self.now.ty) (E.pre self.now.expr) (E.post self.now.expr) (B.pre self.now.bounds) (B.post self.now.bounds) }
+        ensures { Gives (spec.closure_body (within self.now.depth) tokens.old) result tokens.new }
+    {
+        if !tokens.eat_arrow() {
+            return Ok(ANY_LEVEL);
+        }
+        self.pass_type(tokens, false)?;
+        expect_block(tokens)?;
+        Ok(CONSTANT_LEVEL)
+    }
+
+    /// `move |a, b: u8| body`, or with a type `|a| -> u8 { body }`
+    #[tactic(auto, unfolding(syn_grammar::specs::Expressions::closure), using(syn_grammar::proofs::Depths::depths))]
+    pub(crate) fn closure(&self, tokens: &mut Cursor<'_>) -> Front<Expr>
+        requires { Nests self.now.depth (T.pre self.now.ty) (T.post self.now.ty) (E.pre self.now.expr) (E.post self.now.expr) (B.pre self.now.bounds) (B.post self.now.bounds) }
+        ensures { Reads expr_depth (self.now.depth + 1) (spec.closure (within self.now.depth) tokens.old) result tokens.new }
+    {
+        let before = tokens.rest();
+        let start = tokens.here();
+        tokens.eat_word(Word::Move);
+        tokens.expect_mark('|')?;
+        self.closure_params(tokens)?;
+        let level = self.closure_body(tokens)?;
+        let trees = tokens.read_since(self.alloc, before)?;
+        let (body, depth) = self.expr(tokens, level)?;
+        let span = tokens.upto(start);
+        let closure = make::expr_closure(self.alloc, TokenStream { trees }, body, span)?;
+        Ok((Expr::Closure(closure), depth + 1))
+    }
+}

@@ -1,0 +1,286 @@
+//! What stands behind an operand: calls, fields, indexes and `?`.
+//!
+//! Each rule of one of them takes what stands before it as `left` or by another name, and the depth of
+//! that. What it gives may be one deeper than a whole may be, and the loop over them refuses it then.
+
+ghost use Rattle.std.specs.Prelude.{◌≡◌, ◌+◌, ◌≤◌};
+ghost use Rattle.tok_types.specs.declared.tree.Delimiter.TheVariants as delimiter;
+ghost use Rattle.syn_grammar.specs.Depth.{expr_depth};
+ghost use Rattle.syn_grammar.specs.Expressions as spec;
+ghost use Rattle.syn_grammar.specs.Grammar.{within};
+ghost use Rattle.syn_grammar.specs.Input.{inside};
+ghost use Rattle.syn_grammar.specs.Readers.{any_level};
+ghost use Rattle.syn_grammar.specs.Reads.{Reads, ReadsKept};
+ghost use Rattle.syn_lists.specs.Lists.{all_depth};
+ghost use Rattle.syn_rules.specs.Nests.{Nests};
+ghost use Rattle.syn_rules.specs.Postfixes.{goes_on};
+
+use crate::rules::{ANY_LEVEL, Rules};
+use base_core::Items;
+use node_expr::{Delimiter, Expr, Ident, Member, Span, Type, TypeParamBound};
+use node_make::make;
+use std::alloc::Global;
+use syn_grammar::{
+    AtomStart, Cursor, PostfixStart, ReadFail, is_group, is_turbofish, name_of, postfix_start,
+};
+use syn_lists::Front;
+
+fn goes_on(begins: PostfixStart) -> bool
+    ensures { result ≡ goes_on begins }
+{
+    !matches!(begins, PostfixStart::Nothing)
+}
+
+impl<
+    T: Fn(Global, &mut Cursor<'_>, usize, bool) -> Front<Type>,
+    E: Fn(Global, &mut Cursor<'_>, usize, u8) -> Front<Expr>,
+    B: Fn(Global, &mut Cursor<'_>, usize) -> Front<Items<TypeParamBound>>,
+> Rules<T, E, B> {
+    /// `(a, b)`
+    fn args(&self, tokens: &mut Cursor<'_>) -> Front<Items<Expr>>
+        requires { Nests self.now.depth (T.pre self.now.ty) (T.post self.now.ty) (E.pre self.now.expr) (E.post self.now.expr) (B.pre self.now.bounds) (B.post self.now.bounds) }
+        ensures { Reads (all_depth expr_depth) self.now.depth (spec.args (within self.now.depth) tokens.old) result tokens.new }
+    {
+        if !is_group(Delimiter::Parenthesis, tokens.rest()) {
+            return Err(ReadFail::Syntax);
+        }
+        let mut inner = tokens.contents();
+        let args = self.exprs(&mut inner, Items::new(self.alloc), 0)?;
+        inner.finish()?;
+        tokens.skip();
+        Ok(args)
+    }
+
+    /// `.name::<T>(a, b)`
+    #[tactic(auto, unfolding(syn_grammar::specs::Expressions::turbofish_call), using(syn_grammar::proofs::Depths::depths))]
+    fn turbofish_call(
+        &self,
+        tokens: &mut Cursor<'_>,
+        start: Span,
+        receiver: Expr,
+        depth: usize,
+        method: Ident,
+    ) -> Front<Expr>
+        requires nests { Nests self.now.depth (T.pre self.now.ty) (T.post self.now.ty) (E.pre self.now.expr) (E.post self.now.expr) (B.pre self.now.bounds) (B.post self.now.bounds) }
+        requires depth { depth ≡ expr_depth receiver }
+        requires limit { depth ≤ self.now.depth + 1 }
+        ensures { Reads expr_depth (self.now.depth + 2) (spec.turbofish_call (within self.now.depth) start receiver method tokens.old) result tokens.new }
+    {
+        tokens.skip_by(3);
+        let (turbofish, turbofish_depth) = self.angle_arguments(tokens)?;
+        let (args, args_depth) = self.args(tokens)?;
+        let span = tokens.upto(start);
+        let call = make::expr_method_call(self.alloc, receiver, method, turbofish, args, span)?;
+        Ok((call, depth.max(turbofish_depth).max(args_depth) + 1))
+    }
+
+    /// `.name(a, b)`
+    #[tactic(auto, unfolding(syn_grammar::specs::Expressions::method_call), using(syn_grammar::proofs::Depths::depths))]
+    fn method_call(
+        &self,
+        tokens: &mut Cursor<'_>,
+        start: Span,
+        receiver: Expr,
+        depth: usize,
+        method: Ident,
+    ) -> Front<Expr>
+        requires nests { Nests self.now.depth (T.pre self.now.ty) (T.post self.now.ty) (E.pre self.now.expr) (E.post self.now.expr) (B.pre self.now.bounds) (B.post self.now.bounds) }
+        requires depth { depth ≡ expr_depth receiver }
+        requires limit { depth ≤ self.now.depth + 1 }
+        ensures { Reads expr_depth (self.now.depth + 2) (spec.method_call (within self.now.depth) start receiver method tokens.old) result tokens.new }
+    {
+        let (args, args_depth) = self.args(tokens)?;
+        let span = tokens.upto(start);
+        let none = Items::new(self.alloc);
+        let call = make::expr_method_call(self.alloc, receiver, method, none, args, span)?;
+        Ok((call, depth.max(args_depth) + 1))
+    }
+
+    /// `.name`, `.0`
+    #[tactic(auto, unfolding(syn_grammar::specs::Expressions::field), using(syn_grammar::proofs::Depths::depths))]
+    fn field(
+        &self,
+        tokens: &mut Cursor<'_>,
+        start: Span,
+        base: Expr,
+        depth: usize,
+        member: Member,
+    ) -> Front<Expr>
+        requires nests { Nests self.now.depth (T.pre self.now.ty) (T.post self.now.ty) (E.pre self.now.expr) (E.post self.now.expr) (B.pre self.now.bounds) (B.post self.now.bounds) }
+        requires depth { depth ≡ expr_depth base }
+        requires limit { depth ≤ self.now.depth + 1 }
+        ensures { Reads expr_depth (self.now.depth + 2) (spec.field (within self.now.depth) start base member tokens.old) result tokens.new }
+    {
+        let span = tokens.upto(start);
+        let field = make::expr_field(self.alloc, base, member, span)?;
+        Ok((field, depth + 1))
+    }
+
+    #[tactic(auto, unfolding(syn_grammar::specs::Expressions::named_member))]
+    fn named_member(
+        &self,
+        tokens: &mut Cursor<'_>,
+        start: Span,
+        base: Expr,
+        depth: usize,
+        name: Ident,
+    ) -> Front<Expr>
+        requires nests { Nests self.now.depth (T.pre self.now.ty) (T.post self.now.ty) (E.pre self.now.expr) (E.post self.now.expr) (B.pre self.now.bounds) (B.post self.now.bounds) }
+        requires depth { depth ≡ expr_depth base }
+        requires limit { depth ≤ self.now.depth + 1 }
+        ensures { Reads expr_depth (self.now.depth + 2) (spec.named_member (within self.now.depth) start base name tokens.old) result tokens.new }
+    {
+        if is_turbofish(tokens.rest()) {
+            self.turbofish_call(tokens, start, base, depth, name)
+        } else if is_group(Delimiter::Parenthesis, tokens.rest()) {
+            self.method_call(tokens, start, base, depth, name)
+        } else {
+            self.field(tokens, start, base, depth, Member::Named(name))
+        }
+    }
+
+    /// What stands behind a `.`.
+    #[tactic(auto, unfolding(syn_grammar::specs::Expressions::member))]
+    fn member(&self, tokens: &mut Cursor<'_>, start: Span, base: Expr, depth: usize) -> Front<Expr>
+        requires nests { Nests self.now.depth (T.pre self.now.ty) (T.post self.now.ty) (E.pre self.now.expr) (E.post self.now.expr) (B.pre self.now.bounds) (B.post self.now.bounds) }
+        requires depth { depth ≡ expr_depth base }
+        requires limit { depth ≤ self.now.depth + 1 }
+        ensures { Reads expr_depth (self.now.depth + 2) (spec.member (within self.now.depth) start base tokens.old) result tokens.new }
+    {
+        if name_of(tokens.rest()).is_some() {
+            let name = tokens.take_name(self.alloc)?;
+            return self.named_member(tokens, start, base, depth, name);
+        }
+        let index = tokens.take_index(self.alloc)?;
+        self.field(tokens, start, base, depth, Member::Unnamed(index))
+    }
+
+    /// `func(a, b)`
+    #[tactic(auto, unfolding(syn_grammar::specs::Expressions::call), using(syn_grammar::proofs::Depths::depths))]
+    fn call(&self, tokens: &mut Cursor<'_>, start: Span, func: Expr, depth: usize) -> Front<Expr>
+        requires nests { Nests self.now.depth (T.pre self.now.ty) (T.post self.now.ty) (E.pre self.now.expr) (E.post self.now.expr) (B.pre self.now.bounds) (B.post self.now.bounds) }
+        requires depth { depth ≡ expr_depth func }
+        requires limit { depth ≤ self.now.depth + 1 }
+        ensures { Reads expr_depth (self.now.depth + 2) (spec.call (within self.now.depth) start func tokens.old) result tokens.new }
+    {
+        let (args, args_depth) = self.args(tokens)?;
+        let span = tokens.upto(start);
+        let call = make::expr_call(self.alloc, func, args, span)?;
+        Ok((call, depth.max(args_depth) + 1))
+    }
+
+    /// `[index]`
+    fn bracketed(&self, tokens: &mut Cursor<'_>) -> Front<Expr>
+        requires { Nests self.now.depth (T.pre self.now.ty) (T.post self.now.ty) (E.pre self.now.expr) (E.post self.now.expr) (B.pre self.now.bounds) (B.post self.now.bounds) }
+        ensures { Reads expr_depth self.now.depth (inside delimiter.Bracket ((within self.now.depth).expr any_level) tokens.old) result tokens.new }
+    {
+        if !is_group(Delimiter::Bracket, tokens.rest()) {
+            return Err(ReadFail::Syntax);
+        }
+        let mut inner = tokens.contents();
+        let found = self.expr(&mut inner, ANY_LEVEL)?;
+        inner.finish()?;
+        tokens.skip();
+        Ok(found)
+    }
+
+    /// `base[index]`
+    #[tactic(auto, unfolding(syn_grammar::specs::Expressions::index), using(syn_grammar::proofs::Depths::depths))]
+    fn index(&self, tokens: &mut Cursor<'_>, start: Span, base: Expr, depth: usize) -> Front<Expr>
+        requires nests { Nests self.now.depth (T.pre self.now.ty) (T.post self.now.ty) (E.pre self.now.expr) (E.post self.now.expr) (B.pre self.now.bounds) (B.post self.now.bounds) }
+        requires depth { depth ≡ expr_depth base }
+        requires limit { depth ≤ self.now.depth + 1 }
+        ensures { Reads expr_depth (self.now.depth + 2) (spec.index (within self.now.depth) start base tokens.old) result tokens.new }
+    {
+        let (at, at_depth) = self.bracketed(tokens)?;
+        let span = tokens.upto(start);
+        let index = make::expr_index(self.alloc, base, at, span)?;
+        Ok((index, depth.max(at_depth) + 1))
+    }
+
+    /// `base?`
+    #[tactic(auto, unfolding(syn_grammar::specs::Expressions::question), using(syn_grammar::proofs::Depths::depths))]
+    fn question(
+        &self,
+        tokens: &mut Cursor<'_>,
+        start: Span,
+        base: Expr,
+        depth: usize,
+    ) -> Front<Expr>
+        requires nests { Nests self.now.depth (T.pre self.now.ty) (T.post self.now.ty) (E.pre self.now.expr) (E.post self.now.expr) (B.pre self.now.bounds) (B.post self.now.bounds) }
+        requires depth { depth ≡ expr_depth base }
+        requires limit { depth ≤ self.now.depth + 1 }
+        ensures { Reads expr_depth (self.now.depth + 2) (spec.question (within self.now.depth) start base tokens.old) result tokens.new }
+    {
+        tokens.skip();
+        let span = tokens.upto(start);
+        let question = make::expr_try(self.alloc, base, span)?;
+        Ok((question, depth + 1))
+    }
+
+    /// One of them, which begins so.
+    fn postfix(
+        &self,
+        tokens: &mut Cursor<'_>,
+        start: Span,
+        left: Expr,
+        depth: usize,
+        begins: PostfixStart,
+    ) -> Front<Expr>
+        requires nests { Nests self.now.depth (T.pre self.now.ty) (T.post self.now.ty) (E.pre self.now.expr) (E.post self.now.expr) (B.pre self.now.bounds) (B.post self.now.bounds) }
+        requires depth { depth ≡ expr_depth left }
+        requires limit { depth ≤ self.now.depth + 1 }
+        ensures { Reads expr_depth (self.now.depth + 2) (spec.postfix_by (within self.now.depth) start left begins tokens.old) result tokens.new }
+    {
+        match begins {
+            PostfixStart::Call => self.call(tokens, start, left, depth),
+            PostfixStart::Dot => {
+                tokens.skip();
+                self.member(tokens, start, left, depth)
+            }
+            PostfixStart::Index => self.index(tokens, start, left, depth),
+            PostfixStart::Try => self.question(tokens, start, left, depth),
+            PostfixStart::Nothing => Err(ReadFail::Syntax),
+        }
+    }
+
+    /// All of them.
+    fn postfixes(
+        &self,
+        tokens: &mut Cursor<'_>,
+        start: Span,
+        mut left: Expr,
+        mut depth: usize,
+    ) -> Front<Expr>
+        requires nests { Nests self.now.depth (T.pre self.now.ty) (T.post self.now.ty) (E.pre self.now.expr) (E.post self.now.expr) (B.pre self.now.bounds) (B.post self.now.bounds) }
+        requires depth { depth ≡ expr_depth left }
+        requires limit { depth ≤ self.now.depth + 1 }
+        ensures { ReadsKept expr_depth (self.now.depth + 1) (spec.postfixes (within self.now.depth) start left tokens.old) result tokens.new }
+    {
+        for _turn in 0..tokens.left() {
+            let begins = postfix_start(tokens.rest());
+            if !goes_on(begins) {
+                return Ok((left, depth));
+            }
+            let (longer, longer_depth) = self.postfix(tokens, start, left, depth, begins)?;
+            if longer_depth > self.depth + 1 {
+                return Err(ReadFail::Syntax);
+            }
+            left = longer;
+            depth = longer_depth;
+        }
+        tokens.finish()?;
+        Ok((left, depth))
+    }
+
+    /// An atom and what stands behind it.
+    #[tactic(auto, unfolding(syn_grammar::specs::Expressions::postfixed))]
+    pub(crate) fn postfixed(&self, tokens: &mut Cursor<'_>, begins: AtomStart) -> Front<Expr>
+        requires { Nests self.now.depth (T.pre self.now.ty) (T.post self.now.ty) (E.pre self.now.expr) (E.post self.now.expr) (B.pre self.now.bounds) (B.post self.now.bounds) }
+        ensures { ReadsKept expr_depth (self.now.depth + 1) (spec.postfixed (within self.now.depth) begins tokens.old) result tokens.new }
+    {
+        let start = tokens.here();
+        let (left, depth) = self.atom(tokens, begins)?;
+        self.postfixes(tokens, start, left, depth)
+    }
+}

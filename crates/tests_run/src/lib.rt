@@ -1,0 +1,9 @@
+//! Tests of the run, whole.
+#![tactic(auto)]
+
+#[cfg(test)]
+mod first;
+#[cfg(test)]
+mod meaning;
+#[cfg(test)]
+mod run;

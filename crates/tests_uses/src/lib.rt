@@ -1,0 +1,5 @@
+//! Tests of the proved callers, each once.
+#![tactic(auto)]
+
+#[cfg(test)]
+mod callers;

@@ -1,0 +1,62 @@
+-- The item that a text is, and the names of its fields.
+use Rattle.std.specs.Prelude.{◌≡◌, ℕ, List, [], ◌∷◌, flat_map, codes, Option, Some, None, Result, Ok, Err}
+use Rattle.std.specs.Str.{chars}
+use Rattle.tok_types.specs.declared.ident.Ident.{Ident}
+use Rattle.tok_types.specs.declared.tree.TokenStream.{TokenStream}
+use Rattle.tok_core.specs.Spells.{Spells}
+use Rattle.tok_core.specs.Endings.{Refused}
+use Rattle.node_core.specs.declared.data.Data.{Data}
+use Rattle.node_core.specs.declared.data.Data.TheVariants as bodies
+use Rattle.node_core.specs.declared.data.Field.{Field}
+use Rattle.node_core.specs.declared.data.Fields.{Fields}
+use Rattle.node_core.specs.declared.data.Fields.TheVariants as kinds
+use Rattle.node_core.specs.declared.derive.DeriveInput.{DeriveInput}
+use Rattle.syn_items.specs.Trees.{derive_input_of}
+use Rattle.syn_core.specs.Parses.{fault_over}
+use Rattle.syn_core.specs.declared.fail.ParseFail.TheVariants as parse
+use Rattle.uses.specs.declared.fail.TextFail.{TextFail}
+use Rattle.uses.specs.declared.fail.TextFail.TheVariants as fail
+
+-- the text has the tokens of this item
+abbrev pub IsItem : List ℕ → DeriveInput → Type 0
+IsItem text item = (tokens : TokenStream) × Spells 0 (chars text) tokens × (derive_input_of tokens ≡ Some item)
+
+-- The text has no tokens, or its tokens are no item. Want of memory is free.
+abbrev pub IsFault : List ℕ → TextFail → Type 0
+IsFault text (fail.Lex error) = Refused 0 (chars text) error
+IsFault text (fail.Parse parse.NoMemory) = Unit {0}
+IsFault text (fail.Parse (parse.Syn error)) =
+    (tokens : TokenStream) × Spells 0 (chars text) tokens
+    × (derive_input_of tokens ≡ None) × (error ≡ fault_over (codes "expected an item") tokens)
+IsFault text fail.NoMemory = Unit {0}
+
+-- the item of the text, or why there is none
+abbrev pub ReadsItem : List ℕ → Result DeriveInput TextFail → Type 0
+ReadsItem text (Ok item) = IsItem text item
+ReadsItem text (Err fail) = IsFault text fail
+
+-- ---- fields
+
+abbrev pub optional_name : Option Ident → List Ident
+optional_name None = []
+optional_name (Some name) = name ∷ []
+
+-- the name of a field, where it has one
+abbrev pub name_in : Field → List Ident
+name_in field = optional_name field.ident
+
+abbrev pub listed : Fields → List Field
+listed (kinds.Named fields) = fields.named
+listed (kinds.Unnamed fields) = fields.unnamed
+listed kinds.Unit = []
+
+-- the fields of a struct or of a union; an enum has none of its own
+abbrev pub fields_in : Data → List Field
+fields_in (bodies.Struct body) = listed body.fields
+fields_in (bodies.Enum body) = []
+fields_in (bodies.Union body) = body.fields.named
+
+-- the names of the fields of the text's item, or why there is no item
+abbrev pub ReadsNames : List ℕ → Result (List Ident) TextFail → Type 0
+ReadsNames text (Ok names) = (item : DeriveInput) × IsItem text item × (names ≡ flat_map name_in (fields_in item.body))
+ReadsNames text (Err fail) = IsFault text fail

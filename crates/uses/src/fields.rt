@@ -1,0 +1,64 @@
+//! From a text to its item, and to the names of the item's fields.
+
+ghost use Rattle.std.specs.Prelude.{◌≡◌, ◌≤◌, IfOk, flat_map, length};
+ghost use Rattle.uses.specs.Fields as spec;
+
+use crate::fail::TextFail;
+use node_core::{Data, DeriveInput, Field, Fields};
+use std::alloc::Global;
+use syn_core::parse_derive_input;
+use tok_core::{Ident, Items, Mem, TryClone, lex};
+
+/// The item that the text is: a struct, an enum or a union.
+pub fn item_of(alloc: Global, text: &str) -> Result<DeriveInput, TextFail>
+    requires { length text.now ≤ 16777216 }
+    ensures { spec.ReadsItem text.now result }
+{
+    let tokens = lex(alloc, 0, text)?;
+    let item = parse_derive_input(alloc, &tokens)?;
+    Ok(item)
+}
+
+/// The names of the fields of the struct or union that the text is, in order.
+pub fn fields_of(alloc: Global, text: &str) -> Result<Items<Ident>, TextFail>
+    requires { length text.now ≤ 16777216 }
+    ensures { spec.ReadsNames text.now result }
+{
+    let item = item_of(alloc, text)?;
+    let names = names_of(alloc, fields_in(&item.body))?;
+    Ok(names)
+}
+
+/// The names of the fields, in order. A field in parentheses has none.
+pub fn names_of(alloc: Global, fields: &[Field]) -> Mem<Items<Ident>>
+    ensures { IfOk result (λ names. names ≡ flat_map spec.name_in fields.now) }
+{
+    let mut names = Items::new(alloc);
+    for field in fields {
+        if let Some(name) = &field.ident {
+            names.push(name.try_clone(alloc)?)?;
+        }
+    }
+    Ok(names)
+}
+
+/// The fields of a struct or of a union; an enum has none of its own.
+fn fields_in(body: &Data) -> &[Field]
+    ensures { result.now ≡ spec.fields_in body.now }
+{
+    match body {
+        Data::Struct(body) => listed(&body.fields),
+        Data::Enum(_) => &[],
+        Data::Union(body) => body.fields.named.as_slice(),
+    }
+}
+
+fn listed(fields: &Fields) -> &[Field]
+    ensures { result.now ≡ spec.listed fields.now }
+{
+    match fields {
+        Fields::Named(fields) => fields.named.as_slice(),
+        Fields::Unnamed(fields) => fields.unnamed.as_slice(),
+        Fields::Unit => &[],
+    }
+}

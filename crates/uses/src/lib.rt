@@ -1,0 +1,12 @@
+//! Proved callers of the libraries: one function for one need, each with its clause.
+#![tactic(auto)]
+
+mod attribute;
+mod fail;
+mod faults;
+mod fields;
+
+pub use attribute::{doc_of, printed_as, rename};
+pub use fail::TextFail;
+pub use faults::named_fields;
+pub use fields::{fields_of, item_of, names_of};
