@@ -1,3 +1,5 @@
+//! A list: a vector that a contract sees as the list of its items.
+
 ghost use Rattle.std.specs.Prelude.{◌≡◌, ◌↔◌, ◌++◌, ◌∷◌, [], ◌<◌, ◌≤◌, ◌-◌, IsTrue, IsSome, IfOk, OnOk, OnErr, MatchOption, length, slice_get, slice_set, insert, remove, take, reverse};
 ghost use Rattle.std.specs.Option.{option_copied};
 ghost use Rattle.std.specs.Cmp.Lexicographic.{pointwise};

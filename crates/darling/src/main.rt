@@ -1,8 +1,7 @@
 //! The program: the tool over standard input and output.
 #![tactic(auto)]
 
-use darling_run::run_tool;
-use edge_core::{StdSink, StdSource};
+use darling_run::{StdSink, StdSource, run_tool};
 use std::env::Env;
 use std::process::ExitCode;
 use std::{env, io};

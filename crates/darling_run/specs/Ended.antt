@@ -12,7 +12,7 @@ use Rattle.darling_run.specs.Status.{refusal_text}
 use Rattle.darling_run.specs.Report.{report_text}
 use Rattle.darling_run.specs.Input.{IsInput, IsRefused}
 
--- how many bytes an input has at most
+-- how many bytes an input has at most, which is what a text of tokens has: the number stands for itself here
 abbrev pub limit : ℕ
 limit = 16777216
 

@@ -8,7 +8,7 @@ use Rattle.node_core.specs.declared.attr.Meta.{Meta}
 use Rattle.node_core.specs.declared.attr.Meta.TheVariants as meta
 use Rattle.node_core.specs.declared.derive.DeriveInput.{DeriveInput}
 use Rattle.run_first.specs.Nested.{nested_of}
-use Rattle.run_first.specs.Tree.{same_delimiter}
+use Rattle.tok_types.specs.Delimiter.{same_delimiter}
 use Rattle.meaning_core.specs.Node.{meta_name}
 use Rattle.meaning_core.specs.Entries.{has_name}
 

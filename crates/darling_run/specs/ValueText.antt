@@ -1,6 +1,7 @@
 -- The text of a value.
 use Rattle.std.specs.Prelude.{ℕ, ◌==◌, if◌then◌else◌, List, [], ◌++◌, map, flat_map, codes, chars}
 use Rattle.std.specs.List.{join_by}
+use Rattle.tok_types.specs.Ascii.{double_quote}
 use Rattle.base_core.specs.declared.text.Text.{Text}
 use Rattle.error_fault.specs.FaultText.{escaped_char}
 use Rattle.meaning_core.specs.declared.value.Style.{Style}
@@ -10,7 +11,7 @@ use Rattle.meaning_core.specs.declared.value.Value.TheOpen.{Value-F}
 
 -- a character between quotes: a quote by a backslash, and the others as a line shows them
 abbrev pub quoted_char : ℕ → List ℕ
-quoted_char c = if c == 34 then codes "\\\"" else escaped_char c
+quoted_char c = if c == double_quote then codes "\\\"" else escaped_char c
 
 -- the text between quotes
 abbrev pub quoted : List ℕ → List ℕ

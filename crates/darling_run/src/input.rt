@@ -13,6 +13,7 @@ use node_core::DeriveInput;
 use run_form::is_first_form;
 use run_parts::{as_text, divide};
 use std::alloc::Global;
+use tok_core::MAX_LEN;
 use tok_types::{Items, Mem, Span, TokenStream};
 
 /// The trees of an input's parts.
@@ -44,7 +45,7 @@ impl Drop for Input {
 
 /// Reads the two parts of an input.
 pub(crate) fn read_input(alloc: Global, bytes: &[u8]) -> Result<Input, Status>
-    requires { length bytes.now ≤ 16777216 }
+    requires { length bytes.now ≤ MAX_LEN }
     ensures ok { IfOk result (λ input. IsInput bytes.now input.declaration input.subjects) }
     ensures err { IfErr result (Refuses bytes.now) }
 {
@@ -67,18 +68,18 @@ fn decide(
     alloc: Global,
     text: &str,
     table: Option<&str>,
-    first: Part,
-    second: Part,
+    mut first: Part,
+    mut second: Part,
 ) -> Result<Input, Status>
-    requires text { length text.now ≤ 16777216 }
-    requires table { IfSome table (λ table. length table.now ≤ 16777216) }
+    requires text { length text.now ≤ MAX_LEN }
+    requires table { IfSome table (λ table. length table.now ≤ MAX_LEN) }
     ensures { Decides (spec.decided text.now (option_copied table.entry) first second) result }
 {
-    match (first, second) {
-        (Part::TooDeep { at }, _) => Err(Status::TooDeep { part: 1, at }),
-        (_, Part::TooDeep { at }) => Err(Status::TooDeep { part: 2, at }),
-        (Part::Syntax { at }, _) => Err(Status::Syntax { part: 1, at }),
-        (_, Part::Syntax { at }) => Err(Status::Syntax { part: 2, at }),
+    match (&mut first, &mut second) {
+        (Part::TooDeep { at }, _) => Err(Status::TooDeep { part: 1, at: *at }),
+        (_, Part::TooDeep { at }) => Err(Status::TooDeep { part: 2, at: *at }),
+        (Part::Syntax { at }, _) => Err(Status::Syntax { part: 1, at: *at }),
+        (_, Part::Syntax { at }) => Err(Status::Syntax { part: 2, at: *at }),
         (
             Part::Items { tokens, items },
             Part::Items {
@@ -86,7 +87,9 @@ fn decide(
                 ..
             },
         ) => {
-            let declaration = declaration_in(alloc, &tokens, items)?;
+            let items = std::mem::replace(items, Items::new(alloc));
+            let subjects = std::mem::replace(subjects, Items::new(alloc));
+            let declaration = declaration_in(alloc, tokens, items)?;
             build(alloc, text, table, declaration, subjects)
         }
     }
@@ -115,8 +118,8 @@ fn build(
     declaration: Option<DeriveInput>,
     subjects: Items<DeriveInput>,
 ) -> Result<Input, Status>
-    requires text { length text.now ≤ 16777216 }
-    requires table { IfSome table (λ table. length table.now ≤ 16777216) }
+    requires text { length text.now ≤ MAX_LEN }
+    requires table { IfSome table (λ table. length table.now ≤ MAX_LEN) }
     ensures { Decides (spec.built_by text.now (option_copied table.entry) declaration subjects) result }
 {
     let Some(declaration) = declaration else {
@@ -137,7 +140,7 @@ fn build(
 
 /// All of this part is in a form that is not read.
 fn unbuilt(source: u32, part: &str) -> Status
-    requires { length part.now ≤ 16777216 }
+    requires { length part.now ≤ MAX_LEN }
     ensures { result ≡ Status.Unbuilt (spec.whole source part.now) }
 {
     let span = Span::At {

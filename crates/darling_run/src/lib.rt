@@ -14,6 +14,9 @@ mod tool;
 mod unread;
 mod values;
 
+pub use edge_core::{
+    MemorySink, MemorySource, ReadAll, Sink, Source, StdSink, StdSource, WriteFault,
+};
 pub use error_fault::{Fault, FaultKind, fault_line};
 pub use meaning_core::{Outcome, Style, Value};
 pub use report::{Report, report_text};

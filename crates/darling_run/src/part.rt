@@ -7,11 +7,10 @@ use node_core::DeriveInput;
 use std::alloc::{AllocError, Global};
 use syn_core::{ParseFail, item_front, parse_items};
 use syn_grammar::Cursor;
-use tok_core::{LexError, lex};
+use tok_core::{LexError, MAX_LEN, lex};
 use tok_types::{Items, Mem, Span, TokenStream, TokenTree};
 
 /// What a part of an input is. A place is a byte of the part.
-#[derive(Drop)]
 pub(crate) enum Part {
     /// More than 128 delimiters are open at `at`.
     TooDeep {
@@ -27,9 +26,22 @@ pub(crate) enum Part {
     },
 }
 
+impl Drop for Part {
+    fn drop(self) {
+        match self {
+            Part::TooDeep { at: _ } => {}
+            Part::Syntax { at: _ } => {}
+            Part::Items {
+                tokens: _tokens,
+                items: _items,
+            } => {}
+        }
+    }
+}
+
 /// Reads a part, which has the number `source`.
 pub(crate) fn read_part(alloc: Global, source: u32, text: &str) -> Mem<Part>
-    requires { length text.now ≤ 16777216 }
+    requires { length text.now ≤ MAX_LEN }
     ensures { IfOk result (spec.IsPart source text.now) }
 {
     match lex(alloc, source, text) {

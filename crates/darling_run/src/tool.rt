@@ -11,10 +11,11 @@ use edge_core::{ReadAll, Sink, Source, read_all, write_all};
 use meaning_core::{Outcome, Receiver};
 use node_core::DeriveInput;
 use std::alloc::{AllocError, Global};
+use tok_core::MAX_LEN;
 use tok_types::{Items, Mem, Text};
 
 /// How many bytes an input has at most.
-const LIMIT: u64 = 16_777_216;
+const LIMIT: u64 = MAX_LEN as u64;
 
 /// How a run ended, and its report where one was made.
 pub struct Ended {

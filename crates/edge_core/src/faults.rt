@@ -1,3 +1,5 @@
+//! The count of a sink's failed writes.
+
 ghost use Rattle.std.specs.Prelude.{◌≡◌};
 ghost use Rattle.edge_core.specs.Faults.{next_count};
 

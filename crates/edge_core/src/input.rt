@@ -1,3 +1,5 @@
+//! Where bytes come from: the trait of sources.
+
 ghost use Rattle.std.specs.Prelude.{◌≡◌, ℕ, ◌^◌, ◌<◌, ◌≤◌, List, take, length, Option, IfOk, OnErr};
 ghost use Rattle.std.specs.Io.KnownBytes.{Consumes, IsAtEnd};
 ghost use Rattle.edge_core.specs.Faults.{HasRisen};

@@ -1,3 +1,5 @@
+//! Bytes that are kept up to a limit.
+
 ghost use Rattle.std.specs.Prelude.{◌≡◌, ◌-◌, ◌^◌, ◌<◌, ◌≤◌, ◌↔◌, [], ◌++◌, take, length, min, vec_capacity, IfOk, IsTrue};
 ghost use Rattle.edge_core.specs.Kept.{KeptBytes};
 

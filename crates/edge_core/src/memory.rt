@@ -1,3 +1,5 @@
+//! A source and a sink in memory whose pieces and faults are set.
+
 ghost use Rattle.std.specs.Prelude.{◌≡◌, ◌<◌, [], Some, IfOk};
 ghost use Rattle.edge_core.specs.Memory.{MemoryInput, MemoryOutput, ReadsMemory, WritesMemory};
 

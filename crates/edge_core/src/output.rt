@@ -1,3 +1,5 @@
+//! Where bytes go: the trait of sinks.
+
 ghost use Rattle.std.specs.Prelude.{ℕ, ◌^◌, ◌<◌, ◌≤◌, List, [], take, length, Bool, true, Option, IfOk, OnErr};
 ghost use Rattle.std.specs.Result.{result_ok};
 ghost use Rattle.edge_core.specs.Faults.{HasRisen};

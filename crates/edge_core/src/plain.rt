@@ -1,3 +1,5 @@
+//! A source and a sink in memory that never fail.
+
 ghost use Rattle.std.specs.Prelude.{◌≡◌, ℕ, List, [], length, min, Some, IfOk};
 ghost use Rattle.edge_core.specs.Plain.{PlainOutput, ReadsPlain, WritesPlain, told_bytes};
 

@@ -1,3 +1,5 @@
+//! Reads all of a source, up to a limit.
+
 ghost use Rattle.std.specs.Prelude.{◌≡◌, ◌+◌, ◌<◌, ◌≤◌, [], length, Some, IfOk, IfSome, OnOk, IsErrOf, IsSome};
 ghost use Rattle.edge_core.specs.Faults.{HasRisen};
 ghost use Rattle.edge_core.specs.ReadAll.{Answers};

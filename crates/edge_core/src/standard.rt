@@ -1,3 +1,5 @@
+//! Sources and sinks over the readers and writers of std.
+
 ghost use Rattle.std.specs.Prelude.{◌≡◌, ◌^◌, ◌<◌, false};
 
 use crate::faults::count_fault;

@@ -1,3 +1,5 @@
+//! Bytes that a source has not handed out yet.
+
 ghost use Rattle.std.specs.Prelude.{◌≡◌, ◌≤◌, List, ℕ, take, drop, length, min};
 
 use std::marker::Model;

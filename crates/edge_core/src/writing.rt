@@ -1,3 +1,5 @@
+//! Writes all bytes to a sink.
+
 ghost use Rattle.std.specs.Prelude.{◌<◌, ◌≤◌, take, length, IfErr, OnOk, OnErr};
 ghost use Rattle.edge_core.specs.Faults.{HasRisen};
 ghost use Rattle.edge_core.specs.Sink.{Takes, Writes};

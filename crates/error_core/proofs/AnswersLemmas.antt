@@ -5,7 +5,7 @@ use Rattle.tok_types.specs.declared.span.Span.{Span}
 use Rattle.error_fault.specs.declared.fault.Fault.{Fault}
 use Rattle.error_fault.specs.Faults.{siblings}
 use Rattle.error_fault.specs.Outcome.{Outcome, Faults, with_span, under, with_siblings}
-use Rattle.error_core.specs.Told.{Told, One, Several, part_leaves, leaves, below}
+use Rattle.error_core.specs.ErrorView.{ErrorView, One, Several, part_leaves, leaves, below}
 use Rattle.error_core.specs.Changes.{located, spanned}
 use Rattle.error_core.specs.Answers.{refusal}
 use Rattle.error_core.proofs.ToldLemmas.{map_below-more}
@@ -16,7 +16,7 @@ of_faults other [] = Faults other []
 of_faults other (first ∷ more) = Faults first more
 
 module _ {A : Type 0} where
-  pub refusal-is : (told : Told) (first : Fault) (more : List Fault) → leaves told ≡ first ∷ more
+  pub refusal-is : (told : ErrorView) (first : Fault) (more : List Fault) → leaves told ≡ first ∷ more
       → refusal {A = A} told ≡ Faults first more
   refusal-is told first more is = ap (of_faults first) is
 
@@ -26,16 +26,16 @@ module _ {A : Type 0} where
   with_span-several span first path [] next more = refl
   with_span-several span first path (other ∷ before) next more = refl
 
-  pub refusal_spanned : (told : Told) (span : Span) → with_span {A = A} span (refusal told) ≡ refusal (spanned told span)
+  pub refusal_spanned : (told : ErrorView) (span : Span) → with_span {A = A} span (refusal told) ≡ refusal (spanned told span)
   refusal_spanned (One fault) span = refl
   refusal_spanned (Several path own a b more) span =
       with_span-several span (below path a.first) path a.more b.first (b.more ++ flat_map part_leaves more)
 
-  pub refusal_located : (told : Told) (name : Text) → refusal {A = A} (located told name) ≡ under name (refusal told)
+  pub refusal_located : (told : ErrorView) (name : Text) → refusal {A = A} (located told name) ≡ under name (refusal told)
   refusal_located (One fault) name = refl
   refusal_located (Several path span a b more) name =
       ap (Faults (below (name ∷ path) a.first)) (map_below-more name path (a.more ++ (part_leaves b ++ flat_map part_leaves more)))
 
-  pub refusal-siblings : (told error : Told) (names : List Text) → leaves error ≡ siblings (leaves told) names
+  pub refusal-siblings : (told error : ErrorView) (names : List Text) → leaves error ≡ siblings (leaves told) names
       → refusal {A = A} error ≡ with_siblings names (refusal told)
   refusal-siblings told error names is = refusal-is error _ _ is

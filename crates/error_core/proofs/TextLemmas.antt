@@ -5,7 +5,7 @@ use Rattle.base_core.specs.declared.text.Text.{Text}
 use Rattle.tok_types.specs.declared.span.Span.{Span}
 use Rattle.error_fault.specs.FaultText.{path_text}
 use Rattle.error_fault.proofs.TextLemmas.{OnOk-append}
-use Rattle.error_core.specs.Told.{Told, error_text, part_of}
+use Rattle.error_core.specs.ErrorView.{ErrorView, error_text, part_of}
 use Rattle.error_core.specs.View.{of_many}
 
 -- what stands before the next of these pieces
@@ -28,12 +28,12 @@ module _ {X : Type 0} (f : X → List ℕ) (separator : List ℕ) where
       ap (λ rest. f x ++ rest) (flat_map-next xs y)
       ∙ sym (append_assoc (f x) (flat_map (λ x. separator ++ f x) xs) (separator ++ f y))
 
-flat_shown : (errors : List Told)
+flat_shown : (errors : List ErrorView)
     → flat_map (λ part. codes ", " ++ part.shown) (map part_of errors) ≡ flat_map (λ told. codes ", " ++ error_text told) errors
 flat_shown [] = refl
 flat_shown (told ∷ errors) = ap (λ rest. (codes ", " ++ error_text told) ++ rest) (flat_shown errors)
 
-pub error_text-of_many : (errors : List Told) (path : List Text) (span : Option Span) → 2 ≤ length errors
+pub error_text-of_many : (errors : List ErrorView) (path : List Text) (span : Option Span) → 2 ≤ length errors
     → error_text (of_many errors path span)
     ≡ (codes "Multiple errors: (" ++ join_by error_text (codes ", ") errors ++ codes ")") ++ path_text path
 error_text-of_many [] path span two = absurd (omega arith)

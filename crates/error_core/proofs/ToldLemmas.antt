@@ -7,7 +7,7 @@ use Rattle.tok_types.specs.declared.span.Span.{Span}
 use Rattle.error_fault.specs.declared.fault.Fault.{Fault}
 use Rattle.error_fault.specs.Fault.{with_sibling_names}
 use Rattle.error_fault.specs.Faults.{at, siblings}
-use Rattle.error_core.specs.Told.{Told, One, Several, part_of, part_leaves, first_leaf, more_leaves, leaves, below, held}
+use Rattle.error_core.specs.ErrorView.{ErrorView, One, Several, part_of, part_leaves, first_leaf, more_leaves, leaves, below, held}
 use Rattle.error_core.specs.Changes.{located, joined, flat, FlatStays}
 use Rattle.error_core.specs.declared.error.Node.{Node}
 use Rattle.error_core.specs.declared.error.Node.TheVariants.{Leaf, Many}
@@ -18,34 +18,34 @@ pub map_below-more : (name : Text) (path : List Text) (faults : List Fault)
 map_below-more name path [] = refl
 map_below-more name path (fault ∷ faults) = ap (λ more. below (name ∷ path) fault ∷ more) (map_below-more name path faults)
 
-pub leaves_located : (told : Told) (name : Text) → leaves (located told name) ≡ at (leaves told) name
+pub leaves_located : (told : ErrorView) (name : Text) → leaves (located told name) ≡ at (leaves told) name
 leaves_located (One fault) name = refl
 leaves_located (Several path span a b more) name =
     map_below-more name path (part_leaves a ++ (part_leaves b ++ flat_map part_leaves more))
 
-pub leaves-is_located : (told error : Told) (name : Text) → error ≡ located told name → leaves error ≡ at (leaves told) name
+pub leaves-is_located : (told error : ErrorView) (name : Text) → error ≡ located told name → leaves error ≡ at (leaves told) name
 leaves-is_located told error name is = ap leaves is ∙ leaves_located told name
 
 pub map_below-none : (faults : List Fault) → map (below []) faults ≡ faults
 map_below-none [] = refl
 map_below-none (fault ∷ faults) = ap (λ more. fault ∷ more) (map_below-none faults)
 
-flat_parts : (errors : List Told) → flat_map part_leaves (map part_of errors) ≡ held errors
+flat_parts : (errors : List ErrorView) → flat_map part_leaves (map part_of errors) ≡ held errors
 flat_parts [] = refl
 flat_parts (told ∷ errors) = ap (λ faults. leaves told ++ faults) (flat_parts errors)
 
 -- the faults of a root are those of its children below its path
-pub leaves_of_many : (errors : List Told) (path : List Text) (span : Option Span) → 2 ≤ length errors
+pub leaves_of_many : (errors : List ErrorView) (path : List Text) (span : Option Span) → 2 ≤ length errors
     → leaves (of_many errors path span) ≡ map (below path) (held errors)
 leaves_of_many [] path span two = absurd (omega arith)
 leaves_of_many (a ∷ []) path span two = absurd (omega arith)
 leaves_of_many (a ∷ b ∷ more) path span two =
     ap (λ faults. map (below path) (leaves a ++ (leaves b ++ faults))) (flat_parts more)
 
-pub leaves_joined : (errors : List Told) (span : Option Span) → 2 ≤ length errors → leaves (of_many errors [] span) ≡ held errors
+pub leaves_joined : (errors : List ErrorView) (span : Option Span) → 2 ≤ length errors → leaves (of_many errors [] span) ≡ held errors
 leaves_joined errors span two = leaves_of_many errors [] span two ∙ map_below-none (held errors)
 
-pub counted_joined : (errors : List Told) (n : ℕ) → 2 ≤ length errors → n ≡ sum_by (λ told. length (leaves told)) errors
+pub counted_joined : (errors : List ErrorView) (n : ℕ) → 2 ≤ length errors → n ≡ sum_by (λ told. length (leaves told)) errors
     → n ≡ length (leaves (of_many errors [] None))
 counted_joined errors n two is =
     is ∙ sym (length-flat_map leaves errors) ∙ sym (ap (length {A = Fault}) (leaves_joined errors None two))
@@ -60,7 +60,7 @@ map_below-append above path (fault ∷ faults) =
     ∙ ap (λ more. below above (below path fault) ∷ more) (map_below-append above path faults)
 
 -- the faults of the children, each below the locations above the root and those of the root
-pub gathered : (errors : List Told) (above path : List Text) (span : Option Span) → 2 ≤ length errors
+pub gathered : (errors : List ErrorView) (above path : List Text) (span : Option Span) → 2 ≤ length errors
     → map (below (above ++ path)) (held errors) ≡ map (below above) (leaves (of_many errors path span))
 gathered errors above path span two =
     map_below-append above path (held errors) ∙ ap (map (below above)) (sym (leaves_of_many errors path span two))
@@ -73,7 +73,7 @@ nothing_left (item ∷ items) none = absurd (omega arith)
 pub all_taken : {X : Type 0} (items taken left : List X) → items ≡ taken ++ left → length left ≡ 0 → items ≡ taken
 all_taken items taken left split none = split ∙ ap (λ rest. taken ++ rest) (nothing_left left none) ∙ append-nil taken
 
-pub gather_done : (errors taken left : List Told) (above path : List Text) (span : Option Span) (error : Told)
+pub gather_done : (errors taken left : List ErrorView) (above path : List Text) (span : Option Span) (error : ErrorView)
     → errors ≡ taken ++ left → length left ≡ 0 → 2 ≤ length errors → of_many errors path span ≡ error
     → map (below (above ++ path)) (held taken) ≡ map (below above) (leaves error)
 gather_done errors taken left above path span error split none two is =
@@ -87,7 +87,7 @@ siblings_below name path [] names = refl
 siblings_below name path (fault ∷ faults) names =
     ap (λ more. below (name ∷ path) fault ∷ more) (siblings_below name path faults names)
 
-siblings_of_many : (errors : List Told) (name : Text) (path : List Text) (span : Option Span) (names : List Text)
+siblings_of_many : (errors : List ErrorView) (name : Text) (path : List Text) (span : Option Span) (names : List Text)
     → siblings (leaves (of_many errors (name ∷ path) span)) names ≡ leaves (of_many errors (name ∷ path) span)
 siblings_of_many [] name path span names = refl
 siblings_of_many (a ∷ []) name path span names = refl
@@ -101,24 +101,24 @@ siblings_of_node node [] span names some = absurd (some refl)
 siblings_of_node (Leaf kind) (name ∷ path) span names some = refl
 siblings_of_node (Many kids) (name ∷ path) span names some = siblings_of_many kids.items name path span names
 
-pub siblings_joined : (errors children : List Told) (span : Option Span) (names : List Text) → 2 ≤ length errors
+pub siblings_joined : (errors children : List ErrorView) (span : Option Span) (names : List Text) → 2 ≤ length errors
     → length children ≡ length errors → held children ≡ siblings (held errors) names
     → leaves (of_many children [] span) ≡ siblings (leaves (of_many errors [] span)) names
 siblings_joined errors children span names two same is =
     leaves_joined children span (omega arith) ∙ is ∙ ap (λ faults. siblings faults names) (sym (leaves_joined errors span two))
 
-pub siblings_in_field : (node : Node) (path : List Text) (span : Option Span) (names : List Text) (told : Told)
+pub siblings_in_field : (node : Node) (path : List Text) (span : Option Span) (names : List Text) (told : ErrorView)
     → of_node node path span ≡ told → path ≢ [] → leaves told ≡ siblings (leaves told) names
 siblings_in_field node path span names told is some =
     ap leaves (sym is) ∙ sym (siblings_of_node node path span names some) ∙ ap (λ it. siblings (leaves it) names) is
 
-pub siblings_done : (errors taken left children : List Told) (path : List Text) (span : Option Span) (names : List Text) (told : Told)
+pub siblings_done : (errors taken left children : List ErrorView) (path : List Text) (span : Option Span) (names : List Text) (told : ErrorView)
     → errors ≡ taken ++ left → length left ≡ 0 → 2 ≤ length errors → path ≡ [] → length children ≡ length taken
     → held children ≡ siblings (held taken) names → of_many errors path span ≡ told
     → leaves (of_many children path span) ≡ siblings (leaves told) names
 siblings_done errors taken left children path span names told split none two top same each is =
     let all = all_taken errors taken left split none in
-    let many = same ∙ ap (length {A = Told}) (sym all) in
+    let many = same ∙ ap (length {A = ErrorView}) (sym all) in
     let kept = each ∙ ap (λ kids. siblings (held kids) names) (sym all) in
     ap (λ p. leaves (of_many children p span)) top
     ∙ siblings_joined errors children span names two many kept
@@ -134,19 +134,19 @@ flat_ones : (faults : List Fault) → flat_map part_leaves (map part_of (map One
 flat_ones [] = refl
 flat_ones (fault ∷ faults) = ap (λ more. fault ∷ more) (flat_ones faults)
 
-leaves_ones : (first : Fault) (more : List Fault) (other : Told) → leaves (joined (map One (first ∷ more)) other) ≡ first ∷ more
+leaves_ones : (first : Fault) (more : List Fault) (other : ErrorView) → leaves (joined (map One (first ∷ more)) other) ≡ first ∷ more
 leaves_ones first [] other = refl
 leaves_ones first (second ∷ more) other =
     map_below-none (first ∷ second ∷ flat_map part_leaves (map part_of (map One more)))
     ∙ ap (λ faults. first ∷ second ∷ faults) (flat_ones more)
 
 -- of a list that is not empty nothing else is made
-pub joined-other : (errors : List Told) (one other : Told) → 0 < length errors → joined errors one ≡ joined errors other
+pub joined-other : (errors : List ErrorView) (one other : ErrorView) → 0 < length errors → joined errors one ≡ joined errors other
 joined-other [] one other some = absurd (omega arith)
 joined-other (a ∷ []) one other some = refl
 joined-other (a ∷ b ∷ more) one other some = refl
 
-pub leaves_flat : (told : Told) → leaves (flat told) ≡ leaves told
+pub leaves_flat : (told : ErrorView) → leaves (flat told) ≡ leaves told
 leaves_flat told = leaves_ones (first_leaf told) (more_leaves told) told
 
 pub flat_stays : FlatStays
@@ -156,7 +156,7 @@ flat_stays told = (
   leaves_flat told,
 )
 
-pub IfOk-flat : {E : Type 0} (r : Result Told E) (errors : List Told) (faults : List Fault) (told : Told)
+pub IfOk-flat : {E : Type 0} (r : Result ErrorView E) (errors : List ErrorView) (faults : List Fault) (told : ErrorView)
     → errors ≡ map One faults → leaves told ≡ faults → IfOk r (λ error. error ≡ joined errors error)
     → IfOk r (λ error. error ≡ flat told)
 IfOk-flat (Ok error) errors faults told ones are is =
@@ -164,7 +164,7 @@ IfOk-flat (Ok error) errors faults told ones are is =
     ∙ joined-other (map One (leaves told)) error told (omega arith)
 IfOk-flat (Err e) errors faults told ones are is = tt
 
-pub IfOk-leaves_flat : {E : Type 0} (r : Result Told E) (told : Told) → IfOk r (λ error. error ≡ flat told)
+pub IfOk-leaves_flat : {E : Type 0} (r : Result ErrorView E) (told : ErrorView) → IfOk r (λ error. error ≡ flat told)
     → IfOk r (λ error. leaves error ≡ leaves told)
 IfOk-leaves_flat (Ok error) told is = ap leaves is ∙ leaves_flat told
 IfOk-leaves_flat (Err e) told is = tt

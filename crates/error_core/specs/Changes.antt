@@ -5,33 +5,33 @@ use Rattle.tok_types.specs.declared.span.Span.{Span}
 use Rattle.error_fault.specs.declared.kind.FaultKind.{FaultKind}
 use Rattle.error_fault.specs.Fault.{plain, or_span, span_or}
 use Rattle.error_fault.specs.Fault as faults
-use Rattle.error_core.specs.Told.{Told, One, Several, part_of, leaves}
+use Rattle.error_core.specs.ErrorView.{ErrorView, One, Several, part_of, leaves}
 
 -- the one fault of this kind, in no field and at no place
-abbrev pub leaf : FaultKind → Told
+abbrev pub leaf : FaultKind → ErrorView
 leaf kind = One (plain kind)
 
 -- the root's span is set where it has none
-abbrev pub spanned : Told → Span → Told
+abbrev pub spanned : ErrorView → Span → ErrorView
 spanned (One fault) span = One (or_span fault span)
 spanned (Several path own a b more) span = Several path (span_or own span) a b more
 
 -- the location in front of the root's
-abbrev pub located : Told → Text → Told
+abbrev pub located : ErrorView → Text → ErrorView
 located (One fault) name = One (faults.located fault name)
 located (Several path span a b more) name = Several (name ∷ path) span a b more
 
 -- the one error of a list of one; the errors of a longer list as the children of a root in no field and
 -- at no place (of no errors nothing is made: `other` stands there)
-abbrev pub joined : List Told → Told → Told
+abbrev pub joined : List ErrorView → ErrorView → ErrorView
 joined [] other = other
 joined (a ∷ []) other = a
 joined (a ∷ b ∷ more) other = Several [] None (part_of a) (part_of b) (map part_of more)
 
 -- each fault as a child of the root; a single fault alone
-abbrev pub flat : Told → Told
+abbrev pub flat : ErrorView → ErrorView
 flat told = joined (map One (leaves told)) told
 
 -- what is flat stays as it is, and has the faults of what it was made from
 abbrev pub FlatStays : Type 0
-FlatStays = (told : Told) → (flat (flat told) ≡ flat told) × (leaves (flat told) ≡ leaves told)
+FlatStays = (told : ErrorView) → (flat (flat told) ≡ flat told) × (leaves (flat told) ≡ leaves told)

@@ -8,10 +8,10 @@ use Rattle.tok_types.specs.declared.span.Span.{Span}
 use Rattle.error_core.specs.declared.error.Node.{Node}
 use Rattle.error_core.specs.declared.error.Node.TheVariants.{Leaf, Many}
 use Rattle.error_core.specs.declared.error.Error.TheDeep.{deep-Node}
-use Rattle.error_core.specs.Told.{Told, Several, Part, part_of, part_leaves, leaves, below}
+use Rattle.error_core.specs.ErrorView.{ErrorView, Several, Part, part_of, part_leaves, leaves, below}
 use Rattle.error_core.specs.View.{of_many, of_node, IsNode}
 
-pub most-leaves : (errors : List Told)
+pub most-leaves : (errors : List ErrorView)
     → most (λ told. length (leaves told) + 1) errors ≤ length (flat_map part_leaves (map part_of errors)) + 1
 most-leaves [] = omega arith
 most-leaves (told ∷ errors) =
@@ -24,7 +24,7 @@ length-leaves path span a b more =
     let e = length-map (part_leaves a ++ (part_leaves b ++ flat_map part_leaves more)) (below path) in
     omega (arith, e, length-append (part_leaves a) (part_leaves b ++ flat_map part_leaves more), length-append (part_leaves b) (flat_map part_leaves more))
 
-pub most-of_many : (errors : List Told) (path : List Text) (span : Option Span) → 2 ≤ length errors
+pub most-of_many : (errors : List ErrorView) (path : List Text) (span : Option Span) → 2 ≤ length errors
     → most (λ told. length (leaves told) + 1) errors ≤ length (leaves (of_many errors path span))
 most-of_many [] path span two = absurd (omega arith)
 most-of_many (a ∷ []) path span two = absurd (omega arith)

@@ -1,4 +1,4 @@
-pub mod Told
+pub mod ErrorView
 pub mod Changes
 pub mod View
 pub mod Falls
@@ -6,3 +6,14 @@ pub mod Answers
 pub mod NodeKinds
 pub mod Syn
 pub mod CompileErrors
+pub mod Types
+pub use Rattle.error_fault.specs.Fault
+pub use Rattle.error_fault.specs.FaultText
+pub use Rattle.error_fault.specs.Faults
+pub use Rattle.error_fault.specs.Kind
+pub use Rattle.error_fault.specs.Outcome
+pub use Rattle.node_core.specs.Error
+pub use Rattle.node_core.specs.Nodes
+pub use Rattle.node_core.specs.PathText
+pub use Rattle.node_span.specs.Spanned
+pub use Rattle.tok_types.specs.Tokens

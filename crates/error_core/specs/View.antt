@@ -6,20 +6,20 @@ use Rattle.error_fault.specs.declared.kind.FaultKind.TheVariants.{Custom}
 use Rattle.error_core.specs.declared.error.Node.{Node}
 use Rattle.error_core.specs.declared.error.Node.TheVariants.{Leaf, Many}
 use Rattle.error_core.specs.declared.error.Error.TheInside.{Inside}
-use Rattle.error_core.specs.Told.{Told, One, Several, part_of, leaves}
+use Rattle.error_core.specs.ErrorView.{ErrorView, One, Several, part_of, leaves}
 
 -- a root over these children, of which there are two at least
-abbrev pub of_many : List Told → List Text → Option Span → Told
+abbrev pub of_many : List ErrorView → List Text → Option Span → ErrorView
 of_many (a ∷ b ∷ more) path span = Several path span (part_of a) (part_of b) (map part_of more)
 of_many _ path span = One (record { kind = Custom []; path = path; span = span })
 
 -- a root of this node
-abbrev pub of_node : Node → List Text → Option Span → Told
+abbrev pub of_node : Node → List Text → Option Span → ErrorView
 of_node (Leaf kind) path span = One (record { kind = kind; path = path; span = span })
 of_node (Many kids) path span = of_many kids.items path span
 
 -- the error that the fields show
-abbrev pub told : Inside → Told
+abbrev pub told : Inside → ErrorView
 told inside = of_node inside.node inside.locations inside.span
 
 -- an inner node has two children at least

@@ -1,9 +1,9 @@
 //! Errors that are collected while an input is read.
 
-ghost use Rattle.std.specs.Prelude.{◌≡◌, ◌↔◌, ◌++◌, ◌∷◌, [], OnOk, OnErr, IsOk};
+ghost use Rattle.std.specs.Prelude.{◌≡◌, ◌↔◌, ◌++◌, ◌∷◌, [], OnOk, OnErr, IsOk, IfErr};
 ghost use Rattle.error_fault.specs.Outcome.{Value, settle};
-ghost use Rattle.error_core.specs.Told.{held};
-ghost use Rattle.error_core.specs.Answers.{Answers, Handles};
+ghost use Rattle.error_core.specs.ErrorView.{held};
+ghost use Rattle.error_core.specs.Answers.{Answers, Handles, IsJoined};
 
 use crate::error::Error;
 use crate::fail::{Fail, Result};
@@ -25,9 +25,9 @@ pub struct Accumulator {
 
 impl Model for Accumulator {
     ghost use Rattle.std.specs.Prelude.{List};
-    ghost use Rattle.error_core.specs.Told.{Told};
+    ghost use Rattle.error_core.specs.ErrorView.{ErrorView};
 
-    ghost Value = { List Told };
+    ghost Value = { List ErrorView };
 
     ghost view = { λ accumulator. accumulator.errors.items };
 }
@@ -70,11 +70,13 @@ impl Accumulator {
     {
         match outcome {
             Ok(value) => Ok(Some(value)),
-            Err(Fail::Faults(error)) => {
+            Err(fail) => {
+                let Some(error) = fail.into_error() else {
+                    return Err(AllocError);
+                };
                 self.push(alloc, error)?;
                 Ok(None)
             }
-            Err(Fail::NoMemory) => Err(AllocError),
         }
     }
 
@@ -97,6 +99,7 @@ impl Accumulator {
     /// `()` where no error was collected; else all of them as one, by [`Error::multiple`].
     pub fn finish(self) -> Result<()>
         ensures answer { Answers (λ value. value) result (settle (held self) (Value tt)) }
+        ensures error { IfErr result (IsJoined self) }
         ensures value { IsOk result ↔ (self ≡ []) }
     {
         self.finish_with(())
@@ -105,6 +108,7 @@ impl Accumulator {
     /// The value where no error was collected; else all of them as one, by [`Error::multiple`].
     pub fn finish_with<T: Drop>(self, success: T) -> Result<T>
         ensures answer { Answers (λ value. value) result (settle (held self) (Value success)) }
+        ensures error { IfErr result (IsJoined self) }
         ensures value { IsOk result ↔ (self ≡ []) }
     {
         let Accumulator { errors, alloc } = self;
@@ -117,6 +121,7 @@ impl Accumulator {
     /// A fresh accumulator where no error was collected; else all of them as one.
     pub fn checkpoint(self) -> Result<Accumulator>
         ensures answer { Answers (λ fresh. fresh) result (settle (held self) (Value [])) }
+        ensures error { IfErr result (IsJoined self) }
         ensures value { IsOk result ↔ (self ≡ []) }
     {
         let alloc = self.alloc;

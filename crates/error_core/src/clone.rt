@@ -1,7 +1,7 @@
-//! Clones of errors.
+//! Clones of errors, and of why a call gives no value.
 
-use crate::error::{Error, Node};
-use crate::siblings::push_child;
+use crate::error::{Error, Node, push_child};
+use crate::fail::Fail;
 use error_fault::{Mem, TryClone};
 use std::alloc::Global;
 
@@ -25,5 +25,14 @@ impl TryClone for Error {
             count: self.count,
             alloc,
         })
+    }
+}
+
+impl TryClone for Fail {
+    fn try_clone(&self, alloc: Global) -> Mem<Fail> {
+        match self {
+            Fail::Faults(error) => Ok(Fail::Faults(error.try_clone(alloc)?)),
+            Fail::NoMemory => Ok(Fail::NoMemory),
+        }
     }
 }

@@ -3,7 +3,7 @@ ghost use Rattle.std.specs.Prelude.{◌≡◌, ◌++◌, map, IfOk, OnOk};
 ghost use Rattle.node_core.specs.Error.{faults_of};
 ghost use Rattle.error_core.specs.CompileErrors as spec;
 ghost use Rattle.error_core.specs.Syn.{syn_fault};
-ghost use Rattle.error_core.specs.Told.{leaves};
+ghost use Rattle.error_core.specs.ErrorView.{leaves};
 
 use crate::error::Error;
 use error_fault::{Items, Mem, Span, Text};

@@ -1,9 +1,10 @@
 //! An error: a tree of faults that is never empty.
 
-ghost use Rattle.std.specs.Prelude.{◌≡◌, ◌+◌, ◌<◌, ◌≤◌, [], ◌∷◌, length, flat_map, IfOk, IsTrue, ◌↔◌, IsSome, sum_by};
+ghost use Rattle.std.specs.Prelude.{◌≡◌, ◌+◌, ◌++◌, ◌<◌, ◌≤◌, [], ◌∷◌, length, map, flat_map, IfOk, OnOk, IsTrue, ◌↔◌, IsSome, sum_by};
 ghost use Rattle.std.specs.Option.{unwrap_or};
-ghost use Rattle.error_fault.specs.Faults.{span_one, at};
-ghost use Rattle.error_core.specs.Told.{One, leaves, span_of, held};
+ghost use Rattle.error_fault.specs.Faults.{span_one, at, siblings};
+ghost use Rattle.error_fault.specs.Kind.{with_alternatives};
+ghost use Rattle.error_core.specs.ErrorView.{One, below, leaves, part_of, parts, span_of, held};
 ghost use Rattle.error_core.specs.Changes.{spanned, located, joined};
 
 use error_fault::{Fault, FaultKind, Items, Mem, Span, Text};
@@ -13,7 +14,6 @@ use std::marker::Model;
 /// What is wrong with an input: at least one fault. An error is a leaf with one fault, or a root over
 /// at least two errors; either has the names of the fields that lead to it, and perhaps a place.
 #[cycle(error)]
-#[derive(Drop)]
 pub struct Error {
     pub(crate) node: Node,
     pub(crate) locations: Items<Text>,
@@ -33,9 +33,9 @@ pub(crate) enum Node {
 
 impl Model for Error {
     ghost use Rattle.std.specs.Prelude.{length};
-    ghost use Rattle.error_core.specs.Told.{Told, leaves};
+    ghost use Rattle.error_core.specs.ErrorView.{ErrorView, leaves};
 
-    ghost Value = { Told };
+    ghost Value = { ErrorView };
 
     ghost use Rattle.error_core.specs.View.{told, IsError};
 
@@ -133,6 +133,92 @@ impl Error {
         self.locations.insert(0, name)?;
         Ok(self)
     }
+
+    /// An unknown field that stands in no field has these alternatives too; all else stays. Want of
+    /// memory drops the error.
+    pub fn add_sibling_alts_for_unknown_field(self, alloc: Global, alts: &[Text]) -> Mem<Error>
+        ensures leaves { IfOk result (λ error. leaves error ≡ siblings (leaves self) alts.now) }
+        ensures span { IfOk result (λ error. span_of error ≡ span_of self) }
+    {
+        if !self.locations.is_empty() {
+            return Ok(self);
+        }
+        let Error {
+            node,
+            locations,
+            span,
+            count,
+            alloc: _,
+        } = self;
+        match node {
+            Node::Leaf(kind) => Ok(Error {
+                node: Node::Leaf(widened(alloc, kind, alts)?),
+                locations,
+                span,
+                count,
+                alloc,
+            }),
+            Node::Many(errors) => {
+                let mut children = Vec::new(alloc);
+                for child in errors {
+                    let wider = child.add_sibling_alts_for_unknown_field(alloc, alts)?;
+                    push_child(&mut children, wider)?;
+                }
+                Ok(Error {
+                    node: Node::Many(children),
+                    locations,
+                    span,
+                    count,
+                    alloc,
+                })
+            }
+        }
+    }
+
+    /// The children of the root in order, or the one leaf itself.
+    pub(crate) fn into_children(self, alloc: Global) -> Mem<Vec<Error>>
+        ensures { IfOk result (λ children. map part_of children.items ≡ parts self) }
+    {
+        let Error {
+            node,
+            locations,
+            span,
+            count: _,
+            alloc: _,
+        } = self;
+        match node {
+            Node::Leaf(kind) => {
+                let mut one = Vec::new(alloc);
+                let path = locations;
+                one.push(Error::from_fault(alloc, Fault { kind, path, span }))?;
+                Ok(one)
+            }
+            Node::Many(errors) => Ok(errors),
+        }
+    }
+
+    /// Puts the faults of the error behind the others, each with the path `above` in front of its own.
+    pub(crate) fn gather(self, alloc: Global, above: &[Text], faults: &mut Items<Fault>) -> Mem<()>
+        ensures { OnOk result (faults.new ≡ faults.old ++ map (below above.now) (leaves self)) }
+    {
+        let Error {
+            node,
+            locations,
+            span,
+            count: _,
+            alloc: _,
+        } = self;
+        let path = path_below(alloc, above, locations)?;
+        match node {
+            Node::Leaf(kind) => push_fault(faults, kind, path, span),
+            Node::Many(errors) => {
+                for child in errors {
+                    child.gather(alloc, path.as_slice(), faults)?;
+                }
+                Ok(())
+            }
+        }
+    }
 }
 
 fn only(errors: Vec<Error>) -> Error
@@ -154,4 +240,58 @@ fn count_all(errors: &[Error]) -> Mem<usize>
         count = count.checked_add(error.len()).ok_or(AllocError)?;
     }
     Ok(count)
+}
+
+// What does not recur in the walks over a tree stands apart, so that each level takes little stack.
+
+#[inline(never)]
+fn widened(alloc: Global, kind: FaultKind, alts: &[Text]) -> Mem<FaultKind>
+    ensures { IfOk result (λ it. it ≡ with_alternatives kind alts.now) }
+{
+    kind.with_alternatives(alloc, alts)
+}
+
+#[inline(never)]
+pub(crate) fn push_child(children: &mut Vec<Error>, child: Error) -> Mem<()>
+    ensures { OnOk result (children.new.items ≡ children.old.items ++ child ∷ []) }
+{
+    children.push(child)?;
+    Ok(())
+}
+
+#[inline(never)]
+fn path_below(alloc: Global, above: &[Text], locations: Items<Text>) -> Mem<Items<Text>>
+    ensures { IfOk result (λ path. path ≡ above.now ++ locations) }
+{
+    let mut path = Items::from_slice(alloc, above)?;
+    path.append(locations)?;
+    Ok(path)
+}
+
+#[inline(never)]
+fn push_fault(
+    faults: &mut Items<Fault>,
+    kind: FaultKind,
+    path: Items<Text>,
+    span: Option<Span>,
+) -> Mem<()>
+    ensures { OnOk result (faults.new ≡ faults.old ++ record { kind = kind; path = path; span = span } ∷ []) }
+{
+    faults.push(Fault { kind, path, span })
+}
+
+impl Drop for Error {
+    fn drop(self) {
+        let Self {
+            node,
+            locations: _locations,
+            span: _,
+            count: _,
+            alloc: _,
+        } = self;
+        match node {
+            Node::Leaf(_kind) => {}
+            Node::Many(_errors) => {}
+        }
+    }
 }

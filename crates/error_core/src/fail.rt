@@ -1,13 +1,36 @@
 //! Why a call gives no value: faults, or want of memory.
 
+ghost use Rattle.std.specs.Prelude.{◌≡◌};
+ghost use Rattle.error_core.specs.Answers.{fail_of};
+
 use crate::error::Error;
 use std::alloc::{AllocError, AllocFailed};
 
 /// Why a call gives no value.
-#[derive(Drop)]
 pub enum Fail {
     Faults(Error),
     NoMemory,
+}
+
+impl Fail {
+    /// The faults. `None` is want of memory.
+    pub fn into_error(self) -> Option<Error>
+        ensures { self ≡ fail_of result }
+    {
+        match self {
+            Fail::Faults(error) => Some(error),
+            Fail::NoMemory => None,
+        }
+    }
+}
+
+impl Drop for Fail {
+    fn drop(self) {
+        match self {
+            Fail::Faults(_error) => {}
+            Fail::NoMemory => {}
+        }
+    }
 }
 
 /// A value, or why there is none.

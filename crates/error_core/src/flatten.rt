@@ -1,11 +1,11 @@
 //! The faults of an error from left to right.
 
-ghost use Rattle.std.specs.Prelude.{◌≡◌, ◌++◌, ◌∷◌, [], map, length, IfOk, OnOk};
+ghost use Rattle.std.specs.Prelude.{◌≡◌, IfOk};
 ghost use Rattle.error_core.specs.Changes.{flat};
-ghost use Rattle.error_core.specs.Told.{leaves, below};
+ghost use Rattle.error_core.specs.ErrorView.{leaves};
 
-use crate::error::{Error, Node};
-use error_fault::{Fault, FaultKind, Items, Mem, Span, Text};
+use crate::error::Error;
+use error_fault::{Fault, Items, Mem};
 use std::alloc::Global;
 
 impl Error {
@@ -15,7 +15,7 @@ impl Error {
         ensures { IfOk result (λ faults. faults ≡ leaves self) }
     {
         let mut faults = Items::new(alloc);
-        gather(self, alloc, &[], &mut faults)?;
+        self.gather(alloc, &[], &mut faults)?;
         Ok(faults)
     }
 
@@ -30,50 +30,5 @@ impl Error {
             errors.push(Error::from_fault(alloc, fault))?;
         }
         Error::multiple(alloc, errors)
-    }
-}
-
-// The parts of `gather` that do not recur stand apart, so that each level takes little stack.
-
-#[inline(never)]
-fn path_below(alloc: Global, above: &[Text], locations: Items<Text>) -> Mem<Items<Text>>
-    ensures { IfOk result (λ path. path ≡ above.now ++ locations) }
-{
-    let mut path = Items::from_slice(alloc, above)?;
-    path.append(locations)?;
-    Ok(path)
-}
-
-#[inline(never)]
-fn push_fault(
-    faults: &mut Items<Fault>,
-    kind: FaultKind,
-    path: Items<Text>,
-    span: Option<Span>,
-) -> Mem<()>
-    ensures { OnOk result (faults.new ≡ faults.old ++ record { kind = kind; path = path; span = span } ∷ []) }
-{
-    faults.push(Fault { kind, path, span })
-}
-
-/// Puts the faults of the error behind the others, each with the path `above` in front of its own.
-fn gather(error: Error, alloc: Global, above: &[Text], faults: &mut Items<Fault>) -> Mem<()>
-    ensures { OnOk result (faults.new ≡ faults.old ++ map (below above.now) (leaves error)) }
-{
-    let Error {
-        node,
-        locations,
-        span,
-        ..
-    } = error;
-    let path = path_below(alloc, above, locations)?;
-    match node {
-        Node::Leaf(kind) => push_fault(faults, kind, path, span),
-        Node::Many(errors) => {
-            for child in errors {
-                gather(child, alloc, path.as_slice(), faults)?;
-            }
-            Ok(())
-        }
     }
 }

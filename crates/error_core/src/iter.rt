@@ -2,17 +2,16 @@
 
 ghost use Rattle.std.specs.Prelude.{◌≡◌, map, length, IfOk};
 ghost use Rattle.std.specs.Iterator.{YieldsFirst, item_count};
-ghost use Rattle.error_core.specs.Told.{part_of, parts};
+ghost use Rattle.error_core.specs.ErrorView.{part_of, parts};
 
-use crate::error::{Error, Node};
-use error_fault::{Fault, Mem};
+use crate::error::Error;
+use error_fault::Mem;
 use std::alloc::Global;
 use std::iter::FusedIterator;
 use std::marker::Model;
 use std::vec;
 
 /// The children of an error, by value. A contract sees those that are still to come.
-#[derive(Drop)]
 pub struct IntoIter {
     inner: vec::IntoIter<Error>,
 }
@@ -20,9 +19,9 @@ pub struct IntoIter {
 impl Model for IntoIter {
     ghost use Rattle.std.specs.Prelude.{List};
     ghost use Rattle.std.specs.Vec.Iter.{into_iter_items};
-    ghost use Rattle.error_core.specs.Told.{Told};
+    ghost use Rattle.error_core.specs.ErrorView.{ErrorView};
 
-    ghost Value = { List Told };
+    ghost Value = { List ErrorView };
 
     ghost view = { λ it. into_iter_items it.inner };
 }
@@ -46,23 +45,15 @@ impl Error {
     pub fn into_iter(self, alloc: Global) -> Mem<IntoIter>
         ensures { IfOk result (λ it. map part_of it ≡ parts self) }
     {
-        let Error {
-            node,
-            locations,
-            span,
-            ..
-        } = self;
-        let children = match node {
-            Node::Leaf(kind) => {
-                let mut one = Vec::new(alloc);
-                let path = locations;
-                one.push(Error::from_fault(alloc, Fault { kind, path, span }))?;
-                one
-            }
-            Node::Many(errors) => errors,
-        };
+        let children = self.into_children(alloc)?;
         Ok(IntoIter {
             inner: children.into_iter(),
         })
+    }
+}
+
+impl Drop for IntoIter {
+    fn drop(self) {
+        let Self { inner: _inner } = self;
     }
 }

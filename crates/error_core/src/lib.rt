@@ -15,7 +15,6 @@ mod flatten;
 mod iter;
 mod laws;
 mod nodes;
-mod siblings;
 mod syn;
 mod text;
 
@@ -26,3 +25,5 @@ pub use error_fault::{Fault, FaultKind, Items, Mem, Span, Text, TryClone};
 pub use fail::{Fail, Result};
 pub use iter::IntoIter;
 pub use laws::flat_stays_flat;
+pub use node_core::{Expr, Lit, LitStr, Path, SynError, TokenStream};
+pub use node_span::Spanned;

@@ -8,7 +8,7 @@ ghost use Rattle.node_make.specs.PathText.{path_text};
 ghost use Rattle.node_span.specs.Spanned.{expr_span, lit_span};
 ghost use Rattle.error_core.specs.Changes.{leaf, located, spanned};
 ghost use Rattle.error_core.specs.NodeKinds.{expr_kind, lit_kind};
-ghost use Rattle.error_core.specs.Told.{One, leaves};
+ghost use Rattle.error_core.specs.ErrorView.{One, leaves};
 
 use crate::error::Error;
 use error_fault::{FaultKind, Mem, Text};

@@ -4,7 +4,7 @@ ghost use Rattle.std.specs.Prelude.{◌≡◌, map, IfOk};
 ghost use Rattle.error_fault.specs.Fault.{at_span};
 ghost use Rattle.node_core.specs.Error.{faults_of};
 ghost use Rattle.error_core.specs.Syn.{syn_fault};
-ghost use Rattle.error_core.specs.Told.{One, leaves};
+ghost use Rattle.error_core.specs.ErrorView.{One, leaves};
 
 use crate::error::Error;
 use error_fault::{Fault, FaultKind, Items, Mem, Span, Text, fault_text, kind_text};

@@ -1,7 +1,7 @@
 //! The text of an error.
 
 ghost use Rattle.std.specs.Prelude.{◌≡◌, ◌++◌, IfOk, OnOk};
-ghost use Rattle.error_core.specs.Told.{error_text};
+ghost use Rattle.error_core.specs.ErrorView.{error_text};
 
 use crate::error::{Error, Node};
 use error_fault::{Mem, Text, kind_text, path_text};

@@ -1,6 +1,7 @@
 -- The text of a fault, and the line that shows it.
 use Rattle.std.specs.Prelude.{ℕ, ◌==◌, ◌&&◌, nat_lt, if◌then◌else◌, List, [], ◌∷◌, ◌++◌, length, flat_map, codes, decimal, chars, encode_utf8, Option, Some, None}
 use Rattle.std.specs.List.{join_by}
+use Rattle.tok_types.specs.Ascii.{backslash, carriage_return, line_feed}
 use Rattle.base_core.specs.declared.text.Text.{Text}
 use Rattle.tok_types.specs.declared.span.Span.{Span}
 use Rattle.tok_types.specs.declared.span.Span.TheVariants.{CallSite, At}
@@ -55,9 +56,9 @@ span_text (Some (At source start end)) = decimal start ++ codes ".." ++ decimal 
 -- a character as a line shows it: a backslash, a line feed, a carriage return, a tab and NUL by an escape
 abbrev pub escaped_char : ℕ → List ℕ
 escaped_char c =
-    if c == 92 then codes "\\\\"
-    else if c == 10 then codes "\\n"
-    else if c == 13 then codes "\\r"
+    if c == backslash then codes "\\\\"
+    else if c == line_feed then codes "\\n"
+    else if c == carriage_return then codes "\\r"
     else if c == 9 then codes "\\t"
     else if c == 0 then codes "\\0"
     else encode_utf8 c

@@ -7,7 +7,7 @@ use Rattle.meta_nested.specs.Nested.{is_attribute}
 use Rattle.meta_nested.specs.Values.{before_comma}
 use Rattle.meta_nested.proofs.Commas.{before_comma-stop}
 use Rattle.print_core.specs.Marks.{Trees}
-use Rattle.law_prefix.specs.Alike.{stops}
+use Rattle.law_prefix.specs.SameLookahead.{stops}
 use Rattle.law_nested.proofs.Stops.{Ended}
 
 -- they are up to the next comma what they were

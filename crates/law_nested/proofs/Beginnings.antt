@@ -26,7 +26,7 @@ use Rattle.meta_nested.specs.Nested.{is_boolean, is_truth, item_start}
 use Rattle.print_core.specs.declared.path.PathStyle.TheVariants.{Plain}
 use Rattle.print_core.specs.Marks.{Trees}
 use Rattle.print_core.specs.Nodes.{path_tokens}
-use Rattle.law_prefix.specs.Front.{at}
+use Rattle.law_prefix.specs.ReadsByPrefix.{at}
 use Rattle.law_round_trip.specs.Follow.{begins_expr}
 use Rattle.law_round_trip.proofs.Prints.{path_parts-make, print-None, print-segment}
 use Rattle.law_round_trip_items.specs.Follow.{StartsPath}

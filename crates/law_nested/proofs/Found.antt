@@ -4,12 +4,12 @@ use Rattle.meta_nested.specs.declared.item.Found.{Found}
 use Rattle.meta_nested.specs.declared.item.Found.TheVariants as found
 use Rattle.meta_nested.specs.Nodes.{nested_tokens}
 use Rattle.print_core.specs.Marks.{Trees}
-use Rattle.law_nested.specs.Bare.{bare_nested}
-use Rattle.law_nested.specs.Shut.{Shut}
+use Rattle.law_nested.specs.Erased.{erased_nested}
+use Rattle.law_nested.specs.StaysBad.{StaysBad}
 
-abbrev pub bare_found : Found → Found
-bare_found (found.Item it) = found.Item (bare_nested it)
-bare_found (found.Attribute place) = found.Attribute place
+abbrev pub erased_found : Found → Found
+erased_found (found.Item it) = found.Item (erased_nested it)
+erased_found (found.Attribute place) = found.Attribute place
 
 abbrev pub found_tokens : Found → Trees
 found_tokens (found.Item it) = nested_tokens it
@@ -17,5 +17,5 @@ found_tokens (found.Attribute place) = []
 
 -- an item, and no attribute that stands in the place of a value
 abbrev pub Good : Found → Type 0
-Good (found.Item it) = Shut it
+Good (found.Item it) = StaysBad it
 Good (found.Attribute place) = ⊥

@@ -8,4 +8,4 @@ pub mod Literals
 pub mod Bads
 pub mod Pairs
 pub mod Wholes
-pub mod Shuts
+pub mod StayBad

@@ -24,8 +24,8 @@ use Rattle.meta_nested.specs.declared.item.ItemStart.TheVariants as start
 use Rattle.meta_nested.specs.Nested.{as_lit, bool_of, boolean, is_truth, item, item_by, item_start, literal}
 use Rattle.print_core.specs.Literals.{lit_tokens}
 use Rattle.print_core.specs.Marks.{Trees, word as printed_word}
-use Rattle.law_spans.specs.Bare.{bare_lit}
-use Rattle.law_prefix.specs.Front.{at}
+use Rattle.law_spans.specs.Erased.{erased_lit}
+use Rattle.law_prefix.specs.ReadsByPrefix.{at}
 use Rattle.law_round_trip.specs.Printed.{Reads}
 use Rattle.law_round_trip.proofs.Atoms.{is_true, sees-truth, truth_tokens, truth_word}
 use Rattle.law_round_trip.proofs.AtomStarts.{literal_of-Literal}
@@ -35,7 +35,7 @@ use Rattle.law_round_trip.proofs.Starts.{mark-seen}
 use Rattle.law_round_trip.proofs.Steps.{bind-at}
 use Rattle.law_round_trip.proofs.Takes.{skipped-over}
 use Rattle.law_round_trip_items.proofs.Values.{signed-back}
-use Rattle.law_nested.proofs.Found.{bare_found, found_tokens}
+use Rattle.law_nested.proofs.Found.{erased_found, found_tokens}
 use Rattle.law_nested.proofs.Stops.{Ended}
 
 -- an item is read by where it starts
@@ -48,11 +48,11 @@ abbrev Starts : ItemStart → Trees → Type 0
 Starts which tail = (item_start tail ≡ which) × (is_end tail ≡ false)
 
 abbrev pub ReadsItem : Trees → Found → Type 0
-ReadsItem = Reads bare_found (λ tail. is_end tail ≡ false) Ended item
+ReadsItem = Reads erased_found (λ tail. is_end tail ≡ false) Ended item
 
 -- what reads a literal
 abbrev ReadsLit : ItemStart → Parser Lit → Lit → Type 0
-ReadsLit which parser found = Reads bare_lit (Starts which) Ended parser (lit_tokens found) found
+ReadsLit which parser found = Reads erased_lit (Starts which) Ended parser (lit_tokens found) found
 
 reads-item : (which : ItemStart) (parser : Parser Lit) (found : Lit) → ((input : Input) → item_by which input ≡ (as_lit <$> parser) input) → ReadsLit which parser found → ReadsItem (lit_tokens found) (as_lit found)
 reads-item which parser found by one = record {

@@ -27,9 +27,9 @@ use Rattle.print_core.specs.declared.path.PathStyle.TheVariants.{Plain}
 use Rattle.print_core.specs.Marks.{Trees, group, mark}
 use Rattle.print_core.specs.Nodes.{expr_tokens, path_tokens}
 use Rattle.meta_nested.specs.Nodes.{nested_tokens}
-use Rattle.law_spans.specs.Bare.{bare_expr, bare_path, bare_stream}
-use Rattle.law_nested.specs.Bare.{bare_nested}
-use Rattle.law_prefix.specs.Front.{at}
+use Rattle.law_spans.specs.Erased.{erased_expr, erased_path, erased_stream}
+use Rattle.law_nested.specs.Erased.{erased_nested}
+use Rattle.law_prefix.specs.ReadsByPrefix.{at}
 use Rattle.law_round_trip.specs.Follow.{Keep}
 use Rattle.law_round_trip.specs.Printed.{Again, Reads}
 use Rattle.law_round_trip.proofs.Follows.{never}
@@ -39,8 +39,8 @@ use Rattle.law_round_trip.proofs.Takes.{contents_of-group, group-length, skipped
 use Rattle.law_round_trip_items.specs.Follow.{StartsPath}
 use Rattle.law_round_trip_items.proofs.Attributes.{group-grouped, mark-grouped, meta_path-back}
 use Rattle.law_round_trip.proofs.Streams.{contents-stream}
-use Rattle.law_nested.proofs.Found.{Good, bare_found, found_tokens}
-use Rattle.law_nested.specs.Shut.{IsShut}
+use Rattle.law_nested.proofs.Found.{Good, erased_found, found_tokens}
+use Rattle.law_nested.specs.StaysBad.{IsBad}
 use Rattle.law_nested.proofs.Bads.{attribute-again, before_comma-again}
 use Rattle.law_nested.proofs.Beginnings.{path-starts}
 use Rattle.law_nested.proofs.Literals.{ReadsItem, boolean-item, item-at, literal-item, signed-item}
@@ -55,7 +55,7 @@ record ReadsBehind (path : Path) (rest : Trees) (found : Found) : Type 0 where
   is : found_tokens found ≡ path_tokens Plain path ++ tokens
   colons : (tail : Trees) → Ended tail → is_colons (tokens ++ tail) ≡ false
   equals : (tail : Trees) → Ended tail → is_equals (tokens ++ tail) ≡ is_equals rest
-  again : (start : Span) (other : Path) → bare_path other ≡ bare_path path → (tail : Trees) (last : Span) → Ended tail → Again bare_found (path_by start other (delimiter_of (tokens ++ tail))) (at (tokens ++ tail) last) tail found
+  again : (start : Span) (other : Path) → erased_path other ≡ erased_path path → (tail : Trees) (last : Span) → Ended tail → Again erased_found (path_by start other (delimiter_of (tokens ++ tail))) (at (tokens ++ tail) last) tail found
 
 path_item-at : (tokens behind : Trees) (last new : Span) (path : Path) → meta_path (at tokens last) ≡ Some (path, at behind new) → path_item (at tokens last) ≡ path_by (first_span tokens) path (delimiter_of behind) (at behind new)
 unfolding path_item
@@ -65,7 +65,7 @@ path_item-at tokens behind last new path e = rw e refl
 path-reads : (input between : Input) (path : Path) (found : Found) → meta_path input ≡ Some (path, between) → item_start input.rest ≡ start.Path → ReadsBehind path between.rest found → ReadsItem (found_tokens found) found
 path-reads input between path found e starts behind = rw (behind.is) (record { again = read; first = λ tail f. rw (append_assoc (path_tokens Plain path) behind.tokens tail) (seen tail f).some })
   where
-    one : Reads bare_path (StartsPath input.rest) (λ tail. Keep is_colons between.rest tail) meta_path (path_tokens Plain path) path
+    one : Reads erased_path (StartsPath input.rest) (λ tail. Keep is_colons between.rest tail) meta_path (path_tokens Plain path) path
     one = meta_path-back.of input between path e
 
     keep : (tail : Trees) → Ended tail → Keep is_colons between.rest (behind.tokens ++ tail)
@@ -74,7 +74,7 @@ path-reads input between path found e starts behind = rw (behind.is) (record { a
     seen : (tail : Trees) → Ended tail → StartsPath input.rest (path_tokens Plain path ++ (behind.tokens ++ tail))
     seen tail f = one.first (behind.tokens ++ tail) (keep tail f)
 
-    read : (tail : Trees) (last : Span) → Ended tail → Again bare_found item (at ((path_tokens Plain path ++ behind.tokens) ++ tail) last) tail found
+    read : (tail : Trees) (last : Span) → Ended tail → Again erased_found item (at ((path_tokens Plain path ++ behind.tokens) ++ tail) last) tail found
     read tail last f =
         let tokens : Trees = path_tokens Plain path ++ (behind.tokens ++ tail) in
         let mine = one.again (behind.tokens ++ tail) last (keep tail f) in
@@ -128,11 +128,11 @@ grouped path between tokens rest span none = record {
 
 -- ---- `=` and a value
 
-abbrev bare_value : Value → Value
-bare_value (kind.Expr it) = kind.Expr (bare_expr it)
-bare_value (kind.Bad tokens place) = kind.Bad (bare_stream tokens) CallSite
+abbrev erased_value : Value → Value
+erased_value (kind.Expr it) = kind.Expr (erased_expr it)
+erased_value (kind.Bad tokens place) = kind.Bad (erased_stream tokens) CallSite
 
-bare-with : (path : Path) (eq_span span : Span) (it : Value) → bare_nested (with_value path eq_span span it) ≡ with_value (bare_path path) CallSite CallSite (bare_value it)
+bare-with : (path : Path) (eq_span span : Span) (it : Value) → erased_nested (with_value path eq_span span it) ≡ with_value (erased_path path) CallSite CallSite (erased_value it)
 bare-with path eq_span span (kind.Expr it) = refl
 bare-with path eq_span span (kind.Bad tokens place) = refl
 
@@ -142,7 +142,7 @@ record ReadsValue (found : Value) : Type 0 where
   place : Span → Span → Span
   is : (path : Path) (eq_span span : Span) → nested_tokens (with_value path eq_span span found) ≡ path_tokens Plain path ++ (mark (codes "=") (place eq_span span) ++ tokens)
   attribute : (tail : Trees) → Ended tail → is_attribute (tokens ++ tail) ≡ false
-  again : (eq_span : Span) (tail : Trees) (last : Span) → Ended tail → Again bare_value (value eq_span) (at (tokens ++ tail) last) tail found
+  again : (eq_span : Span) (tail : Trees) (last : Span) → Ended tail → Again erased_value (value eq_span) (at (tokens ++ tail) last) tail found
 
 name_value-at : (start : Span) (path : Path) (tokens tail : Trees) (input : Input) (last new : Span) (it : Value) → next input ≡ at tokens last → is_attribute tokens ≡ false → value (first_span input.rest) (at tokens last) ≡ Some (it, at tail new)
     → name_value start path input ≡ Some (found.Item (with_value path (first_span input.rest) (joined start new) it), at tail new)
@@ -168,8 +168,8 @@ valued path rest eq_span span it equals reads = record {
     seen : (tail : Trees) → is_equals (equal ++ (reads.tokens ++ tail)) ≡ true
     seen tail = rw (mark_of-mark 61 [] place (reads.tokens ++ tail)) refl
 
-    read : (start : Span) (other : Path) → bare_path other ≡ bare_path path → (tail : Trees) (last : Span) → Ended tail
-        → Again bare_found (path_by start other (delimiter_of ((equal ++ reads.tokens) ++ tail))) (at ((equal ++ reads.tokens) ++ tail) last) tail (found.Item (with_value path eq_span span it))
+    read : (start : Span) (other : Path) → erased_path other ≡ erased_path path → (tail : Trees) (last : Span) → Ended tail
+        → Again erased_found (path_by start other (delimiter_of ((equal ++ reads.tokens) ++ tail))) (at ((equal ++ reads.tokens) ++ tail) last) tail (found.Item (with_value path eq_span span it))
     read start other same tail last f =
         let behind : Trees = reads.tokens ++ tail in
         let stands = skipped-over 1 equal behind last (mark-length (codes "=") place) in
@@ -182,7 +182,7 @@ valued path rest eq_span span it equals reads = record {
         }
 
 -- tokens that are no value, whatever stands behind them
-bad-reads : (trees : Trees) (place : Span) → is_attribute trees ≡ false → IsShut (stream (before_comma trees)) → ReadsValue (kind.Bad (stream (before_comma trees)) place)
+bad-reads : (trees : Trees) (place : Span) → is_attribute trees ≡ false → IsBad (stream (before_comma trees)) → ReadsValue (kind.Bad (stream (before_comma trees)) place)
 unfolding value bad_value
 bad-reads trees place none shut = record {
   tokens = tokens;

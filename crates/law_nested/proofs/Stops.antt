@@ -6,7 +6,7 @@ use Rattle.syn_grammar.specs.Readers.{any_level}
 use Rattle.syn_grammar.specs.Token.{is_colons, is_equals, is_group, is_joint, is_mark, is_pair, mark_of}
 use Rattle.syn_items.specs.Attributes.{delimiter_of}
 use Rattle.print_core.specs.Marks.{Trees, comma, mark}
-use Rattle.law_prefix.specs.Alike.{stops}
+use Rattle.law_prefix.specs.SameLookahead.{stops}
 use Rattle.law_round_trip.specs.Follow.{AfterExpr}
 use Rattle.law_round_trip.proofs.Infix.{expr-end, expr_before-comma}
 use Rattle.law_round_trip.proofs.Marks.{is_comma-comma, is_group-mark, mark_of-mark}

@@ -19,10 +19,10 @@ use Rattle.meta_nested.proofs.Runs.{shortest_run-expr, shortest_run-none, shorte
 use Rattle.print_core.specs.Literals.{lit_tokens}
 use Rattle.print_core.specs.Marks.{Trees}
 use Rattle.print_core.specs.Nodes.{expr_tokens}
-use Rattle.law_spans.specs.Bare.{bare_expr, bare_lit}
+use Rattle.law_spans.specs.Erased.{erased_expr, erased_lit}
 use Rattle.law_spans.proofs.Made.{bare_expr-Lit}
-use Rattle.law_prefix.specs.Alike.{Alike, stops}
-use Rattle.law_prefix.specs.Front.{at, Front}
+use Rattle.law_prefix.specs.SameLookahead.{SameLookahead, stops}
+use Rattle.law_prefix.specs.ReadsByPrefix.{at, ReadsByPrefix}
 use Rattle.law_prefix.proofs.Within.{front-before, front-of, within-fronts}
 use Rattle.law_round_trip.proofs.Exprs.{print-Lit}
 use Rattle.law_round_trip.proofs.Within.{within-backs}
@@ -35,14 +35,14 @@ use Rattle.law_nested.proofs.Stops.{Ended}
 abbrev pub an_expr : Parser Expr
 an_expr = (within max_depth).expr any_level
 
-front : Front Alike an_expr
+front : ReadsByPrefix SameLookahead an_expr
 front = front-of ((within-fronts max_depth).expr any_level)
 
 -- of its printing the value is the shortest run, which no `#` (35) begins
 pub record RunAgain (found : Expr) (tail : Trees) : Type 0 where
   pub value : Expr
   pub is : shortest_run (expr_tokens found ++ tail) ≡ Some (value, length (expr_tokens found))
-  pub same : bare_expr value ≡ bare_expr found
+  pub same : erased_expr value ≡ erased_expr found
   pub hash : is_mark 35 (expr_tokens found ++ tail) ≡ false
 
 -- ---- numbers
@@ -61,7 +61,7 @@ number-again trees found e tail ended =
     let sizes : length (lit_tokens found) ≡ 2 = ap length number.is in
     made again.0 again.1 again.2 number sizes
   where
-    made : (other : Lit) → number_in (lit_tokens found) ≡ Some other → bare_lit other ≡ bare_lit found → (number : IsNumber (lit_tokens found)) → length (lit_tokens found) ≡ 2 → RunAgain (expr.Lit found) tail
+    made : (other : Lit) → number_in (lit_tokens found) ≡ Some other → erased_lit other ≡ erased_lit found → (number : IsNumber (lit_tokens found)) → length (lit_tokens found) ≡ 2 → RunAgain (expr.Lit found) tail
     made other is same number sizes = record {
       value = expr.Lit other;
       is = rw (print-Lit found, sizes) (shortest_run-number (lit_tokens found ++ tail) other (two-run (lit_tokens found) number tail ended.stop ∙ is));

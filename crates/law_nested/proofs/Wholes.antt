@@ -12,14 +12,14 @@ use Rattle.meta_nested.specs.declared.item.Found.TheVariants as found
 use Rattle.meta_nested.specs.declared.nested.NestedMeta.{NestedMeta}
 use Rattle.meta_nested.specs.Nested.{among, found_of, item, nested_of}
 use Rattle.meta_nested.specs.Nodes.{nested_tokens}
-use Rattle.law_nested.specs.Bare.{bare_nested}
-use Rattle.law_prefix.specs.Front.{at}
+use Rattle.law_nested.specs.Erased.{erased_nested}
+use Rattle.law_prefix.specs.ReadsByPrefix.{at}
 use Rattle.law_round_trip.specs.Printed.{separated, stream}
 use Rattle.law_round_trip.proofs.Lists.{items-read}
 use Rattle.law_round_trip.proofs.Wholes.{all-parts}
 use Rattle.law_round_trip.proofs.Streams.{contents-stream}
-use Rattle.law_nested.proofs.Found.{Good, bare_found, found_tokens}
-use Rattle.law_nested.specs.Shut.{AllShut, Shut}
+use Rattle.law_nested.proofs.Found.{Good, erased_found, found_tokens}
+use Rattle.law_nested.specs.StaysBad.{AllStayBad, StaysBad}
 use Rattle.law_nested.proofs.Pairs.{item-reads}
 use Rattle.law_nested.proofs.Stops.{Ended, ended-comma, ended-nothing}
 
@@ -39,52 +39,52 @@ among-made : (items : List NestedMeta) → among (map found.Item items) ≡ Ok i
 among-made [] = refl
 among-made (it ∷ items) = rw (among-made items) refl
 
-all-good : (items : List NestedMeta) → AllShut items → All Good (map found.Item items)
+all-good : (items : List NestedMeta) → AllStayBad items → All Good (map found.Item items)
 all-good [] shut = All-nil Good
-all-good (it ∷ items) shut = All-cons Good (found.Item it) (map found.Item items) (All-head Shut it items shut) (all-good items (All-tail Shut it items shut))
+all-good (it ∷ items) shut = All-cons Good (found.Item it) (map found.Item items) (All-head StaysBad it items shut) (all-good items (All-tail StaysBad it items shut))
 
 print-items : (items : List NestedMeta) → map found_tokens (map found.Item items) ≡ map nested_tokens items
 print-items [] = refl
 print-items (it ∷ items) = ap (λ more. nested_tokens it ∷ more) (print-items items)
 
 -- what is the same as items but for places is a list of items
-same-items : (all : List Found) (items : List NestedMeta) → map bare_found all ≡ map bare_found (map found.Item items) → (others : List NestedMeta) × (all ≡ map found.Item others) × (map bare_nested others ≡ map bare_nested items)
+same-items : (all : List Found) (items : List NestedMeta) → map erased_found all ≡ map erased_found (map found.Item items) → (others : List NestedMeta) × (all ≡ map found.Item others) × (map erased_nested others ≡ map erased_nested items)
 same-items [] [] e = ([], refl, refl)
 same-items [] (it ∷ items) e = absurd cc
 same-items (one ∷ all) [] e = absurd cc
 same-items (found.Attribute place ∷ all) (it ∷ items) e = absurd cc
 same-items (found.Item one ∷ all) (it ∷ items) e =
-    let head : bare_nested one ≡ bare_nested it = cc in
-    let tail : map bare_found all ≡ map bare_found (map found.Item items) = cc in
+    let head : erased_nested one ≡ erased_nested it = cc in
+    let tail : map erased_found all ≡ map erased_found (map found.Item items) = cc in
     let more = same-items all items tail in
     (one ∷ more.0, ap (λ all. found.Item one ∷ all) more.1, rw (head, more.2) refl)
 
 -- ---- the law
 
 -- what was found is found again of its printing
-found-again : (tokens : TokenStream) (items : List NestedMeta) → found_of tokens ≡ Some (map found.Item items) → AllShut items
-    → (again : List Found) × (found_of (stream (separated nested_tokens items)) ≡ Some again) × (map bare_found again ≡ map bare_found (map found.Item items))
+found-again : (tokens : TokenStream) (items : List NestedMeta) → found_of tokens ≡ Some (map found.Item items) → AllStayBad items
+    → (again : List Found) × (found_of (stream (separated nested_tokens items)) ≡ Some again) × (map erased_found again ≡ map erased_found (map found.Item items))
 unfolding found_of
 found-again tokens items e shut =
     let parts = all-parts (items_after item [] (start_of (out-TokenStream tokens).trees)) (map found.Item items) e in
-    let one = items-read bare_found found_tokens item item Good (λ rest tail. is_end tail ≡ false) (λ rest tail. Ended tail) item-reads (λ rest tail f. f) (λ rest. ended-nothing) (λ rest tail span. ended-comma span tail) CallSite
+    let one = items-read erased_found found_tokens item item Good (λ rest tail. is_end tail ≡ false) (λ rest tail. Ended tail) item-reads (λ rest tail f. f) (λ rest. ended-nothing) (λ rest tail span. ended-comma span tail) CallSite
     (start_of (out-TokenStream tokens).trees) (at [] parts.0) (map found.Item items) parts.1 (all-good items shut) in
     let more = one.again [] CallSite refl in
     let reads = rw append-nil at more.is in
     (more.value, rw (contents-stream (separated nested_tokens items), ← print-items items, reads) refl, more.same)
 
-pub nested-back : (tokens : TokenStream) (items : List NestedMeta) → nested_of tokens ≡ Some items → AllShut items
-    → (again : List NestedMeta) × (nested_of (stream (separated nested_tokens items)) ≡ Some again) × (map bare_nested again ≡ map bare_nested items)
+pub nested-back : (tokens : TokenStream) (items : List NestedMeta) → nested_of tokens ≡ Some items → AllStayBad items
+    → (again : List NestedMeta) × (nested_of (stream (separated nested_tokens items)) ≡ Some again) × (map erased_nested again ≡ map erased_nested items)
 unfolding nested_of
 nested-back tokens items e shut = by (found_of tokens) refl e
   where
-    Back : Type 0
-    Back = (again : List NestedMeta) × (nested_of (stream (separated nested_tokens items)) ≡ Some again) × (map bare_nested again ≡ map bare_nested items)
+    RoundTrips : Type 0
+    RoundTrips = (again : List NestedMeta) × (nested_of (stream (separated nested_tokens items)) ≡ Some again) × (map erased_nested again ≡ map erased_nested items)
 
-    made : (all : List Found) (others : List NestedMeta) → found_of (stream (separated nested_tokens items)) ≡ Some all → all ≡ map found.Item others → map bare_nested others ≡ map bare_nested items → Back
+    made : (all : List Found) (others : List NestedMeta) → found_of (stream (separated nested_tokens items)) ≡ Some all → all ≡ map found.Item others → map erased_nested others ≡ map erased_nested items → RoundTrips
     made all others is same bare = (others, rw (is, same, among-made others) refl, bare)
 
-    by : (all : Option (List Found)) → found_of tokens ≡ all → option_and_then (λ it. result_ok (among it)) all ≡ Some items → Back
+    by : (all : Option (List Found)) → found_of tokens ≡ all → option_and_then (λ it. result_ok (among it)) all ≡ Some items → RoundTrips
     by None is e = absurd cc
     by (Some all) is e =
         let again = found-again tokens items (is ∙ ap Some (among-items all items e)) shut in

@@ -1,2 +1,2 @@
-pub mod Bare
-pub mod Shut
+pub mod Erased
+pub mod StaysBad

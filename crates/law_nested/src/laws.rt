@@ -1,10 +1,10 @@
 //! What nested items promise of places and of their printing. The functions do nothing: their clauses
 //! are the laws.
 
-ghost use Rattle.law_nested.specs.Bare.{bare_nested, bare_place};
-ghost use Rattle.law_nested.specs.Shut.{AllShut, BeginsNoExpr, IsShut};
+ghost use Rattle.law_nested.specs.Erased.{erased_nested, erased_place};
+ghost use Rattle.law_nested.specs.StaysBad.{AllStayBad, BeginsNoExpr, IsBad};
 ghost use Rattle.law_round_trip.specs.Printed.{separated, stream};
-ghost use Rattle.law_spans.specs.Bare.{bare_stream};
+ghost use Rattle.law_spans.specs.Erased.{erased_stream};
 ghost use Rattle.meta_nested.specs.Nested.{attribute_in, nested_of};
 ghost use Rattle.meta_nested.specs.Nodes.{nested_tokens};
 ghost use Rattle.meta_nested.specs.declared.nested.NestedMeta.{NestedMeta};
@@ -15,8 +15,8 @@ ghost use Rattle.tok_types.specs.declared.tree.TokenStream.{TokenStream};
 /// and as none exactly where the tokens with their places are. An attribute takes the place of a
 /// value in one exactly where it does in the other.
 pub fn nested_items_see_no_spans()
-    ensures nested_of { (tokens : TokenStream) → nested_of (bare_stream tokens) ≡ option_map (map bare_nested) (nested_of tokens) }
-    ensures attribute_in { (tokens : TokenStream) → attribute_in (bare_stream tokens) ≡ option_map bare_place (attribute_in tokens) }
+    ensures nested_of { (tokens : TokenStream) → nested_of (erased_stream tokens) ≡ option_map (map erased_nested) (nested_of tokens) }
+    ensures attribute_in { (tokens : TokenStream) → attribute_in (erased_stream tokens) ≡ option_map erased_place (attribute_in tokens) }
 {}
 
 /// Nested items that are read of some tokens are read, as the same but for places, of their printing
@@ -25,7 +25,7 @@ pub fn nested_items_see_no_spans()
 /// `[x,]` is no type, and `d = [x,] > -1` is an item behind it. It is printed as `d = [x] > -1`, and
 /// `b::<c, d = [x] > -1` is one value. What begins no expression is shut, as `pub(crate)`.
 pub fn nested_items_are_read_back()
-    ensures nested_of { (tokens : TokenStream) (items : List NestedMeta) → nested_of tokens ≡ Some items → AllShut items
-        → (again : List NestedMeta) × (nested_of (stream (separated nested_tokens items)) ≡ Some again) × (map bare_nested again ≡ map bare_nested items) }
-    ensures shut { (tokens : TokenStream) → BeginsNoExpr tokens → IsShut tokens }
+    ensures nested_of { (tokens : TokenStream) (items : List NestedMeta) → nested_of tokens ≡ Some items → AllStayBad items
+        → (again : List NestedMeta) × (nested_of (stream (separated nested_tokens items)) ≡ Some again) × (map erased_nested again ≡ map erased_nested items) }
+    ensures shut { (tokens : TokenStream) → BeginsNoExpr tokens → IsBad tokens }
 {}

@@ -14,7 +14,7 @@ use Rattle.syn_grammar.specs.Make as make
 use Rattle.syn_grammar.specs.Readers.{Readers, any_level}
 use Rattle.syn_grammar.specs.Token.{is_group, ident_of, literal_of, mark_of, is_joint, is_pair}
 use Rattle.syn_grammar.specs.Words.{next_word}
-use Rattle.law_prefix.specs.Alike.{Alike}
+use Rattle.law_prefix.specs.SameLookahead.{SameLookahead}
 use Rattle.law_prefix.proofs.Begins.{alike-atom_start}
 use Rattle.law_prefix.proofs.Steps.{FrontAt, refuse_at-front, pure-front, first_at-front, first-front, map-front, test_at-front, look_at-front, here_at-front, here-front, close-front}
 use Rattle.law_prefix.proofs.Takes.{skip_at-front, inside-front}
@@ -26,7 +26,7 @@ pub literal_expr-front : Rule true literal
 unfolding literal
 literal_expr-front limit = map-front (λ token. expr.Lit (lit_of token)) (literal-front limit)
 
-pub expr_bool-front : (limit : ℕ) (input : Input) → 1 ≤ length input.rest → FrontAt limit Alike Alike true true expr_bool expr_bool input
+pub expr_bool-front : (limit : ℕ) (input : Input) → 1 ≤ length input.rest → FrontAt limit SameLookahead SameLookahead true true expr_bool expr_bool input
 unfolding expr_bool next_word ident_of
 expr_bool-front limit input enough = here_at-front (λ span.
     look_at-front next_word (λ value. skip >> pure (lit_bool value span)) (λ value. skip >> pure (lit_bool value span)) (λ tree rest tail _. refl) (λ value _.
@@ -63,7 +63,7 @@ module _ (readers : Readers) (parts : AllFronts readers) where
   unfolding expr_qualified
   expr_qualified-front limit = here-front (λ start. first-front (qualified-front readers parts false limit) (λ found. close-front start (make.expr_path (Some found.0) found.1)))
 
-  pub atom_by-front : (begins : AtomStart) (limit : ℕ) (input : Input) → (is_atom begins ≡ true → 1 ≤ length input.rest) → FrontAt limit Alike Alike true true (atom_by readers begins) (atom_by readers begins) input
+  pub atom_by-front : (begins : AtomStart) (limit : ℕ) (input : Input) → (is_atom begins ≡ true → 1 ≤ length input.rest) → FrontAt limit SameLookahead SameLookahead true true (atom_by readers begins) (atom_by readers begins) input
   atom_by-front atom.Literal limit input some = (literal_expr-front limit).at input
   atom_by-front atom.Bool limit input some = expr_bool-front limit input (some refl)
   atom_by-front atom.Path limit input some = (expr_path-front limit).at input
@@ -75,7 +75,7 @@ module _ (readers : Readers) (parts : AllFronts readers) where
   atom_by-front atom.Infer limit input some = here_at-front (λ span. first_at-front (skip_at-front (some refl)) (λ mark. pure-front (expr.Infer span)))
   atom_by-front atom.Nothing limit input some = refuse_at-front
 
-  constant_by-front : (begins : AtomStart) (limit : ℕ) (input : Input) → (is_atom begins ≡ true → 1 ≤ length input.rest) → FrontAt limit Alike Alike true true (constant_by readers begins) (constant_by readers begins) input
+  constant_by-front : (begins : AtomStart) (limit : ℕ) (input : Input) → (is_atom begins ≡ true → 1 ≤ length input.rest) → FrontAt limit SameLookahead SameLookahead true true (constant_by readers begins) (constant_by readers begins) input
   constant_by-front atom.Literal limit input some = (literal_expr-front limit).at input
   constant_by-front atom.Bool limit input some = expr_bool-front limit input (some refl)
   constant_by-front atom.Brace limit input some = (block-front limit).at input

@@ -14,10 +14,11 @@ use Rattle.syn_grammar.specs.Input.{Input, Outcome, Parser, and_then, ◌>>=◌,
 use Rattle.syn_grammar.specs.Make as make
 use Rattle.syn_grammar.specs.Patterns.{max_pattern}
 use Rattle.syn_grammar.specs.Readers.{Readers, any_level, constant_level}
-use Rattle.syn_grammar.specs.Token.{Layer, same_delimiter, is_group_in, is_group, is_arrow, is_bar, mark_of}
-use Rattle.syn_grammar.specs.Words.{sees}
-use Rattle.law_prefix.specs.Alike.{LikeLayer, closes_in, Relation, Alike, close, bar}
-use Rattle.law_prefix.specs.Closures.{AlikeBodies, closure_head}
+use Rattle.syn_grammar.specs.Token.{Layer, is_group_in, is_group, is_arrow, is_bar, mark_of}
+use Rattle.tok_types.specs.Delimiter.{same_delimiter}
+use Rattle.syn_grammar.specs.Words.{peek}
+use Rattle.law_prefix.specs.SameLookahead.{LikeLayer, closes_in, Relation, SameLookahead, close, bar}
+use Rattle.law_prefix.specs.Closures.{SameLookaheadOfBodies, closure_head}
 use Rattle.law_prefix.proofs.Looks.{like-refl, alike-mark, alike-group, alike-arrow}
 use Rattle.law_prefix.proofs.Steps.{Took, FrontAt, Fronts, stay-front, pure-front, then_at-front, then-front, first-front, map-front, maybe-front, weak_at-front, weak-front, if-front, here-front, close-front, same-front, kept-front}
 use Rattle.law_prefix.proofs.Takes.{mark-front, expect_at-front, eaten-front, pair-enough}
@@ -46,7 +47,7 @@ module _ (readers : Readers) where
   unfolding closure closure_head
   closure-parts input =
       let start = first_span input.rest in
-      let between = after_eat 1 (sees word.Move input.rest) input in
+      let between = after_eat 1 (peek word.Move input.rest) input in
       let rest : (Span × ℕ) → Parser Expr = λ head. read_since input.rest >>= closure_rest head in
       let level : Unit {0} → Parser (Span × ℕ) = λ params. closure_body readers >>= (λ level. pure (start, level)) in
       let params : Unit {0} → Parser (Span × ℕ) = λ opened. closure_params readers >>= level in
@@ -62,7 +63,7 @@ module _ (readers : Readers) where
 abbrev Bars : Relation
 Bars rest tail = is_bar rest ≡ is_bar tail
 
-pub alike-bodies : (rest tail : List TokenTree) → Alike rest tail → AlikeBodies rest tail
+pub alike-bodies : (rest tail : List TokenTree) → SameLookahead rest tail → SameLookaheadOfBodies rest tail
 alike-bodies rest tail alike = record { bar = alike-mark 124 refl refl rest tail alike; arrow = alike-arrow rest tail alike; block = alike-group delimiter.Brace rest tail alike }
 
 like-blocks : (one other : Layer) → is_group_in delimiter.Brace one ≡ true → is_group_in delimiter.Brace other ≡ true → LikeLayer one other × (closes_in one ≡ true)
@@ -75,7 +76,7 @@ like-blocks (TokenTree-F.Group group) _ h g = absurd cc
 like-blocks _ other h g = absurd cc
 
 -- blocks are alike, and whatever stands behind them is
-blocks-alike : (rest tail : List TokenTree) → is_group delimiter.Brace rest ≡ true → is_group delimiter.Brace tail ≡ true → Alike rest tail
+blocks-alike : (rest tail : List TokenTree) → is_group delimiter.Brace rest ≡ true → is_group delimiter.Brace tail ≡ true → SameLookahead rest tail
 unfolding is_group
 blocks-alike [] tail h g = absurd cc
 blocks-alike (one ∷ rest) [] h g = absurd cc
@@ -83,12 +84,12 @@ blocks-alike (one ∷ rest) (other ∷ tail) h g =
     let like = like-blocks (out-TokenTree one) (out-TokenTree other) h g in
     close one other rest tail like.0 like.1
 
-block-front : {limit : ℕ} → Fronts limit Alike AlikeBodies false true (expect 0 (is_group delimiter.Brace)) (expect 0 (is_group delimiter.Brace))
+block-front : {limit : ℕ} → Fronts limit SameLookahead SameLookaheadOfBodies false true (expect 0 (is_group delimiter.Brace)) (expect 0 (is_group delimiter.Brace))
 unfolding skipped
 block-front {limit} = record { at = λ input. record { of = λ after found e. by input (is_group delimiter.Brace input.rest) refl after found e } }
   where
     by : (input : Input) (b : Bool) → is_group delimiter.Brace input.rest ≡ b → (after : Input) (found : Unit {0}) → ◌≡◌ {A = Outcome (Unit {0})} (if b then Some (tt, input) else None) (Some (found, after))
-        → Took limit Alike AlikeBodies false true (expect 0 (is_group delimiter.Brace)) input after found
+        → Took limit SameLookahead SameLookaheadOfBodies false true (expect 0 (is_group delimiter.Brace)) input after found
     by input false is after found e = absurd cc
     by input true is after found e =
         let both = some_pair_parts tt found input after e in
@@ -104,9 +105,9 @@ module _ (readers : Readers) (parts : AllFronts readers) where
   abbrev typed_body : Parser ℕ
   typed_body = pass_type readers false >> expect 0 (is_group delimiter.Brace) >> pure constant_level
 
-  pass_type-front : (many : Bool) → Rule true (pass_type readers many)
+  pass_type-front : (allow_plus : Bool) → Rule true (pass_type readers allow_plus)
   unfolding pass_type
-  pass_type-front many limit = map-front (λ ty. tt) (parts.ty many limit)
+  pass_type-front allow_plus limit = map-front (λ ty. tt) (parts.ty allow_plus limit)
 
   closure_param-front : Rule true (closure_param readers)
   unfolding closure_param
@@ -115,23 +116,23 @@ module _ (readers : Readers) (parts : AllFronts readers) where
       then-front (eat_colon-front limit) (λ typed.
       if-front typed (maybe-front (pass_type-front true limit)) (pure-front tt)))
 
-  closure_params-front : (limit : ℕ) → Fronts limit Alike Bars true true (closure_params readers) (closure_params readers)
+  closure_params-front : (limit : ℕ) → Fronts limit SameLookahead Bars true true (closure_params readers) (closure_params readers)
   unfolding mark_of
   closure_params-front limit = map-front (λ params. tt) (until_before-front 124 (closure_param readers) refl (λ tree rest tail is same. bar tree tree rest tail (like-refl (out-TokenTree tree)) is same) closure_param-front limit)
 
   -- the type of the body, and the block that stands there then
-  typed_body-front : (limit : ℕ) → Fronts limit Alike AlikeBodies false true typed_body typed_body
+  typed_body-front : (limit : ℕ) → Fronts limit SameLookahead SameLookaheadOfBodies false true typed_body typed_body
   typed_body-front limit = then-front (then-front (pass_type-front false limit) (λ _. block-front)) (λ _. pure-front constant_level)
 
-  closure_body-front : (limit : ℕ) → Fronts limit Bars AlikeBodies false true (closure_body readers) (closure_body readers)
+  closure_body-front : (limit : ℕ) → Fronts limit Bars SameLookaheadOfBodies false true (closure_body readers) (closure_body readers)
   unfolding closure_body after_eat
   closure_body-front limit = record { at = λ input. by input (is_arrow input.rest) refl }
     where
-      by : (input : Input) (b : Bool) → is_arrow input.rest ≡ b → FrontAt limit Bars AlikeBodies false true (closure_body readers) (closure_body readers) input
+      by : (input : Input) (b : Bool) → is_arrow input.rest ≡ b → FrontAt limit Bars SameLookaheadOfBodies false true (closure_body readers) (closure_body readers) input
       by input true is = weak_at-front (λ rest tail h. h) (alike-mark 124 refl refl) (eaten-front typed_body typed_body (pure any_level) (pure any_level) 2 is_arrow is (then_at-front (expect_at-front false 2 is_arrow (λ h. absurd cc) alike-arrow (pair-enough 45 62 refl)) (λ _. typed_body-front limit)))
       by input false is = weak_at-front (λ rest tail h. h) (λ rest tail same. same.bar) (stay-front any_level (rw is refl) (λ tail last same fits. rw (← same.arrow, is) refl))
 
-  pub closure_head-front : (limit : ℕ) → Fronts limit Alike AlikeBodies true true (closure_head readers) (closure_head readers)
+  pub closure_head-front : (limit : ℕ) → Fronts limit SameLookahead SameLookaheadOfBodies true true (closure_head readers) (closure_head readers)
   unfolding closure_head
   closure_head-front limit = here-front (λ start.
       then-front (eat_word-front word.Move refl limit) (λ moved.

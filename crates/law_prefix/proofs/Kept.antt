@@ -9,8 +9,8 @@ use Rattle.syn_grammar.specs.Expressions.{closure}
 use Rattle.syn_grammar.specs.Input.{Input, ◌>>=◌, pure, upto, read_since}
 use Rattle.syn_grammar.specs.Make as make
 use Rattle.syn_grammar.specs.Readers.{Readers}
-use Rattle.law_prefix.specs.Closures.{AlikeBodies, closure_head}
-use Rattle.law_prefix.specs.Front.{at, Front}
+use Rattle.law_prefix.specs.Closures.{SameLookaheadOfBodies, closure_head}
+use Rattle.law_prefix.specs.ReadsByPrefix.{at, ReadsByPrefix}
 use Rattle.law_prefix.proofs.Steps.{bind-at, take-read}
 use Rattle.law_prefix.proofs.Paths.{AllFronts}
 use Rattle.law_prefix.proofs.Closures.{closure_rest, closure-parts, closure_head-front}
@@ -28,11 +28,11 @@ pub record ClosureRead (readers : Readers) (input after : Input) (found : Expr) 
   pub head : closure_head readers input ≡ Some ((start, level), between)
   pub body_is : readers.expr level between ≡ Some (body, after)
   pub found_is : found ≡ make.expr_closure kept body (joined start after.last)
-  pub again : (tail : List TokenTree) (last : Span) (other : Expr) (later : Input) → AlikeBodies between.rest tail → readers.expr level (at tail between.last) ≡ Some (other, later)
+  pub again : (tail : List TokenTree) (last : Span) (other : Expr) (later : Input) → SameLookaheadOfBodies between.rest tail → readers.expr level (at tail between.last) ≡ Some (other, later)
       → closure readers (at (kept ++ tail) last) ≡ Some (make.expr_closure kept other (joined start later.last), later)
 
 module _ (readers : Readers) (parts : AllFronts readers) where
-  pub head-front : Front AlikeBodies (closure_head readers)
+  pub head-front : ReadsByPrefix SameLookaheadOfBodies (closure_head readers)
   head-front = front-of (closure_head-front readers parts)
 
   pub closure-read : (input after : Input) (found : Expr) → closure readers input ≡ Some (found, after) → ClosureRead readers input after found

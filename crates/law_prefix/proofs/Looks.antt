@@ -11,26 +11,26 @@ use Rattle.syn_grammar.specs.declared.word.Word.{Word}
 use Rattle.syn_grammar.specs.declared.word.Word.TheVariants as word
 use Rattle.syn_grammar.specs.Look.{is_there, double_of, doubled, or_single, operator_of}
 use Rattle.syn_grammar.specs.Token.{Layer, mark_in, joint_in, ident_in, is_group_in, lifetime_in, literal_in, mark_of, is_mark, is_bar, is_joint, is_group, is_pair, is_colons, is_colon, is_dots, is_closed_dots, is_turbofish, after_one, ident_of, lifetime_of, literal_of}
-use Rattle.syn_grammar.specs.Words.{word_at, word_of, next_word, name_at, name_of, is_name, is_word, sees}
-use Rattle.law_prefix.specs.Alike.{LikeLayer, Like, AllLike, closes, closes_in, Alike, stop, close, bar, more, stops}
+use Rattle.syn_grammar.specs.Words.{word_at, word_of, next_word, name_at, name_of, is_name, is_word, peek}
+use Rattle.law_prefix.specs.SameLookahead.{LikeLayer, Like, AllLike, closes, closes_in, SameLookahead, stop, close, bar, more, stops}
 
 pub like-refl : (layer : Layer) → LikeLayer layer layer
 like-refl layer = record { mark = refl; joint = refl; word = refl; group = λ between. refl; lifetime = refl; literal = refl }
 
 -- the same tokens, and then tokens that are alike
-pub alike-behind : (read rest tail : List TokenTree) → Alike rest tail → Alike (read ++ rest) (read ++ tail)
+pub alike-behind : (read rest tail : List TokenTree) → SameLookahead rest tail → SameLookahead (read ++ rest) (read ++ tail)
 alike-behind [] rest tail h = h
 alike-behind (tree ∷ trees) rest tail h = more tree tree (trees ++ rest) (trees ++ tail) (like-refl (out-TokenTree tree)) (alike-behind trees rest tail h)
 
 -- tokens of the same kinds, and then tokens that are alike
-pub alike-both : (one other rest tail : List TokenTree) → AllLike one other → Alike rest tail → Alike (one ++ rest) (other ++ tail)
+pub alike-both : (one other rest tail : List TokenTree) → AllLike one other → SameLookahead rest tail → SameLookahead (one ++ rest) (other ++ tail)
 alike-both [] [] rest tail all h = h
 alike-both (tree ∷ trees) (other ∷ others) rest tail all h = more tree other (trees ++ rest) (others ++ tail) all.0 (alike-both trees others rest tail all.1 h)
 alike-both [] (other ∷ others) rest tail all h = absurd all
 alike-both (tree ∷ trees) [] rest tail all h = absurd all
 
 -- a token that closes, and whatever follows
-pub alike-closed : (tree : TokenTree) (rest tail : List TokenTree) → closes tree ≡ true → Alike (tree ∷ rest) (tree ∷ tail)
+pub alike-closed : (tree : TokenTree) (rest tail : List TokenTree) → closes tree ≡ true → SameLookahead (tree ∷ rest) (tree ∷ tail)
 alike-closed tree rest tail h = close tree tree rest tail (like-refl (out-TokenTree tree)) h
 
 -- ---- where tokens stop
@@ -196,38 +196,38 @@ bar-double second other same = rw (bar-doubled second, bar-doubled other, same) 
 
 -- ---- one token
 
-pub alike-mark : (ch : ℕ) → (0 == ch) ≡ false → (44 == ch) ≡ false → (rest tail : List TokenTree) → Alike rest tail → is_mark ch rest ≡ is_mark ch tail
+pub alike-mark : (ch : ℕ) → (0 == ch) ≡ false → (44 == ch) ≡ false → (rest tail : List TokenTree) → SameLookahead rest tail → is_mark ch rest ≡ is_mark ch tail
 unfolding mark_of
 alike-mark ch none comma rest tail (stop _ _ h g) = stop-mark ch rest h none comma ∙ sym (stop-mark ch tail g none comma)
 alike-mark ch none comma _ _ (close one other rest tail like closes) = ap (λ mark. mark == ch) like.mark
 alike-mark ch none comma _ _ (bar one other rest tail like is same) = ap (λ mark. mark == ch) like.mark
 alike-mark ch none comma _ _ (more one other rest tail like alike) = ap (λ mark. mark == ch) like.mark
 
-pub alike-group : (between : Delimiter) (rest tail : List TokenTree) → Alike rest tail → is_group between rest ≡ is_group between tail
+pub alike-group : (between : Delimiter) (rest tail : List TokenTree) → SameLookahead rest tail → is_group between rest ≡ is_group between tail
 unfolding is_group
 alike-group between rest tail (stop _ _ h g) = stop-group between rest h ∙ sym (stop-group between tail g)
 alike-group between _ _ (close one other rest tail like closes) = like.group between
 alike-group between _ _ (bar one other rest tail like is same) = like.group between
 alike-group between _ _ (more one other rest tail like alike) = like.group between
 
-pub alike-word : (rest tail : List TokenTree) → Alike rest tail → next_word rest ≡ next_word tail
+pub alike-word : (rest tail : List TokenTree) → SameLookahead rest tail → next_word rest ≡ next_word tail
 unfolding next_word ident_of
 alike-word rest tail (stop _ _ h g) = stop-word rest h ∙ sym (stop-word tail g)
 alike-word _ _ (close one other rest tail like closes) = like.word
 alike-word _ _ (bar one other rest tail like is same) = like.word
 alike-word _ _ (more one other rest tail like alike) = like.word
 
-pub alike-sees : (wanted : Word) (rest tail : List TokenTree) → Alike rest tail → sees wanted rest ≡ sees wanted tail
+pub alike-sees : (wanted : Word) (rest tail : List TokenTree) → SameLookahead rest tail → peek wanted rest ≡ peek wanted tail
 alike-sees wanted rest tail h = ap (is_word wanted) (alike-word rest tail h)
 
-pub alike-lifetime : (rest tail : List TokenTree) → Alike rest tail → is_there (lifetime_of rest) ≡ is_there (lifetime_of tail)
+pub alike-lifetime : (rest tail : List TokenTree) → SameLookahead rest tail → is_there (lifetime_of rest) ≡ is_there (lifetime_of tail)
 unfolding lifetime_of
 alike-lifetime rest tail (stop _ _ h g) = stop-lifetime rest h ∙ sym (stop-lifetime tail g)
 alike-lifetime _ _ (close one other rest tail like closes) = like.lifetime
 alike-lifetime _ _ (bar one other rest tail like is same) = like.lifetime
 alike-lifetime _ _ (more one other rest tail like alike) = like.lifetime
 
-pub alike-literal : (rest tail : List TokenTree) → Alike rest tail → is_there (literal_of rest) ≡ is_there (literal_of tail)
+pub alike-literal : (rest tail : List TokenTree) → SameLookahead rest tail → is_there (literal_of rest) ≡ is_there (literal_of tail)
 unfolding literal_of
 alike-literal rest tail (stop _ _ h g) = stop-literal rest h ∙ sym (stop-literal tail g)
 alike-literal _ _ (close one other rest tail like closes) = like.literal
@@ -246,7 +246,7 @@ name-is : (trees : List TokenTree) → is_there (name_of trees) ≡ is_name (nex
 unfolding name_of next_word
 name-is trees = name-there (ident_of trees)
 
-pub alike-name : (rest tail : List TokenTree) → Alike rest tail → is_there (name_of rest) ≡ is_there (name_of tail)
+pub alike-name : (rest tail : List TokenTree) → SameLookahead rest tail → is_there (name_of rest) ≡ is_there (name_of tail)
 alike-name rest tail h = name-is rest ∙ ap is_name (alike-word rest tail h) ∙ sym (name-is tail)
 
 -- ---- marks of several characters
@@ -278,7 +278,7 @@ unfolding mark_of
 like-barred one other rest tail like h = rw (← like.mark) h
 
 pub alike-pair : (first second : ℕ) → (0 == first) ≡ false → (44 == first) ≡ false → (59 == first) ≡ false → (124 == first) ≡ false → (0 == second) ≡ false → (44 == second) ≡ false
-    → (rest tail : List TokenTree) → Alike rest tail → is_pair first second rest ≡ is_pair first second tail
+    → (rest tail : List TokenTree) → SameLookahead rest tail → is_pair first second rest ≡ is_pair first second tail
 unfolding is_pair is_joint mark_of
 alike-pair first second none comma semicolon apart none' comma' rest tail (stop _ _ h g) =
     pair-first first second rest (stop-mark first rest h none comma) ∙ sym (pair-first first second tail (stop-mark first tail g none comma))
@@ -289,19 +289,19 @@ alike-pair first second none comma semicolon apart none' comma' _ _ (bar one oth
 alike-pair first second none comma semicolon apart none' comma' _ _ (more one other rest tail like alike) =
     rw (like.joint, like.mark, alike-mark second none' comma' rest tail alike) refl
 
-pub alike-colons : (rest tail : List TokenTree) → Alike rest tail → is_colons rest ≡ is_colons tail
+pub alike-colons : (rest tail : List TokenTree) → SameLookahead rest tail → is_colons rest ≡ is_colons tail
 alike-colons = alike-pair 58 58 refl refl refl refl refl refl
 
-pub alike-arrow : (rest tail : List TokenTree) → Alike rest tail → is_pair 45 62 rest ≡ is_pair 45 62 tail
+pub alike-arrow : (rest tail : List TokenTree) → SameLookahead rest tail → is_pair 45 62 rest ≡ is_pair 45 62 tail
 alike-arrow = alike-pair 45 62 refl refl refl refl refl refl
 
-pub alike-dots : (rest tail : List TokenTree) → Alike rest tail → is_dots rest ≡ is_dots tail
+pub alike-dots : (rest tail : List TokenTree) → SameLookahead rest tail → is_dots rest ≡ is_dots tail
 alike-dots = alike-pair 46 46 refl refl refl refl refl refl
 
-pub alike-colon : (rest tail : List TokenTree) → Alike rest tail → is_colon rest ≡ is_colon tail
+pub alike-colon : (rest tail : List TokenTree) → SameLookahead rest tail → is_colon rest ≡ is_colon tail
 alike-colon rest tail h = rw (alike-mark 58 refl refl rest tail h, alike-colons rest tail h) refl
 
-pub alike-closed_dots : (rest tail : List TokenTree) → Alike rest tail → is_closed_dots rest ≡ is_closed_dots tail
+pub alike-closed_dots : (rest tail : List TokenTree) → SameLookahead rest tail → is_closed_dots rest ≡ is_closed_dots tail
 alike-closed_dots rest tail (stop _ _ h g) =
     and_left _ _ (pair-first 46 46 rest (stop-mark 46 rest h refl refl)) ∙ sym (and_left _ _ (pair-first 46 46 tail (stop-mark 46 tail g refl refl)))
 alike-closed_dots _ _ (close one other rest tail like closes) =
@@ -314,7 +314,7 @@ alike-closed_dots _ _ (more one other rest tail like alike) =
 fish-second : (trees : List TokenTree) → is_mark 58 (after_one trees) ≡ false → is_turbofish trees ≡ false
 fish-second trees h = and_left _ _ (pair-second 58 58 trees h)
 
-fish-more : (one other : TokenTree) (rest tail : List TokenTree) → Like one other → Alike rest tail → is_turbofish (one ∷ rest) ≡ is_turbofish (other ∷ tail)
+fish-more : (one other : TokenTree) (rest tail : List TokenTree) → Like one other → SameLookahead rest tail → is_turbofish (one ∷ rest) ≡ is_turbofish (other ∷ tail)
 unfolding mark_of
 fish-more one other rest tail like (stop _ _ h g) =
     fish-second (one ∷ rest) (stop-mark 58 rest h refl refl) ∙ sym (fish-second (other ∷ tail) (stop-mark 58 tail g refl refl))
@@ -330,7 +330,7 @@ fish-more one other _ _ like (more two second rest tail alike behind) =
       alike-mark 60 refl refl rest tail behind,
     ) refl
 
-pub alike-turbofish : (rest tail : List TokenTree) → Alike rest tail → is_turbofish rest ≡ is_turbofish tail
+pub alike-turbofish : (rest tail : List TokenTree) → SameLookahead rest tail → is_turbofish rest ≡ is_turbofish tail
 alike-turbofish rest tail (stop _ _ h g) =
     and_left _ _ (pair-first 58 58 rest (stop-mark 58 rest h refl refl)) ∙ sym (and_left _ _ (pair-first 58 58 tail (stop-mark 58 tail g refl refl)))
 alike-turbofish _ _ (close one other rest tail like closes) =
@@ -341,14 +341,14 @@ alike-turbofish _ _ (more one other rest tail like alike) = fish-more one other 
 
 -- ---- operators
 
-alike-double : (first : ℕ) (rest tail : List TokenTree) → Alike rest tail → double_of first (mark_of rest) ≡ double_of first (mark_of tail)
+alike-double : (first : ℕ) (rest tail : List TokenTree) → SameLookahead rest tail → double_of first (mark_of rest) ≡ double_of first (mark_of tail)
 unfolding mark_of
 alike-double first rest tail (stop _ _ h g) = stop-double first rest h ∙ sym (stop-double first tail g)
 alike-double first _ _ (close one other rest tail like closes) = ap (double_of first) like.mark
 alike-double first _ _ (bar one other rest tail like is same) = ap (double_of first) like.mark
 alike-double first _ _ (more one other rest tail like alike) = ap (double_of first) like.mark
 
-pub alike-operator : (rest tail : List TokenTree) → Alike rest tail → operator_of rest ≡ operator_of tail
+pub alike-operator : (rest tail : List TokenTree) → SameLookahead rest tail → operator_of rest ≡ operator_of tail
 unfolding operator_of mark_of is_joint
 alike-operator rest tail (stop _ _ h g) = stop-operator rest h ∙ sym (stop-operator tail g)
 alike-operator _ _ (close one other rest tail like closes) =

@@ -19,8 +19,8 @@ use Rattle.syn_grammar.specs.Make as make
 use Rattle.syn_grammar.specs.Readers.{Readers, operand_level, or_level, any_level, range_level, constant_level}
 use Rattle.syn_grammar.specs.Token.{is_closed_dots, is_dots, is_group, mark_of, is_joint, is_pair, literal_of, ident_of}
 use Rattle.syn_grammar.specs.Words.{next_word}
-use Rattle.law_prefix.specs.Alike.{Alike}
-use Rattle.law_prefix.specs.Front.{at}
+use Rattle.law_prefix.specs.SameLookahead.{SameLookahead}
+use Rattle.law_prefix.specs.ReadsByPrefix.{at}
 use Rattle.law_prefix.proofs.Looks.{alike-closed_dots, alike-dots, alike-operator}
 use Rattle.law_prefix.proofs.Begins.{alike-closure, alike-operand, alike-operand_start}
 use Rattle.law_prefix.proofs.Steps.{FrontAt, Fronts, refuse-front, stay-front, pure-front, then-front, first_at-front, first-front, turn_at-front, maybe_at-front, maybe-front, late-front, none_at-front, if-front, case_at-front, seen-front, test_at-front, test-front, here-front, close-front, turns-front}
@@ -50,7 +50,7 @@ module _ (readers : Readers) (parts : AllFronts readers) where
       then-front (eat_word-front word.Mut refl limit) (λ mutable.
       first-front (parts.expr operand_level limit) (λ operand. close-front start (expr.Reference mutable operand)))))
 
-  operand_by-front : (begins : OperandStart) (limit : ℕ) (input : Input) → operand_start input.rest ≡ begins → FrontAt limit Alike Alike true true (operand_by readers begins) (operand_by readers begins) input
+  operand_by-front : (begins : OperandStart) (limit : ℕ) (input : Input) → operand_start input.rest ≡ begins → FrontAt limit SameLookahead SameLookahead true true (operand_by readers begins) (operand_by readers begins) input
   operand_by-front begin.Neg limit input is = (unary-front op.Neg limit).at input
   operand_by-front begin.Not limit input is = (unary-front op.Not limit).at input
   operand_by-front begin.Deref limit input is = (unary-front op.Deref limit).at input
@@ -80,23 +80,23 @@ module _ (readers : Readers) (parts : AllFronts readers) where
   operator-none = refl
 
   chain_by-front : (start : Span) (below : ℕ) (left : Expr) (limit : ℕ) (more others : Expr → Parser Expr) (found : Option Infix) (input : Input)
-      → ((op : Infix) → FrontAt limit Alike Alike true true (right_of readers start below left op >>= more) (right_of readers start below left op >>= others) input)
-      → FrontAt limit Alike Alike false true (chain_by readers more start below left found) (chain_by readers others start below left found) input
+      → ((op : Infix) → FrontAt limit SameLookahead SameLookahead true true (right_of readers start below left op >>= more) (right_of readers start below left op >>= others) input)
+      → FrontAt limit SameLookahead SameLookahead false true (chain_by readers more start below left found) (chain_by readers others start below left found) input
   chain_by-front start below left limit more others (Some op) input h = maybe_at-front (h op)
   chain_by-front start below left limit more others None input h = (pure-front left).at input
 
   -- where no token may be left, only an end is read again
   chain_by-none : (start : Span) (below : ℕ) (left : Expr) (more others : Expr → Parser Expr) (other : Parser Expr) (found : Option Infix) (input : Input)
-      → ((op : Infix) → FrontAt 0 Alike Alike true true (right_of readers start below left op >>= more) (right_of readers start below left op >>= others) input)
-      → (found ≡ None → FrontAt 0 Alike Alike false true (pure left) other input) → FrontAt 0 Alike Alike false true (chain_by readers more start below left found) other input
+      → ((op : Infix) → FrontAt 0 SameLookahead SameLookahead true true (right_of readers start below left op >>= more) (right_of readers start below left op >>= others) input)
+      → (found ≡ None → FrontAt 0 SameLookahead SameLookahead false true (pure left) other input) → FrontAt 0 SameLookahead SameLookahead false true (chain_by readers more start below left found) other input
   chain_by-none start below left more others other (Some op) input h g = maybe_at-front (none_at-front (h op))
   chain_by-none start below left more others other None input h g = g refl
 
-  level-same : (below : ℕ) (rest tail : List TokenTree) → Alike rest tail → at_level (suc below) (operator_of rest) ≡ None → at_level (suc below) (operator_of tail) ≡ None
+  level-same : (below : ℕ) (rest tail : List TokenTree) → SameLookahead rest tail → at_level (suc below) (operator_of rest) ≡ None → at_level (suc below) (operator_of tail) ≡ None
   level-same below rest tail alike none = ap (at_level (suc below)) (sym (alike-operator rest tail alike)) ∙ none
 
   chain-ended : (start : Span) (below limit : ℕ) (left : Expr) (trees : List TokenTree) (last : Span)
-      → FrontAt limit Alike Alike false true (chain_from readers start below 0 left) (chain_from readers start below limit left) (at trees last)
+      → FrontAt limit SameLookahead SameLookahead false true (chain_from readers start below 0 left) (chain_from readers start below limit left) (at trees last)
   unfolding chain_from
   chain-ended start below limit left [] last =
       stay-front left refl (λ tail new alike fits. chain-stop start below limit left tail new (level-same below [] tail alike (ap (at_level (suc below)) operator-none)) fits)
@@ -106,7 +106,7 @@ module _ (readers : Readers) (parts : AllFronts readers) where
   abbrev chain_step : (Expr → Parser Expr) → Span → ℕ → Expr → Option Infix → Parser Expr
   chain_step more start below left found = chain_by readers more start below left (at_level (suc below) found)
 
-  chain_from-front : (start : Span) (below limit turns : ℕ) (left : Expr) → Fronts limit Alike Alike false true (chain_from readers start below turns left) (chain_from readers start below limit left)
+  chain_from-front : (start : Span) (below limit turns : ℕ) (left : Expr) → Fronts limit SameLookahead SameLookahead false true (chain_from readers start below turns left) (chain_from readers start below limit left)
   unfolding chain_from
   chain_from-front start below limit zero left = record { at = λ input. chain-ended start below limit left input.rest input.last }
   chain_from-front start below zero (suc turns) left = record {
@@ -154,12 +154,12 @@ module _ (readers : Readers) (parts : AllFronts readers) where
   dots-some true = omega arith
   dots-some false = omega arith
 
-  dots-front : (limit : ℕ) (input : Input) → is_dots input.rest ≡ true → FrontAt limit Alike Alike true true (dots readers) (dots readers) input
+  dots-front : (limit : ℕ) (input : Input) → is_dots input.rest ≡ true → FrontAt limit SameLookahead SameLookahead true true (dots readers) (dots readers) input
   dots-front limit input there =
       test_at-front is_closed_dots (λ closed. skip_by (if closed then 3 else 2) >> pure closed) (λ closed. skip_by (if closed then 3 else 2) >> pure closed) alike-closed_dots (λ closed is.
       first_at-front (skip_by_at-front true (if closed then 3 else 2) (λ _. dots-some closed) (dots-size closed input.rest is there)) (λ marks. pure-front closed))
 
-  range_from-front : (start : Span) (left : Option Expr) (limit : ℕ) (input : Input) → is_dots input.rest ≡ true → FrontAt limit Alike Alike true true (range_from readers start left) (range_from readers start left) input
+  range_from-front : (start : Span) (left : Option Expr) (limit : ℕ) (input : Input) → is_dots input.rest ≡ true → FrontAt limit SameLookahead SameLookahead true true (range_from readers start left) (range_from readers start left) input
   unfolding range_from
   range_from-front start left limit input there = first_at-front (dots-front limit input there) (λ closed.
       test-front begins_operand alike-operand (λ bounded.

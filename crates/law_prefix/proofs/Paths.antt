@@ -27,7 +27,7 @@ use Rattle.law_prefix.proofs.Words.{lifetime-front, name-front, segment_word-fro
 
 -- the readers of the parts have the law
 pub record AllFronts (readers : Readers) : Type 0 where
-  pub ty : (many : Bool) → Rule true (readers.ty many)
+  pub ty : (allow_plus : Bool) → Rule true (readers.ty allow_plus)
   pub expr : (level : ℕ) → Rule true (readers.expr level)
   pub bounds : Rule true readers.bounds
 
@@ -159,6 +159,6 @@ module _ (readers : Readers) (parts : AllFronts readers) where
   unfolding joined_bounds
   joined_bounds-front = joined_by-front (eat 1 is_plus) (one_bound readers) (λ limit. eat_mark-front 43 refl refl) one_bound-front
 
-  pub bounds-front : (many : Bool) → Rule true (bounds readers many)
+  pub bounds-front : (allow_plus : Bool) → Rule true (bounds readers allow_plus)
   unfolding bounds
-  bounds-front many limit = if-front many (joined_bounds-front limit) (map-front (λ found. found ∷ []) (one_bound-front limit))
+  bounds-front allow_plus limit = if-front allow_plus (joined_bounds-front limit) (map-front (λ found. found ∷ []) (one_bound-front limit))

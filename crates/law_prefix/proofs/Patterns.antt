@@ -9,8 +9,8 @@ use Rattle.syn_grammar.specs.Input.{after_eat, skipped, next}
 use Rattle.syn_grammar.specs.Patterns.{ands_from, skip_ands, is_underscore, pattern_word, patterns_by, pattern}
 use Rattle.syn_grammar.specs.Token.{is_and, is_group, mark_of, ident_of, span_of}
 use Rattle.syn_grammar.specs.Words.{next_word}
-use Rattle.law_prefix.specs.Alike.{Alike, more}
-use Rattle.law_prefix.specs.Front.{at}
+use Rattle.law_prefix.specs.SameLookahead.{SameLookahead, more}
+use Rattle.law_prefix.specs.ReadsByPrefix.{at}
 use Rattle.law_prefix.proofs.Looks.{like-refl, alike-mark, alike-group}
 use Rattle.law_prefix.proofs.Steps.{FrontAt, stay-front, pure-front, then-front, first-front, if-front, test-front, turns_at-front}
 use Rattle.law_prefix.proofs.Takes.{eat_or-front, inside-front}
@@ -35,7 +35,7 @@ unfolding mark_of
 and-same tree rest tail = refl
 
 -- as long as there are turns for all tokens
-ands_from-front : (limit turns : ℕ) (trees : List TokenTree) (last : Span) (b : Bool) → is_and trees ≡ b → length trees ≤ turns → FrontAt limit Alike Alike false true (ands_from turns) (ands_from limit) (at trees last)
+ands_from-front : (limit turns : ℕ) (trees : List TokenTree) (last : Span) (b : Bool) → is_and trees ≡ b → length trees ≤ turns → FrontAt limit SameLookahead SameLookahead false true (ands_from turns) (ands_from limit) (at trees last)
 ands_from-front limit turns trees last false is enough =
     stay-front tt (ands-stop turns trees last is) (λ tail new alike fits. ands-stop limit tail new (sym (alike-mark 38 refl refl trees tail alike) ∙ is))
 ands_from-front limit turns [] last true is enough = absurd (both_ways _ and-none is)

@@ -18,8 +18,8 @@ use Rattle.syn_grammar.specs.Paths.{list}
 use Rattle.syn_grammar.specs.Readers.{Readers, any_level}
 use Rattle.syn_grammar.specs.Token.{is_group, is_turbofish, mark_of, is_joint, is_pair}
 use Rattle.syn_grammar.specs.Words.{name_of}
-use Rattle.law_prefix.specs.Alike.{Alike}
-use Rattle.law_prefix.specs.Front.{at}
+use Rattle.law_prefix.specs.SameLookahead.{SameLookahead}
+use Rattle.law_prefix.specs.ReadsByPrefix.{at}
 use Rattle.law_prefix.proofs.Looks.{alike-group, alike-name, alike-turbofish}
 use Rattle.law_prefix.proofs.Begins.{alike-postfix_start}
 use Rattle.law_prefix.proofs.Steps.{FrontAt, Fronts, refuse_at-front, stay-front, pure-front, then-front, first_at-front, first-front, turn_at-front, maybe_at-front, maybe-front, late-front, none_at-front, if-front, seen-front, test_at-front, test-front, here_at-front, close-front, turns-front}
@@ -43,11 +43,11 @@ module _ (readers : Readers) (parts : AllFronts readers) where
   unfolding method_call
   method_call-front start receiver method limit = first-front (args-front limit) (λ given. close-front start (expr.MethodCall receiver method [] given))
 
-  field-front : (start : Span) (base : Expr) (found : Member) (limit : ℕ) → Fronts limit Alike Alike false false (field readers start base found) (field readers start base found)
+  field-front : (start : Span) (base : Expr) (found : Member) (limit : ℕ) → Fronts limit SameLookahead SameLookahead false false (field readers start base found) (field readers start base found)
   unfolding field
   field-front start base found limit = close-front start (expr.Field base found)
 
-  named_member-front : (start : Span) (base : Expr) (name : Ident) (limit : ℕ) → Fronts limit Alike Alike false false (named_member readers start base name) (named_member readers start base name)
+  named_member-front : (start : Span) (base : Expr) (name : Ident) (limit : ℕ) → Fronts limit SameLookahead SameLookahead false false (named_member readers start base name) (named_member readers start base name)
   unfolding named_member
   named_member-front start base name limit =
       test-front is_turbofish alike-turbofish (λ turbofish.
@@ -76,7 +76,7 @@ module _ (readers : Readers) (parts : AllFronts readers) where
   postfix-some trees is = seen-enough postfix_start postfix.Try trees is (λ h. absurd cc)
 
   postfix_by-front : (start : Span) (left : Expr) (begins : PostfixStart) (limit : ℕ) (input : Input) → postfix_start input.rest ≡ begins
-      → FrontAt limit Alike Alike true true (postfix_by readers start left begins) (postfix_by readers start left begins) input
+      → FrontAt limit SameLookahead SameLookahead true true (postfix_by readers start left begins) (postfix_by readers start left begins) input
   unfolding question
   postfix_by-front start left postfix.Call limit input is = (call-front start left limit).at input
   postfix_by-front start left postfix.Dot limit input is = (skip_then-front (member-front start left limit)).at input
@@ -100,8 +100,8 @@ module _ (readers : Readers) (parts : AllFronts readers) where
 
   -- a turn, by what begins there
   postfixes_by-front : (start : Span) (left : Expr) (limit : ℕ) (more others : Expr → Parser Expr) (begins : PostfixStart) (input : Input)
-      → FrontAt limit Alike Alike true true (postfix_by readers start left begins >>= more) (postfix_by readers start left begins >>= others) input
-      → FrontAt limit Alike Alike false true (postfixes_by readers more start left begins) (postfixes_by readers others start left begins) input
+      → FrontAt limit SameLookahead SameLookahead true true (postfix_by readers start left begins >>= more) (postfix_by readers start left begins >>= others) input
+      → FrontAt limit SameLookahead SameLookahead false true (postfixes_by readers more start left begins) (postfixes_by readers others start left begins) input
   postfixes_by-front start left limit more others postfix.Nothing input h = (pure-front left).at input
   postfixes_by-front start left limit more others postfix.Call input h = maybe_at-front h
   postfixes_by-front start left limit more others postfix.Dot input h = maybe_at-front h
@@ -110,8 +110,8 @@ module _ (readers : Readers) (parts : AllFronts readers) where
 
   -- where no token may be left, only an end is read again
   postfixes_by-none : (start : Span) (left : Expr) (more others : Expr → Parser Expr) (other : Parser Expr) (begins : PostfixStart) (input : Input)
-      → FrontAt 0 Alike Alike true true (postfix_by readers start left begins >>= more) (postfix_by readers start left begins >>= others) input
-      → (begins ≡ postfix.Nothing → FrontAt 0 Alike Alike false true (pure left) other input) → FrontAt 0 Alike Alike false true (postfixes_by readers more start left begins) other input
+      → FrontAt 0 SameLookahead SameLookahead true true (postfix_by readers start left begins >>= more) (postfix_by readers start left begins >>= others) input
+      → (begins ≡ postfix.Nothing → FrontAt 0 SameLookahead SameLookahead false true (pure left) other input) → FrontAt 0 SameLookahead SameLookahead false true (postfixes_by readers more start left begins) other input
   postfixes_by-none start left more others other postfix.Nothing input h g = g refl
   postfixes_by-none start left more others other postfix.Call input h g = maybe_at-front (none_at-front h)
   postfixes_by-none start left more others other postfix.Dot input h g = maybe_at-front (none_at-front h)
@@ -119,12 +119,12 @@ module _ (readers : Readers) (parts : AllFronts readers) where
   postfixes_by-none start left more others other postfix.Try input h g = maybe_at-front (none_at-front h)
 
   postfixes-ended : (start : Span) (limit : ℕ) (left : Expr) (trees : List TokenTree) (last : Span)
-      → FrontAt limit Alike Alike false true (postfixes_from readers start 0 left) (postfixes_from readers start limit left) (at trees last)
+      → FrontAt limit SameLookahead SameLookahead false true (postfixes_from readers start 0 left) (postfixes_from readers start limit left) (at trees last)
   unfolding postfixes_from
   postfixes-ended start limit left [] last = stay-front left refl (λ tail new alike fits. postfixes-stop start limit left tail new (sym (alike-postfix_start [] tail alike) ∙ postfix-none) fits)
   postfixes-ended start limit left (tree ∷ trees) last = record { of = λ after found e. absurd cc }
 
-  postfixes_from-front : (start : Span) (limit turns : ℕ) (left : Expr) → Fronts limit Alike Alike false true (postfixes_from readers start turns left) (postfixes_from readers start limit left)
+  postfixes_from-front : (start : Span) (limit turns : ℕ) (left : Expr) → Fronts limit SameLookahead SameLookahead false true (postfixes_from readers start turns left) (postfixes_from readers start limit left)
   unfolding postfixes_from
   postfixes_from-front start limit zero left = record { at = λ input. postfixes-ended start limit left input.rest input.last }
   postfixes_from-front start zero (suc turns) left = record {
@@ -142,6 +142,6 @@ module _ (readers : Readers) (parts : AllFronts readers) where
   postfixes-front : (start : Span) (left : Expr) → Rule false (postfixes readers start left)
   postfixes-front start left limit = turns-front {loop = λ turns. postfixes_from readers start turns left} (λ limit turns. postfixes_from-front start limit turns left)
 
-  pub postfixed-front : (begins : AtomStart) (limit : ℕ) (input : Input) → (is_atom begins ≡ true → 1 ≤ length input.rest) → FrontAt limit Alike Alike true true (postfixed readers begins) (postfixed readers begins) input
+  pub postfixed-front : (begins : AtomStart) (limit : ℕ) (input : Input) → (is_atom begins ≡ true → 1 ≤ length input.rest) → FrontAt limit SameLookahead SameLookahead true true (postfixed readers begins) (postfixed readers begins) input
   unfolding postfixed
   postfixed-front begins limit input some = here_at-front (λ start. first_at-front (atom_by-front readers parts begins limit input some) (λ left. postfixes-front start left limit))

@@ -6,8 +6,8 @@ use Rattle.tok_types.specs.Span.{joined}
 use Rattle.tok_types.specs.declared.span.Span.{Span}
 use Rattle.tok_types.specs.declared.tree.TokenTree.{TokenTree}
 use Rattle.syn_grammar.specs.Input.{Input, Outcome, Parser, and_then, ◌>>=◌, ◌<$>◌, pure, refuse, test, here, first_span, upto, state, read_since, by_turns}
-use Rattle.law_prefix.specs.Alike.{Relation}
-use Rattle.law_prefix.specs.Front.{at}
+use Rattle.law_prefix.specs.SameLookahead.{Relation}
+use Rattle.law_prefix.specs.ReadsByPrefix.{at}
 
 -- ---- what a step reads again
 

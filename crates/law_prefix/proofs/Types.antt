@@ -14,7 +14,7 @@ use Rattle.syn_grammar.specs.Readers.{Readers}
 use Rattle.syn_grammar.specs.Token.{after_one, is_colon, is_group, ident_of, lifetime_of, mark_of, is_joint, is_pair}
 use Rattle.syn_grammar.specs.Types.{name_before_colon, arg_name_by, arg_name, type_group, type_bracket, type_reference, type_pointer, named_arg, type_fn_ptr, type_trait_object, type_impl_trait, type_qualified, type_path, type_in_parentheses, type_in_brackets, type_by, type_step}
 use Rattle.syn_grammar.specs.Words.{name_of, next_word}
-use Rattle.law_prefix.specs.Alike.{Alike, stop, close, bar, more}
+use Rattle.law_prefix.specs.SameLookahead.{SameLookahead, stop, close, bar, more}
 use Rattle.law_prefix.proofs.Looks.{alike-colon, stop-word}
 use Rattle.law_prefix.proofs.Begins.{alike-type_start, closed-word, barred-word}
 use Rattle.law_prefix.proofs.Steps.{FrontAt, Fronts, refuse_at-front, pure-front, then_at-front, then-front, first_at-front, first-front, maybe-front, if-front, test_at-front, look_at-front, here_at-front, here-front, close-front}
@@ -52,7 +52,7 @@ both-none one two none same = rw (← same, none) (go (is_colon (after_one one))
     go false true = refl
     go false false = refl
 
-same-before_colon : (one two : List TokenTree) → Alike one two → (name_of one ≡ name_of two) → name_before_colon one ≡ name_before_colon two
+same-before_colon : (one two : List TokenTree) → SameLookahead one two → (name_of one ≡ name_of two) → name_before_colon one ≡ name_before_colon two
 unfolding name_before_colon
 same-before_colon one two (stop _ _ h g) same = none-before_colon one (stop-word one h) ∙ sym (none-before_colon two (stop-word two g))
 same-before_colon _ _ (more one other rest tail like alike) same = rw (alike-colon rest tail alike, same) refl
@@ -66,14 +66,14 @@ before_colon-enough (tree ∷ []) name h = absurd cc
 before_colon-enough (one ∷ two ∷ trees) name h = omega arith
 
 -- a name before a colon, and more behind it
-pub arg_name-front : {A : Type 0} {limit : ℕ} {next following : Option Ident → Parser A} → ((name : Option Ident) → Fronts limit Alike Alike true true (next name) (following name))
-    → Fronts limit Alike Alike true true (arg_name >>= next) (arg_name >>= following)
+pub arg_name-front : {A : Type 0} {limit : ℕ} {next following : Option Ident → Parser A} → ((name : Option Ident) → Fronts limit SameLookahead SameLookahead true true (next name) (following name))
+    → Fronts limit SameLookahead SameLookahead true true (arg_name >>= next) (arg_name >>= following)
 arg_name-front {A} {limit} {next} {following} h = record {
   at = λ input. look_at-front name_before_colon (λ name. arg_name_by name >>= next) (λ name. arg_name_by name >>= following)
       (λ tree rest tail alike. same-before_colon (tree ∷ rest) (tree ∷ tail) alike (same-name tree rest tail)) (λ name is. by input name is);
 }
   where
-    by : (input : Input) (name : Option Ident) → name_before_colon input.rest ≡ name → FrontAt limit Alike Alike true true (arg_name_by name >>= next) (arg_name_by name >>= following) input
+    by : (input : Input) (name : Option Ident) → name_before_colon input.rest ≡ name → FrontAt limit SameLookahead SameLookahead true true (arg_name_by name >>= next) (arg_name_by name >>= following) input
     by input None is = (h None).at input
     by input (Some name) is = then_at-front (first_at-front (skip_by_at-front true 2 (λ h. omega arith) (before_colon-enough input.rest name is)) (λ marks. pure-front (Some name))) h
 
@@ -105,15 +105,15 @@ module _ (readers : Readers) (parts : AllFronts readers) where
       then-front (inside-front delimiter.Parenthesis (list (named_arg readers))) (λ inputs.
       then-front (return_type-front readers parts limit) (λ output. close-front start (make.type_fn_ptr lifetimes inputs output))))))
 
-  type_trait_object-front : (many : Bool) → Rule true (type_trait_object readers many)
+  type_trait_object-front : (allow_plus : Bool) → Rule true (type_trait_object readers allow_plus)
   unfolding type_trait_object
-  type_trait_object-front many limit = here-front (λ start. skip_then-front (
-      first-front (bounds-front readers parts many limit) (λ found. close-front start (make.type_trait_object found))))
+  type_trait_object-front allow_plus limit = here-front (λ start. skip_then-front (
+      first-front (bounds-front readers parts allow_plus limit) (λ found. close-front start (make.type_trait_object found))))
 
-  type_impl_trait-front : (many : Bool) → Rule true (type_impl_trait readers many)
+  type_impl_trait-front : (allow_plus : Bool) → Rule true (type_impl_trait readers allow_plus)
   unfolding type_impl_trait
-  type_impl_trait-front many limit = here-front (λ start. skip_then-front (
-      first-front (bounds-front readers parts many limit) (λ found. close-front start (make.type_impl_trait found))))
+  type_impl_trait-front allow_plus limit = here-front (λ start. skip_then-front (
+      first-front (bounds-front readers parts allow_plus limit) (λ found. close-front start (make.type_impl_trait found))))
 
   type_qualified-front : Rule true (type_qualified readers)
   unfolding type_qualified
@@ -138,20 +138,20 @@ module _ (readers : Readers) (parts : AllFronts readers) where
   unfolding type_start is_group mark_of is_pair is_joint next_word ident_of
   type-enough trees begins is some = seen-enough type_start begins trees is some
 
-  type_by-front : (many : Bool) (begins : TypeStart) (limit : ℕ) (input : Input) → type_start input.rest ≡ begins → FrontAt limit Alike Alike true true (type_by readers many begins) (type_by readers many begins) input
-  type_by-front many begin.Parenthesis limit input is = (type_in_parentheses-front limit).at input
-  type_by-front many begin.Bracket limit input is = (type_in_brackets-front limit).at input
-  type_by-front many begin.Never limit input is = here_at-front (λ span. first_at-front (skip_at-front (type-enough input.rest begin.Never is (λ h. absurd cc))) (λ mark. pure-front (make.type_never span)))
-  type_by-front many begin.Infer limit input is = here_at-front (λ span. first_at-front (skip_at-front (type-enough input.rest begin.Infer is (λ h. absurd cc))) (λ mark. pure-front (make.type_infer span)))
-  type_by-front many begin.Reference limit input is = (type_reference-front limit).at input
-  type_by-front many begin.Pointer limit input is = (type_pointer-front limit).at input
-  type_by-front many begin.FnPtr limit input is = (type_fn_ptr-front limit).at input
-  type_by-front many begin.TraitObject limit input is = (type_trait_object-front many limit).at input
-  type_by-front many begin.ImplTrait limit input is = (type_impl_trait-front many limit).at input
-  type_by-front many begin.Qualified limit input is = (type_qualified-front limit).at input
-  type_by-front many begin.Path limit input is = (type_path-front limit).at input
-  type_by-front many begin.Nothing limit input is = refuse_at-front
+  type_by-front : (allow_plus : Bool) (begins : TypeStart) (limit : ℕ) (input : Input) → type_start input.rest ≡ begins → FrontAt limit SameLookahead SameLookahead true true (type_by readers allow_plus begins) (type_by readers allow_plus begins) input
+  type_by-front allow_plus begin.Parenthesis limit input is = (type_in_parentheses-front limit).at input
+  type_by-front allow_plus begin.Bracket limit input is = (type_in_brackets-front limit).at input
+  type_by-front allow_plus begin.Never limit input is = here_at-front (λ span. first_at-front (skip_at-front (type-enough input.rest begin.Never is (λ h. absurd cc))) (λ mark. pure-front (make.type_never span)))
+  type_by-front allow_plus begin.Infer limit input is = here_at-front (λ span. first_at-front (skip_at-front (type-enough input.rest begin.Infer is (λ h. absurd cc))) (λ mark. pure-front (make.type_infer span)))
+  type_by-front allow_plus begin.Reference limit input is = (type_reference-front limit).at input
+  type_by-front allow_plus begin.Pointer limit input is = (type_pointer-front limit).at input
+  type_by-front allow_plus begin.FnPtr limit input is = (type_fn_ptr-front limit).at input
+  type_by-front allow_plus begin.TraitObject limit input is = (type_trait_object-front allow_plus limit).at input
+  type_by-front allow_plus begin.ImplTrait limit input is = (type_impl_trait-front allow_plus limit).at input
+  type_by-front allow_plus begin.Qualified limit input is = (type_qualified-front limit).at input
+  type_by-front allow_plus begin.Path limit input is = (type_path-front limit).at input
+  type_by-front allow_plus begin.Nothing limit input is = refuse_at-front
 
-  pub type_step-front : (many : Bool) → Rule true (type_step readers many)
+  pub type_step-front : (allow_plus : Bool) → Rule true (type_step readers allow_plus)
   unfolding type_step
-  type_step-front many limit = record { at = λ input. test_at-front type_start (type_by readers many) (type_by readers many) alike-type_start (λ begins is. type_by-front many begins limit input is) }
+  type_step-front allow_plus limit = record { at = λ input. test_at-front type_start (type_by readers allow_plus) (type_by readers allow_plus) alike-type_start (λ begins is. type_by-front allow_plus begins limit input is) }

@@ -10,8 +10,8 @@ use Rattle.syn_grammar.specs.Types.{type_step}
 use Rattle.syn_grammar.specs.Expressions.{expr_step}
 use Rattle.tok_types.specs.declared.span.Span.{Span}
 use Rattle.tok_types.specs.declared.tree.TokenTree.{TokenTree}
-use Rattle.law_prefix.specs.Alike.{Relation, Alike, stop, stops}
-use Rattle.law_prefix.specs.Front.{at, Front}
+use Rattle.law_prefix.specs.SameLookahead.{Relation, SameLookahead, stop, stops}
+use Rattle.law_prefix.specs.ReadsByPrefix.{at, ReadsByPrefix}
 use Rattle.law_prefix.proofs.Steps.{Fronts, take-read, begins-length, refuse-front}
 use Rattle.law_prefix.proofs.Loops.{Rule}
 use Rattle.law_prefix.proofs.Paths.{AllFronts, bounds-front}
@@ -52,14 +52,14 @@ kept_depth-front size depth parser rule limit = record {
 pub within-fronts : (depth : ℕ) → AllFronts (within depth)
 unfolding within
 within-fronts zero = record {
-  ty = λ many limit. refuse-front refuse;
+  ty = λ allow_plus limit. refuse-front refuse;
   expr = λ level limit. refuse-front refuse;
   bounds = λ limit. refuse-front refuse;
 }
 within-fronts (suc below) =
     let parts = within-fronts below in
     record {
-      ty = λ many. kept_depth-front type_depth (suc below) (type_step (within below) many) (type_step-front (within below) parts many);
+      ty = λ allow_plus. kept_depth-front type_depth (suc below) (type_step (within below) allow_plus) (type_step-front (within below) parts allow_plus);
       expr = λ level. kept_depth-front expr_depth (suc below) (expr_step (within below) level) (expr_step-front (within below) parts level);
       bounds = kept_depth-front bounds_depth (suc below) (bounds (within below) true) (bounds-front (within below) parts true);
     }
@@ -69,7 +69,7 @@ read-again : {A : Type 0} (parser : Parser A) (one two tail : List TokenTree) (l
 read-again parser one two tail last old new found same e stands = ap (λ read. parser (at (read ++ tail) last)) (sym same) ∙ e ∙ ap (λ last. Some (found, at tail last)) (sym stands)
 
 -- what holds at every number of turns
-pub front-of : {A : Type 0} {Start End : Relation} {parser : Parser A} → ((limit : ℕ) → Fronts limit Start End true true parser parser) → Front End parser
+pub front-of : {A : Type 0} {Start End : Relation} {parser : Parser A} → ((limit : ℕ) → Fronts limit Start End true true parser parser) → ReadsByPrefix End parser
 front-of {parser = parser} h = record {
   of = λ input after found e.
       let took = ((h 0).at input).of after found e in
@@ -88,7 +88,7 @@ front-of {parser = parser} h = record {
 -- ---- what stops
 
 -- A front before a comma, or before nothing, is read from its tokens alone, wherever they stand.
-pub front-alone : {A : Type 0} {parser : Parser A} → Front Alike parser → (input after : Input) (found : A) → parser input ≡ Some (found, after) → stops after.rest ≡ true → (last : Span)
+pub front-alone : {A : Type 0} {parser : Parser A} → ReadsByPrefix SameLookahead parser → (input after : Input) (found : A) → parser input ≡ Some (found, after) → stops after.rest ≡ true → (last : Span)
     → parser (at (take (length input.rest - length after.rest) input.rest) last) ≡ Some (found, at [] after.last)
 front-alone {parser = parser} front input after found e h last =
     let took = front.of input after found e in
@@ -96,7 +96,7 @@ front-alone {parser = parser} front input after found e h last =
     ap (λ trees. parser (at trees last)) (read ∙ sym (append-nil took.read)) ∙ took.again [] last (stop after.rest [] h refl)
 
 -- What is read from all of some tokens is read of them before a comma too, wherever they stand.
-pub front-before : {A : Type 0} {parser : Parser A} → Front Alike parser → (input after : Input) (found : A) → parser input ≡ Some (found, after) → after.rest ≡ []
+pub front-before : {A : Type 0} {parser : Parser A} → ReadsByPrefix SameLookahead parser → (input after : Input) (found : A) → parser input ≡ Some (found, after) → after.rest ≡ []
     → (tail : List TokenTree) (last : Span) → stops tail ≡ true → parser (at (input.rest ++ tail) last) ≡ Some (found, at tail after.last)
 front-before {parser = parser} front input after found e none tail last h =
     let took = front.of input after found e in

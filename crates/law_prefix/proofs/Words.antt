@@ -5,7 +5,7 @@ use Rattle.syn_grammar.specs.declared.word.Word.TheVariants as word
 use Rattle.syn_grammar.specs.Input.{eat, expect, take_as}
 use Rattle.syn_grammar.specs.Literals.{index_of}
 use Rattle.syn_grammar.specs.Token.{ident_of, lifetime_of, literal_of, is_arrow, is_colon, is_colons, mark_of}
-use Rattle.syn_grammar.specs.Words.{name_of, next_word, segment_word, sees, is_word}
+use Rattle.syn_grammar.specs.Words.{name_of, next_word, segment_word, peek, is_word}
 use Rattle.law_prefix.proofs.Looks.{alike-sees, alike-colons, alike-arrow, alike-colon}
 use Rattle.law_prefix.proofs.Takes.{take_as-front, eat-front, expect-front, one-enough, pair-enough}
 use Rattle.law_prefix.proofs.Loops.{Rule}
@@ -30,13 +30,13 @@ pub index-front : Rule true (take_as index_of)
 unfolding index_of literal_of
 index-front limit = take_as-front index_of refl (λ tree rest tail. refl)
 
-pub eat_word-front : (wanted : Word) → is_word wanted word.None ≡ false → Rule false (eat 1 (sees wanted))
+pub eat_word-front : (wanted : Word) → is_word wanted word.None ≡ false → Rule false (eat 1 (peek wanted))
 unfolding next_word ident_of
-eat_word-front wanted none limit = eat-front 1 (sees wanted) (alike-sees wanted) (one-enough (sees wanted) none)
+eat_word-front wanted none limit = eat-front 1 (peek wanted) (alike-sees wanted) (one-enough (peek wanted) none)
 
-pub word-front : (wanted : Word) → is_word wanted word.None ≡ false → Rule true (expect 1 (sees wanted))
+pub word-front : (wanted : Word) → is_word wanted word.None ≡ false → Rule true (expect 1 (peek wanted))
 unfolding next_word ident_of
-word-front wanted none limit = expect-front true 1 (sees wanted) (λ _. omega arith) (alike-sees wanted) (one-enough (sees wanted) none)
+word-front wanted none limit = expect-front true 1 (peek wanted) (λ _. omega arith) (alike-sees wanted) (one-enough (peek wanted) none)
 
 pub eat_colons-front : Rule false (eat 2 is_colons)
 eat_colons-front limit = eat-front 2 is_colons alike-colons (pair-enough 58 58 refl)

@@ -8,10 +8,10 @@ use Rattle.syn_grammar.specs.Expressions.{closure_params, closure_body}
 use Rattle.syn_grammar.specs.Input.{Parser, ◌>>=◌, pure, here, eat, expect}
 use Rattle.syn_grammar.specs.Readers.{Readers}
 use Rattle.syn_grammar.specs.Token.{is_arrow, is_bar, is_group}
-use Rattle.syn_grammar.specs.Words.{sees}
+use Rattle.syn_grammar.specs.Words.{peek}
 
 -- Behind the head the rules see whether a `|`, an arrow or a block comes.
-pub record AlikeBodies (rest tail : List TokenTree) : Type 0 where
+pub record SameLookaheadOfBodies (rest tail : List TokenTree) : Type 0 where
   pub bar : is_bar rest ≡ is_bar tail
   pub arrow : is_arrow rest ≡ is_arrow tail
   pub block : is_group delimiter.Brace rest ≡ is_group delimiter.Brace tail
@@ -21,7 +21,7 @@ module _ (readers : Readers) where
   unfoldable pub closure_head : Parser (Span × ℕ)
   closure_head = do
     start ← here
-    moved ← eat 1 (sees word.Move)
+    moved ← eat 1 (peek word.Move)
     opened ← expect 1 is_bar
     params ← closure_params readers
     level ← closure_body readers

@@ -1,3 +1,3 @@
-pub mod Alike
-pub mod Front
+pub mod SameLookahead
+pub mod ReadsByPrefix
 pub mod Closures

@@ -1,9 +1,9 @@
 //! What the rules of the grammar promise of the tokens behind their fronts. This function does
 //! nothing: its clauses are the law.
 
-ghost use Rattle.law_prefix.specs.Alike.{Alike};
-ghost use Rattle.law_prefix.specs.Closures.{AlikeBodies, closure_head};
-ghost use Rattle.law_prefix.specs.Front.{Front};
+ghost use Rattle.law_prefix.specs.SameLookahead.{SameLookahead};
+ghost use Rattle.law_prefix.specs.Closures.{SameLookaheadOfBodies, closure_head};
+ghost use Rattle.law_prefix.specs.ReadsByPrefix.{ReadsByPrefix};
 ghost use Rattle.syn_grammar.specs.Grammar.{within};
 ghost use Rattle.syn_grammar.specs.Paths.{path};
 ghost use Rattle.std.specs.Prelude.{ℕ, Bool};
@@ -12,8 +12,8 @@ ghost use Rattle.std.specs.Prelude.{ℕ, Bool};
 /// have at least one token, and are read again from the same tokens, wherever these stand and
 /// whatever follows them, as far as the rules look at it.
 pub fn fronts_are_read_again()
-    ensures ty { (depth : ℕ) (many : Bool) → Front Alike ((within depth).ty many) }
-    ensures expr { (depth level : ℕ) → Front Alike ((within depth).expr level) }
-    ensures path { (depth : ℕ) (in_type : Bool) → Front Alike (path (within depth) in_type) }
-    ensures closure_head { (depth : ℕ) → Front AlikeBodies (closure_head (within depth)) }
+    ensures ty { (depth : ℕ) (allow_plus : Bool) → ReadsByPrefix SameLookahead ((within depth).ty allow_plus) }
+    ensures expr { (depth level : ℕ) → ReadsByPrefix SameLookahead ((within depth).expr level) }
+    ensures path { (depth : ℕ) (in_type : Bool) → ReadsByPrefix SameLookahead (path (within depth) in_type) }
+    ensures closure_head { (depth : ℕ) → ReadsByPrefix SameLookaheadOfBodies (closure_head (within depth)) }
 {}

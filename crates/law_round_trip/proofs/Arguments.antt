@@ -19,22 +19,22 @@ use Rattle.syn_grammar.specs.Look.{argument_name, argument_start, argument_word,
 use Rattle.syn_grammar.specs.Paths.{list, angle_list, binder, return_type, parenthesized, assoc_const, assoc_type, constraint, argument_by, generic_argument}
 use Rattle.syn_grammar.specs.Readers.{Readers, constant_level}
 use Rattle.syn_grammar.specs.Token.{after_one, ident_of, is_arrow, is_colon, is_equals, is_group, is_less, is_pair, lifetime_of, literal_of, mark_of}
-use Rattle.syn_grammar.specs.Words.{is_name, name_of, next_word, sees}
+use Rattle.syn_grammar.specs.Words.{is_name, name_of, next_word, peek}
 use Rattle.print_core.specs.declared.path.PathStyle.{PathStyle}
 use Rattle.print_core.specs.Kinds.{printed_return}
 use Rattle.print_core.specs.Marks.{Trees, comma, group, joined, lifetime, mark, word as printed_word}
 use Rattle.print_core.specs.Nodes.{argument_tokens, arguments_tokens}
 use Rattle.print_core.specs.Paths.{binder as printed_binder, return_of}
-use Rattle.law_spans.specs.Bare.{bare_argument, bare_arguments, bare_output}
+use Rattle.law_spans.specs.Erased.{erased_argument, erased_arguments, erased_output}
 use Rattle.law_spans.proofs.Made.{bare_arguments-Parenthesized, bare_argument-AssocConst, bare_argument-AssocType, bare_argument-Constraint, bare_argument-Const, bare_argument-Ty}
-use Rattle.law_prefix.specs.Alike.{Relation, Any}
-use Rattle.law_prefix.specs.Front.{at}
+use Rattle.law_prefix.specs.SameLookahead.{Relation, Any}
+use Rattle.law_prefix.specs.ReadsByPrefix.{at}
 use Rattle.law_round_trip.specs.Follow.{AfterType, BeginsExpr, BeginsType, Keep, Open, NotEnded, name_before}
-use Rattle.law_round_trip.specs.Printed.{Again, Reads, Printed, Back}
+use Rattle.law_round_trip.specs.Printed.{Again, Reads, Printed, RoundTrips}
 use Rattle.law_round_trip.proofs.Follows.{keep-false, never, type-end, type_before-mark, type-seen, constant-seen}
 use Rattle.law_round_trip.proofs.Lists.{items-printed, until-printed}
 use Rattle.law_round_trip.proofs.Marks.{mark_of-mark, is_joint-mark, out-Ident, name-word, name_of-Ident, mark-length, word-length, lifetime_of-Lifetime, sees-for, is_arrow-arrow, mark_of-Lifetime}
-use Rattle.law_round_trip.specs.Parts.{AllBacks}
+use Rattle.law_round_trip.specs.Parts.{AllRoundTrip}
 use Rattle.law_round_trip.proofs.Prints.{print-Parenthesized, print-AssocConst, print-AssocType, print-Constraint, print-Const, print-Lifetime, print-Ty}
 use Rattle.law_round_trip.proofs.Steps.{Free, Rest, hole, whole, test-rest, pure-rest, here-rest, then-rest, close-rest, shown-rest}
 use Rattle.law_round_trip.proofs.Takes.{eat_or-rest, skip-rest, take_as-rest, inside-rest, take_as-printed, skipped-over, is_group-group}
@@ -56,7 +56,7 @@ lifetimes-printed span = until-printed (λ (it : Lifetime). it) (λ it. tree.Lif
 
 -- no `for` comes, and what is told
 abbrev pub NoForBut : (Trees → Type 0) → Relation
-NoForBut Sight rest tail = (sees word.For tail ≡ false) × Sight tail
+NoForBut Sight rest tail = (peek word.For tail ≡ false) × Sight tail
 
 map-same : (items : List Lifetime) → map (λ (it : Lifetime). it) items ≡ items
 map-same [] = refl
@@ -64,7 +64,7 @@ map-same (it ∷ items) = ap (λ more. it ∷ more) (map-same items)
 
 pub binder-printed : (Sight : Trees → Type 0) (span : Span) → ((tail : Trees) → Sight (printed_word (codes "for") span ++ tail)) → Printed (λ (it : List Lifetime). it) (λ lifetimes. printed_binder lifetimes span) (λ rest tail. Sight tail) (NoForBut Sight) binder binder
 unfolding binder after_eat
-binder-printed Sight span begins = record { of = λ input after found e. by input after found (sees word.For input.rest) e }
+binder-printed Sight span begins = record { of = λ input after found e. by input after found (peek word.For input.rest) e }
   where
     none : (input after : Input) → Reads (λ (it : List Lifetime). it) Sight (NoForBut Sight after.rest) binder [] []
     none input after = record { again = λ tail last f. record { value = []; new = last; is = rw (f.0) refl; same = refl }; first = λ tail f. f.1 }
@@ -109,8 +109,8 @@ binder-printed Sight span begins = record { of = λ input after found e. by inpu
         opened false e = absurd cc
         opened true e = found-by input after found ((lifetimes-printed span).of (skipped 1 (skipped 1 input)) after found e)
 
-module _ (readers : Readers) (parts : AllBacks readers) where
-  pub return_type-back : (span : Span) → Back bare_output (λ it. return_of (printed_return it) span) (λ rest tail. Keep is_equals rest tail × Keep is_colon rest tail) (AfterType false) (return_type readers)
+module _ (readers : Readers) (parts : AllRoundTrip readers) where
+  pub return_type-back : (span : Span) → RoundTrips erased_output (λ it. return_of (printed_return it) span) (λ rest tail. Keep is_equals rest tail × Keep is_colon rest tail) (AfterType false) (return_type readers)
   unfolding return_type
   return_type-back span = whole {P = Unit {0}} (eat_or-rest {Yes = Any} {No = AfterType false} 2 is_arrow (λ place. mark (codes "->") span) (λ place. mark-length (codes "->") span) (λ place tail. is_arrow-arrow tail span)
       (then-rest {Second = AfterType false} (λ place. parts.ty false) (λ it. pure-rest tt (return.Ty it) (λ q. return.Ty q.1) (rw append-nil refl) (λ q ok. ap return.Ty ok.1)) (λ rest tail f. f) (λ rest tail f. tt))
@@ -118,7 +118,7 @@ module _ (readers : Readers) (parts : AllBacks readers) where
       (λ input tail place seen f. (never is_equals input.rest (mark (codes "->") span ++ tail) (rw (mark_of-mark 45 (62 ∷ []) span tail) refl), never is_colon input.rest (mark (codes "->") span ++ tail) (rw (mark_of-mark 45 (62 ∷ []) span tail) refl)))
       (λ rest tail seen f. (keep-false is_arrow rest tail seen f.0.1.arrow, (f.0.1.equals, f.0.1.colon))))
 
-  pub parenthesized-back : (style : PathStyle) (span : Span) → Back bare_arguments (λ it. arguments_tokens it style span) (λ rest tail. is_group delimiter.Parenthesis tail ≡ true) (AfterType false) (parenthesized readers)
+  pub parenthesized-back : (style : PathStyle) (span : Span) → RoundTrips erased_arguments (λ it. arguments_tokens it style span) (λ rest tail. is_group delimiter.Parenthesis tail ≡ true) (AfterType false) (parenthesized readers)
   unfolding parenthesized
   parenthesized-back style span = whole (here-rest (λ start.
       then-rest {Middle = Any} {Second = Any} (λ place. group-printed {Start = λ rest tail. is_group delimiter.Parenthesis tail ≡ true} {End = Any} delimiter.Parenthesis (parts.ty true) (λ rest tail f. (type-seen tail f.0).some) (type-end true) (λ rest tail span. type_before-mark 44 refl refl refl refl span rest tail true) place (λ rest inner tail own. is_group-group delimiter.Parenthesis inner tail own)) (λ inputs.
@@ -195,8 +195,8 @@ type-begin rest tail is f =
 abbrev pub AfterArgument : Relation
 AfterArgument = AfterType true
 
-module _ (readers : Readers) (parts : AllBacks readers) where
-  assoc_const-back : Back bare_argument argument_tokens (Argument argument.AssocConst) AfterArgument (assoc_const readers)
+module _ (readers : Readers) (parts : AllRoundTrip readers) where
+  assoc_const-back : RoundTrips erased_argument argument_tokens (Argument argument.AssocConst) AfterArgument (assoc_const readers)
   unfolding assoc_const
   assoc_const-back = whole (here-rest (λ start. take_as-rest {Second = Behind_name argument.AssocConst} name_of tree.Ident (λ rest tail it is. name_of-Ident rest tail it is) (λ name.
       skip-rest {Second = BeginsExpr constant_level} (λ place. mark (codes "=") place) (mark-length (codes "="))
@@ -206,7 +206,7 @@ module _ (readers : Readers) (parts : AllBacks readers) where
       (λ input tail place f. equals-name tail place true f.begins))
       (λ input tail name is f. name-begin argument.AssocConst name input.rest input.rest tail is f)))
 
-  assoc_type-back : Back bare_argument argument_tokens (Argument argument.AssocType) AfterArgument (assoc_type readers)
+  assoc_type-back : RoundTrips erased_argument argument_tokens (Argument argument.AssocType) AfterArgument (assoc_type readers)
   unfolding assoc_type
   assoc_type-back = whole (here-rest (λ start. take_as-rest {Second = Behind_name argument.AssocType} name_of tree.Ident (λ rest tail it is. name_of-Ident rest tail it is) (λ name.
       skip-rest {Second = BeginsType} (λ place. mark (codes "=") place) (mark-length (codes "="))
@@ -216,7 +216,7 @@ module _ (readers : Readers) (parts : AllBacks readers) where
       (λ input tail place f. equals-name tail place false (type-seen tail f.0).constant))
       (λ input tail name is f. name-begin argument.AssocType name input.rest input.rest tail is f)))
 
-  constraint-back : Back bare_argument argument_tokens (Argument argument.Constraint) AfterArgument (constraint readers)
+  constraint-back : RoundTrips erased_argument argument_tokens (Argument argument.Constraint) AfterArgument (constraint readers)
   unfolding constraint
   constraint-back = whole (here-rest (λ start. take_as-rest {Second = Behind_name argument.Constraint} name_of tree.Ident (λ rest tail it is. name_of-Ident rest tail it is) (λ name.
       skip-rest {Second = NotEnded} (λ place. mark (codes ":") place) (mark-length (codes ":"))
@@ -235,7 +235,7 @@ module _ (readers : Readers) (parts : AllBacks readers) where
   Begun argument.AssocType = Argument argument.AssocType
   Begun argument.Constraint = Argument argument.Constraint
 
-  argument_by-rest : (begins : ArgumentStart) → Rest {P = Unit {0}} {Q = Unit {0}} Free bare_argument argument_tokens hole (Begun begins) AfterArgument (argument_by readers begins) (λ q. argument_by readers begins)
+  argument_by-rest : (begins : ArgumentStart) → Rest {P = Unit {0}} {Q = Unit {0}} Free erased_argument argument_tokens hole (Begun begins) AfterArgument (argument_by readers begins) (λ q. argument_by readers begins)
   argument_by-rest argument.Lifetime = take_as-rest {Second = AfterArgument} lifetime_of tree.Lifetime (λ rest tail it is. lifetime_of-Lifetime it tail)
       (λ it. pure-rest tt (generic.Lifetime it) (λ q. generic.Lifetime it) (rw (print-Lifetime) refl) (λ q ok. refl)) (λ input tail it is f. lifetime-begin it input.rest tail)
   argument_by-rest argument.Constant = then-rest {Second = AfterArgument} (λ place. parts.expr constant_level)
@@ -254,10 +254,10 @@ module _ (readers : Readers) (parts : AllBacks readers) where
   begun argument.AssocType rest tail is f = f
   begun argument.Constraint rest tail is f = f
 
-  pub generic_argument-back : Back bare_argument argument_tokens Open AfterArgument (generic_argument readers)
+  pub generic_argument-back : RoundTrips erased_argument argument_tokens Open AfterArgument (generic_argument readers)
   unfolding generic_argument
   generic_argument-back = whole (test-rest {by = Begun} argument_start argument_by-rest begun)
 
-  pub generic_arguments-back : (span : Span) → Back (map bare_argument) (λ items. joined (comma span) (map argument_tokens items) ++ mark (codes ">") span) Any Any (angle_list (generic_argument readers))
-  generic_arguments-back span = until-printed bare_argument argument_tokens 62 refl (generic_argument readers) (generic_argument readers) generic_argument-back (λ rest tail f. f)
+  pub generic_arguments-back : (span : Span) → RoundTrips (map erased_argument) (λ items. joined (comma span) (map argument_tokens items) ++ mark (codes ">") span) Any Any (angle_list (generic_argument readers))
+  generic_arguments-back span = until-printed erased_argument argument_tokens 62 refl (generic_argument readers) (generic_argument readers) generic_argument-back (λ rest tail f. f)
       (λ rest tail span. type_before-mark 44 refl refl refl refl span rest tail true) (λ rest tail span. type_before-mark 62 refl refl refl refl span rest tail true) span

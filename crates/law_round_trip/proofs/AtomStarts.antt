@@ -25,7 +25,8 @@ use Rattle.syn_grammar.specs.Input.{is_end}
 use Rattle.syn_grammar.specs.Literals.{index_by, index_in, index_of, is_plain, value_of}
 use Rattle.syn_grammar.specs.Look.{atom_start, atom_word, begins_closure, begins_constant, begins_operand, is_atom, is_bool, is_there, operand_start, type_start, type_word}
 use Rattle.syn_grammar.specs.Readers.{any_level, constant_level, range_level}
-use Rattle.syn_grammar.specs.Token.{Layer, same_delimiter, is_arrow, is_bar, is_colons, is_group, is_joint, is_less, is_pair, ident_of, literal_of, mark_of}
+use Rattle.syn_grammar.specs.Token.{Layer, is_arrow, is_bar, is_colons, is_group, is_joint, is_less, is_pair, ident_of, literal_of, mark_of}
+use Rattle.tok_types.specs.Delimiter.{same_delimiter}
 use Rattle.syn_grammar.specs.Words.{begins_segment, name_of, next_word, word_of}
 use Rattle.print_core.specs.Marks.{Trees, group, word as printed_word}
 use Rattle.law_round_trip.specs.Follow.{BeginsExpr, begins_expr, begins_range, is_path}

@@ -22,12 +22,12 @@ use Rattle.syn_grammar.specs.Token.{ident_of, is_comma, is_semicolon, literal_of
 use Rattle.syn_grammar.specs.Words.{named_words, next_word, other_keywords, word_of}
 use Rattle.print_core.specs.Marks.{Trees, comma, group, joined, mark, tuple, word as printed_word}
 use Rattle.print_core.specs.Nodes.{expr_tokens}
-use Rattle.law_spans.specs.Bare.{bare_expr}
+use Rattle.law_spans.specs.Erased.{erased_expr}
 use Rattle.law_spans.proofs.Made.{bare_expr-Array, bare_expr-Group, bare_expr-Infer, bare_expr-Lit, bare_expr-Paren, bare_expr-Path, bare_expr-Repeat, bare_expr-Tuple, bare_expr_path-make}
-use Rattle.law_prefix.specs.Alike.{Relation, Any, stops}
+use Rattle.law_prefix.specs.SameLookahead.{Relation, Any, stops}
 use Rattle.law_round_trip.specs.Follow.{AfterExpr, AfterPath}
-use Rattle.law_round_trip.specs.Parts.{AllBacks}
-use Rattle.law_round_trip.specs.Printed.{Reads, Back}
+use Rattle.law_round_trip.specs.Parts.{AllRoundTrip}
+use Rattle.law_round_trip.specs.Printed.{Reads, RoundTrips}
 use Rattle.law_round_trip.proofs.Exprs.{print-Array, print-bool, print-expr_path, print-expr_qualified, print-Group, print-Infer, print-literal, print-Paren, print-Repeat, print-Tuple}
 use Rattle.law_round_trip.proofs.Follows.{no-semicolon}
 use Rattle.law_round_trip.proofs.Groups.{Filled, filled-seen, inner-rest, others-rest, tuple-long, tuple-single}
@@ -45,7 +45,7 @@ Atom begins rest tail = atom_start tail ≡ begins
 
 -- ---- literals, and single words
 
-pub literal-back : Back bare_expr expr_tokens (Atom atom.Literal) Any literal
+pub literal-back : RoundTrips erased_expr expr_tokens (Atom atom.Literal) Any literal
 unfolding literal
 literal-back = whole {P = Unit {0}} (take_as-rest {Second = Any} literal_of tree.Literal (λ rest tail it is. literal_of-Literal it tail)
     (λ it. pure-rest tt (expr.Lit (lit_of it)) (λ q. expr.Lit (lit_of it)) (print-literal it) (λ q ok. refl)) (λ input tail it is f. literal-atom it tail))
@@ -83,15 +83,15 @@ unfolding word_of named_words other_keywords
 truth-atom true span tail = word-atom (codes "true") span tail
 truth-atom false span tail = word-atom (codes "false") span tail
 
-pub expr_bool-back : Back bare_expr expr_tokens (Atom atom.Bool) Any expr_bool
+pub expr_bool-back : RoundTrips erased_expr expr_tokens (Atom atom.Bool) Any expr_bool
 unfolding expr_bool next skipped
 expr_bool-back = record {
   of = λ input after found e.
       let both = some_pair_parts (lit_bool (next_word input.rest) (first_span input.rest)) found (next input) after e in
-      subst (λ found. Reads bare_expr (λ tail. atom_start tail ≡ atom.Bool) (λ tail. Unit {0}) expr_bool (expr_tokens found) found) (sym (lit_bool-is (next_word input.rest) (first_span input.rest)) ∙ both.0) (read (is_true (next_word input.rest)) (first_span input.rest));
+      subst (λ found. Reads erased_expr (λ tail. atom_start tail ≡ atom.Bool) (λ tail. Unit {0}) expr_bool (expr_tokens found) found) (sym (lit_bool-is (next_word input.rest) (first_span input.rest)) ∙ both.0) (read (is_true (next_word input.rest)) (first_span input.rest));
 }
   where
-    read : (value : Bool) (span : Span) → Reads bare_expr (λ tail. atom_start tail ≡ atom.Bool) (λ tail. Unit {0}) expr_bool (expr_tokens (truth value span)) (truth value span)
+    read : (value : Bool) (span : Span) → Reads erased_expr (λ tail. atom_start tail ≡ atom.Bool) (λ tail. Unit {0}) expr_bool (expr_tokens (truth value span)) (truth value span)
     read value span = rw (print-bool value span) (record {
       again = λ tail last f.
           let tokens = truth_tokens value span in
@@ -110,21 +110,21 @@ infer-atom : (span : Span) (tail : Trees) → atom_start (printed_word (codes "_
 unfolding word_of named_words other_keywords
 infer-atom span tail = word-atom (codes "_") span tail
 
-pub infer-back : Back bare_expr expr_tokens (Atom atom.Infer) Any (here >>= (λ span. skip >> pure (expr.Infer span)))
+pub infer-back : RoundTrips erased_expr expr_tokens (Atom atom.Infer) Any (here >>= (λ span. skip >> pure (expr.Infer span)))
 infer-back = whole (here-rest (λ span. skip-rest {Second = Any} (λ (place : Unit {0}). printed_word (codes "_") span) (λ place. word-length (codes "_") span)
     (pure-rest tt (expr.Infer span) (λ q. expr.Infer q.1) (rw (print-Infer, append-nil) refl) (λ q ok. rw (bare_expr-Infer, bare_expr-Infer) refl)) (λ input tail place f. infer-atom span tail)))
 
-module _ (readers : Readers) (parts : AllBacks readers) where
+module _ (readers : Readers) (parts : AllRoundTrip readers) where
   -- ---- paths
 
-  pub expr_path-back : Back bare_expr expr_tokens (Atom atom.Path) (AfterPath false) (expr_path readers)
+  pub expr_path-back : RoundTrips erased_expr expr_tokens (Atom atom.Path) (AfterPath false) (expr_path readers)
   unfolding expr_path
   expr_path-back = whole (here-rest (λ start.
       then-rest {Second = AfterPath false} (λ (place : Span). path-back readers parts false) (λ found. close-rest start (λ q. q.0.1) (make.expr_path None found) (λ q. make.expr_path None q.1)
       (λ span. rw (print-expr_path, append-nil) refl) (λ span other q ok. rw (bare_expr-Path, bare_expr-Path, bare_expr_path-make, bare_expr_path-make, ok.1) refl))
       (λ rest tail f. f) (λ rest tail f. path-atom tail f.0)))
 
-  pub expr_qualified-back : Back bare_expr expr_tokens (Atom atom.Qualified) (AfterPath false) (expr_qualified readers)
+  pub expr_qualified-back : RoundTrips erased_expr expr_tokens (Atom atom.Qualified) (AfterPath false) (expr_qualified readers)
   unfolding expr_qualified
   expr_qualified-back = whole (here-rest (λ start.
       then-rest {Second = AfterPath false} (λ (place : Span). qualified-back readers parts false) (λ found. close-rest start (λ q. q.0.1) (make.expr_path (Some found.0) found.1) (λ q. make.expr_path (Some q.1.0) q.1.1)
@@ -134,15 +134,15 @@ module _ (readers : Readers) (parts : AllBacks readers) where
 
   -- ---- groups
 
-  pub parentheses-back : Back bare_expr expr_tokens (Atom atom.Parenthesis) Any (expr_in_parentheses readers)
+  pub parentheses-back : RoundTrips erased_expr expr_tokens (Atom atom.Parenthesis) Any (expr_in_parentheses readers)
   unfolding expr_in_parentheses expr_group
   parentheses-back = whole (here-rest (λ span. inside-rest {Inner = Any} delimiter.Parenthesis (λ (place : Unit {0}). span)
-      (inner-rest bare_expr expr_tokens (readers.expr any_level) (parts.expr any_level) (λ rest tail f. expr-some any_level tail f.begins) (λ rest. expr-end any_level rest) (λ rest tail span. expr_before-comma any_level rest tail span)
+      (inner-rest erased_expr expr_tokens (readers.expr any_level) (parts.expr any_level) (λ rest tail f. expr-some any_level tail f.begins) (λ rest. expr-end any_level rest) (λ rest tail span. expr_before-comma any_level rest tail span)
       delimiter.Parenthesis tuple (λ span. refl) tuple-long expr.Tuple expr.Paren (inl tuple-single) print-Tuple print-Paren
       (λ one two span other same. rw (bare_expr-Tuple, bare_expr-Tuple, same) refl) (λ one two span other same. rw (bare_expr-Paren, bare_expr-Paren, same) refl) span)
       (λ rest inner tail span' seen f. group-atom delimiter.Parenthesis inner tail span')))
 
-  pub invisible-back : Back bare_expr expr_tokens (Atom atom.Invisible) Any (invisible readers)
+  pub invisible-back : RoundTrips erased_expr expr_tokens (Atom atom.Invisible) Any (invisible readers)
   unfolding invisible
   invisible-back = whole (here-rest (λ span. inside-rest {Inner = Any} delimiter.None (λ (place : Unit {0}). span)
       (then-rest {Second = AtEnd} (λ place. parts.expr any_level) (λ found. pure-rest tt (expr.Group found span) (λ q. expr.Group q.1 q.0.1) (rw (print-Group, append-nil) refl) (λ q ok. rw (bare_expr-Group, bare_expr-Group, ok.1) refl))
@@ -164,14 +164,14 @@ module _ (readers : Readers) (parts : AllBacks readers) where
   elements span first = eat 1 is_comma >>= (λ more. if more then (λ elems. make.expr_array elems span) <$> items_after (readers.expr any_level) (first ∷ []) else pure (make.expr_array (first ∷ []) span))
 
   elements-rest : (span : Span) (first : Expr)
-      → Rest {P = Unit {0}} {Q = (Unit {0} × Span) × Expr} (λ q. Unit {0} × (bare_expr q.1 ≡ bare_expr first)) bare_expr expr_tokens (λ place tokens. group delimiter.Bracket (expr_tokens first ++ tokens) span) NoLength AtEnd
+      → Rest {P = Unit {0}} {Q = (Unit {0} × Span) × Expr} (λ q. Unit {0} × (erased_expr q.1 ≡ erased_expr first)) erased_expr expr_tokens (λ place tokens. group delimiter.Bracket (expr_tokens first ++ tokens) span) NoLength AtEnd
       (elements span first) (λ q. elements q.0.1 q.1)
   elements-rest span first = weak-rest (λ rest tail f. f) (λ rest tail f. (no-length tail f.1, f))
-      (others-rest bare_expr expr_tokens (readers.expr any_level) (parts.expr any_level) (λ rest tail f. expr-some any_level tail f.begins) (λ rest. expr-end any_level rest) (λ rest tail span. expr_before-comma any_level rest tail span)
+      (others-rest erased_expr expr_tokens (readers.expr any_level) (parts.expr any_level) (λ rest tail f. expr-some any_level tail f.begins) (λ rest. expr-end any_level rest) (λ rest tail span. expr_before-comma any_level rest tail span)
       delimiter.Bracket (λ elems span. joined (comma span) elems) (λ span. refl) (λ elems span some. refl) make.expr_array (λ it span. make.expr_array (it ∷ []) span) (inr (λ it span. refl)) print-Array (λ it span. rw (print-Array, append-nil) refl)
       (λ one two span other same. rw (bare_expr-Array, bare_expr-Array, same) refl) (λ one two span other same. rw (bare_expr-Array, bare_expr-Array, same) refl) span first)
 
-  bracket_by : (span : Span) (done : Bool) → Rest {P = Unit {0}} {Q = Unit {0} × Span} (λ q. Unit {0}) bare_expr expr_tokens (λ place tokens. group delimiter.Bracket tokens span) (Filled done) AtEnd
+  bracket_by : (span : Span) (done : Bool) → Rest {P = Unit {0}} {Q = Unit {0} × Span} (λ q. Unit {0}) erased_expr expr_tokens (λ place tokens. group delimiter.Bracket tokens span) (Filled done) AtEnd
       (if done then pure (make.expr_array [] span) else readers.expr any_level >>= expr_elements readers span) (λ q. if done then pure (make.expr_array [] q.1) else readers.expr any_level >>= expr_elements readers q.1)
   unfolding expr_elements
   bracket_by span true = pure-rest tt (make.expr_array [] span) (λ q. make.expr_array [] q.1) (print-Array [] span) (λ q ok. rw (bare_expr-Array, bare_expr-Array) refl)
@@ -186,7 +186,7 @@ module _ (readers : Readers) (parts : AllBacks readers) where
       (λ rest tail seen f. (f.0, f.1.0)))
       (λ rest tail f. f) (λ rest tail f. expr-some any_level tail f.begins)
 
-  pub brackets-back : Back bare_expr expr_tokens (Atom atom.Bracket) Any (expr_in_brackets readers)
+  pub brackets-back : RoundTrips erased_expr expr_tokens (Atom atom.Bracket) Any (expr_in_brackets readers)
   unfolding expr_in_brackets expr_bracket
   brackets-back = whole (here-rest (λ span. inside-rest {Inner = Any} delimiter.Bracket (λ (place : Unit {0}). span)
       (test-rest {by = Filled} is_end (bracket_by span) (λ done rest tail seen f. (filled-seen done rest tail f, tt)))

@@ -14,13 +14,13 @@ use Rattle.syn_grammar.specs.Readers.{Readers, any_level, constant_level}
 use Rattle.syn_grammar.specs.Token.{is_semicolon, mark_of}
 use Rattle.print_core.specs.Marks.{Trees, ended, group, mark}
 use Rattle.print_core.specs.Nodes.{expr_tokens}
-use Rattle.law_spans.specs.Bare.{bare_expr}
+use Rattle.law_spans.specs.Erased.{erased_expr}
 use Rattle.law_spans.proofs.Made.{bare_expr-Block}
-use Rattle.law_prefix.specs.Alike.{Relation, Any}
-use Rattle.law_prefix.specs.Front.{at}
+use Rattle.law_prefix.specs.SameLookahead.{Relation, Any}
+use Rattle.law_prefix.specs.ReadsByPrefix.{at}
 use Rattle.law_round_trip.specs.Follow.{AfterExpr, BeginsExpr}
-use Rattle.law_round_trip.specs.Parts.{AllBacks}
-use Rattle.law_round_trip.specs.Printed.{Again, Reads, Back}
+use Rattle.law_round_trip.specs.Parts.{AllRoundTrip}
+use Rattle.law_round_trip.specs.Printed.{Again, Reads, RoundTrips}
 use Rattle.law_round_trip.proofs.Atoms.{Atom, expr_bool-back, literal-back}
 use Rattle.law_round_trip.proofs.AtomStarts.{constants-begin, expr-some, group-atom, is_constant}
 use Rattle.law_round_trip.proofs.Exprs.{print-Block}
@@ -30,7 +30,7 @@ use Rattle.law_round_trip.proofs.Marks.{mark-length, mark_of-mark}
 use Rattle.law_round_trip.proofs.Steps.{Free, Rest, hole, bind-at, whole, shown-rest, refuse-rest, here-rest, test-rest, weak-printed}
 use Rattle.law_round_trip.proofs.Takes.{AtEnd, inside-rest, skipped-over}
 
-module _ (readers : Readers) (parts : AllBacks readers) where
+module _ (readers : Readers) (parts : AllRoundTrip readers) where
   module _ (span : Span) where
     abbrev semicolon : Trees
     semicolon = mark (codes ";") span
@@ -39,11 +39,11 @@ module _ (readers : Readers) (parts : AllBacks readers) where
     record Statements (found : List Expr) (made : Expr) : Type 0 where
       tokens : Trees
       is : expr_tokens made ≡ group delimiter.Brace (ended semicolon (map expr_tokens found) ++ tokens) span
-      again : (turns : ℕ) (start : Span) (others : List Expr) → map bare_expr others ≡ map bare_expr found → (last : Span) → length tokens ≤ turns → Again bare_expr (statements_from readers start turns others) (at (tokens ++ []) last) [] made
+      again : (turns : ℕ) (start : Span) (others : List Expr) → map erased_expr others ≡ map erased_expr found → (last : Span) → length tokens ≤ turns → Again erased_expr (statements_from readers start turns others) (at (tokens ++ []) last) [] made
 
     -- a statement that was read
     abbrev Statement : Input → Input → Expr → Type 0
-    Statement input after it = Reads bare_expr (BeginsExpr any_level input.rest) (AfterExpr any_level after.rest) (readers.expr any_level) (expr_tokens it) it
+    Statement input after it = Reads erased_expr (BeginsExpr any_level input.rest) (AfterExpr any_level after.rest) (readers.expr any_level) (expr_tokens it) it
 
     some-statement : (input after : Input) (it : Expr) → Statement input after it → (tail : Trees) → AfterExpr any_level after.rest tail → is_end (expr_tokens it ++ tail) ≡ false
     some-statement input after it one tail f = expr-some any_level (expr_tokens it ++ tail) (one.first tail f).begins
@@ -52,7 +52,7 @@ module _ (readers : Readers) (parts : AllBacks readers) where
     unfolding statements_from
     statements-all found = record { tokens = []; is = print-Block found None span; again = go }
       where
-        go : (turns : ℕ) (start : Span) (others : List Expr) → map bare_expr others ≡ map bare_expr found → (last : Span) → 0 ≤ turns → Again bare_expr (statements_from readers start turns others) (at [] last) [] (expr.Block found None span)
+        go : (turns : ℕ) (start : Span) (others : List Expr) → map erased_expr others ≡ map erased_expr found → (last : Span) → 0 ≤ turns → Again erased_expr (statements_from readers start turns others) (at [] last) [] (expr.Block found None span)
         go zero start others same last fits = record { value = expr.Block others None start; new = last; is = refl; same = rw (bare_expr-Block, bare_expr-Block, same) refl }
         go (suc turns) start others same last fits = record { value = expr.Block others None start; new = last; is = refl; same = rw (bare_expr-Block, bare_expr-Block, same) refl }
 
@@ -63,8 +63,8 @@ module _ (readers : Readers) (parts : AllBacks readers) where
         some : is_end (expr_tokens it ++ []) ≡ false
         some = some-statement input after it one [] (expr-end any_level after.rest)
 
-        go : (turns : ℕ) (start : Span) (others : List Expr) → map bare_expr others ≡ map bare_expr found → (last : Span) → length (expr_tokens it) ≤ turns
-            → Again bare_expr (statements_from readers start turns others) (at (expr_tokens it ++ []) last) [] (expr.Block found (Some it) span)
+        go : (turns : ℕ) (start : Span) (others : List Expr) → map erased_expr others ≡ map erased_expr found → (last : Span) → length (expr_tokens it) ≤ turns
+            → Again erased_expr (statements_from readers start turns others) (at (expr_tokens it ++ []) last) [] (expr.Block found (Some it) span)
         go zero start others same last fits = absurd (omega (arith, fits, some-length (expr_tokens it) some))
         go (suc turns) start others same last fits =
             let more = one.again [] last (expr-end any_level after.rest) in
@@ -84,13 +84,13 @@ module _ (readers : Readers) (parts : AllBacks readers) where
         some : 1 ≤ length (expr_tokens it)
         some = some-length (expr_tokens it) (some-statement input after it one [] (expr-end any_level after.rest))
 
-        go : (turns : ℕ) (start : Span) (others : List Expr) → map bare_expr others ≡ map bare_expr found → (last : Span) → length (expr_tokens it ++ (semicolon ++ two.tokens)) ≤ turns
-            → Again bare_expr (statements_from readers start turns others) (at ((expr_tokens it ++ (semicolon ++ two.tokens)) ++ []) last) [] made
+        go : (turns : ℕ) (start : Span) (others : List Expr) → map erased_expr others ≡ map erased_expr found → (last : Span) → length (expr_tokens it ++ (semicolon ++ two.tokens)) ≤ turns
+            → Again erased_expr (statements_from readers start turns others) (at ((expr_tokens it ++ (semicolon ++ two.tokens)) ++ []) last) [] made
         go zero start others same last fits = absurd (omega (arith, fits, some, length-append (expr_tokens it) (semicolon ++ two.tokens)))
         go (suc turns) start others same last fits =
             let more = one.again (semicolon ++ (two.tokens ++ [])) last (behind (two.tokens ++ [])) in
             let stands = skipped-over 1 semicolon (two.tokens ++ []) more.new (mark-length (codes ";") span) in
-            let rest = two.again turns start (others ++ more.value ∷ []) (same-push bare_expr others found more.value it same more.same) stands.0 (omega (arith, fits, some, length-append (expr_tokens it) (semicolon ++ two.tokens), length-append semicolon two.tokens)) in
+            let rest = two.again turns start (others ++ more.value ∷ []) (same-push erased_expr others found more.value it same more.same) stands.0 (omega (arith, fits, some, length-append (expr_tokens it) (semicolon ++ two.tokens), length-append semicolon two.tokens)) in
             record {
               value = rest.value;
               new = rest.new;
@@ -122,7 +122,7 @@ module _ (readers : Readers) (parts : AllBacks readers) where
             let split = bind-at (readers.expr any_level input) (λ it. eat 1 is_semicolon >>= (λ more. if more then statements_from readers span turns (found ++ it ∷ []) else pure (expr.Block found (Some it) span))) made after e in
             goes (is_semicolon split.1.rest) split.1 (after_eat 1 (is_semicolon split.1.rest) split.1) split.0 ((parts.expr any_level).of input split.1 split.0 split.2) later split.3
 
-    statements-rest : Rest {P = Unit {0}} {Q = Unit {0} × Span} (λ q. Unit {0}) bare_expr expr_tokens (λ place tokens. group delimiter.Brace tokens span) Any AtEnd (statements readers span) (λ q. statements readers q.1)
+    statements-rest : Rest {P = Unit {0}} {Q = Unit {0} × Span} (λ q. Unit {0}) erased_expr expr_tokens (λ place tokens. group delimiter.Brace tokens span) Any AtEnd (statements readers span) (λ q. statements readers q.1)
     statements-rest = record {
       of = λ input after found e.
           let one = statements-of (length input.rest) [] input after found e in
@@ -137,7 +137,7 @@ module _ (readers : Readers) (parts : AllBacks readers) where
           };
     }
 
-  pub block-back : Back bare_expr expr_tokens (Atom atom.Brace) Any (block readers)
+  pub block-back : RoundTrips erased_expr expr_tokens (Atom atom.Brace) Any (block readers)
   unfolding block
   block-back = whole (here-rest (λ span. inside-rest {Inner = Any} delimiter.Brace (λ (place : Unit {0}). span) (statements-rest span) (λ rest inner tail span' seen f. group-atom delimiter.Brace inner tail span')))
 
@@ -146,12 +146,12 @@ module _ (readers : Readers) (parts : AllBacks readers) where
   abbrev Constant : AtomStart → Relation
   Constant begins rest tail = (atom_start tail ≡ begins) × (is_constant begins ≡ true)
 
-  constant_by-rest : (begins : AtomStart) → Rest {P = Unit {0}} {Q = Unit {0}} Free bare_expr expr_tokens hole (Constant begins) Any (constant_by readers begins) (λ q. constant_by readers begins)
+  constant_by-rest : (begins : AtomStart) → Rest {P = Unit {0}} {Q = Unit {0}} Free erased_expr expr_tokens hole (Constant begins) Any (constant_by readers begins) (λ q. constant_by readers begins)
   constant_by-rest atom.Literal = shown-rest tt (λ it. refl) (weak-printed (λ rest tail f. f) (λ rest tail f. (f, refl)) literal-back)
   constant_by-rest atom.Bool = shown-rest tt (λ it. refl) (weak-printed (λ rest tail f. f) (λ rest tail f. (f, refl)) expr_bool-back)
   constant_by-rest atom.Brace = shown-rest tt (λ it. refl) (weak-printed (λ rest tail f. f) (λ rest tail f. (f, refl)) block-back)
   constant_by-rest _ = refuse-rest
 
-  pub constant-back : Back bare_expr expr_tokens (BeginsExpr constant_level) Any (constant readers)
+  pub constant-back : RoundTrips erased_expr expr_tokens (BeginsExpr constant_level) Any (constant readers)
   unfolding constant
   constant-back = whole (test-rest {by = Constant} atom_start constant_by-rest (λ begins rest tail is f. (f.0, constants-begin begins rest tail f.1 is f.0)))

@@ -11,16 +11,16 @@ use Rattle.syn_grammar.specs.Readers.{Readers}
 use Rattle.syn_grammar.specs.Token.{is_plus, is_question, lifetime_of}
 use Rattle.print_core.specs.Marks.{Trees, mark, plus, word as printed_word}
 use Rattle.print_core.specs.Nodes.{bound_tokens}
-use Rattle.law_spans.specs.Bare.{bare_bound}
+use Rattle.law_spans.specs.Erased.{erased_bound}
 use Rattle.law_spans.proofs.Made.{bare_bound-Trait, bare_trait_bound-make}
-use Rattle.law_prefix.specs.Alike.{Relation}
+use Rattle.law_prefix.specs.SameLookahead.{Relation}
 use Rattle.law_round_trip.specs.Follow.{AfterPath, AfterType, BeginsPath, NotEnded}
-use Rattle.law_round_trip.specs.Printed.{Back}
+use Rattle.law_round_trip.specs.Printed.{RoundTrips}
 use Rattle.law_round_trip.proofs.Arguments.{binder-printed}
 use Rattle.law_round_trip.proofs.Follows.{keep-false, path-seen, path_before-plus, type-end}
 use Rattle.law_round_trip.proofs.Joints.{joined-printed}
 use Rattle.law_round_trip.proofs.Marks.{mark_of-mark, mark-length, lifetime_of-Lifetime, lifetime_of-mark, lifetime_of-word, mark_of-word}
-use Rattle.law_round_trip.specs.Parts.{AllBacks, bounds_tokens}
+use Rattle.law_round_trip.specs.Parts.{AllRoundTrip, bounds_tokens}
 use Rattle.law_round_trip.proofs.Paths.{path-back}
 use Rattle.law_round_trip.proofs.Prints.{print-bound_lifetime, print-trait_bound}
 use Rattle.law_round_trip.proofs.Steps.{Free, Rest, hole, whole, pure-rest, here-rest, then-rest, exact-rest, close-rest, shown-rest, test-rest}
@@ -42,8 +42,8 @@ question-living : (rest tail : Trees) (span : Span) → Living false rest (mark 
 unfolding mark
 question-living rest tail span = (refl, rw (lifetime_of-mark 63 [] span tail) refl)
 
-module _ (readers : Readers) (parts : AllBacks readers) where
-  trait_bound-back : Back bare_bound bound_tokens (Living false) (AfterPath true) (trait_bound readers)
+module _ (readers : Readers) (parts : AllRoundTrip readers) where
+  trait_bound-back : RoundTrips erased_bound bound_tokens (Living false) (AfterPath true) (trait_bound readers)
   unfolding trait_bound
   trait_bound-back = whole (here-rest (λ start. eat-rest {Second = λ b rest tail. BoundSight tail} 1 is_question (λ place. mark (codes "?") place) (mark-length (codes "?")) (λ place tail. rw (mark_of-mark 63 [] place tail) refl) (λ maybe.
       exact-rest {Second = BeginsPath true} (λ place. binder-printed BoundSight place (for-sight place)) (λ lifetimes.
@@ -54,17 +54,17 @@ module _ (readers : Readers) (parts : AllBacks readers) where
       (λ input tail place seen f. question-living input.rest tail place)
       (λ rest tail seen f. (f.1.0, (f.0, rw (f.1.1) refl)))))
 
-  one_by : (b : Bool) → Rest {P = Unit {0}} {Q = Unit {0}} Free bare_bound bound_tokens hole (Living b) (AfterPath true) (if b then bound.Lifetime <$> take_as lifetime_of else trait_bound readers) (λ q. if b then bound.Lifetime <$> take_as lifetime_of else trait_bound readers)
+  one_by : (b : Bool) → Rest {P = Unit {0}} {Q = Unit {0}} Free erased_bound bound_tokens hole (Living b) (AfterPath true) (if b then bound.Lifetime <$> take_as lifetime_of else trait_bound readers) (λ q. if b then bound.Lifetime <$> take_as lifetime_of else trait_bound readers)
   one_by true = take_as-rest {Second = AfterPath true} lifetime_of tree.Lifetime (λ rest tail it is. lifetime_of-Lifetime it tail)
       (λ it. pure-rest tt (bound.Lifetime it) (λ q. bound.Lifetime it) (rw (print-bound_lifetime) refl) (λ q ok. refl)) (λ input tail it is f. (refl, rw (lifetime_of-Lifetime it tail) refl))
   one_by false = shown-rest tt (λ it. refl) trait_bound-back
 
-  pub one_bound-back : Back bare_bound bound_tokens NotEnded (AfterPath true) (one_bound readers)
+  pub one_bound-back : RoundTrips erased_bound bound_tokens NotEnded (AfterPath true) (one_bound readers)
   unfolding one_bound
   one_bound-back = whole (test-rest {by = Living} (λ trees. is_there (lifetime_of trees)) one_by (λ b rest tail seen f. (f.1, f.0)))
 
-  pub bounds-back : (many : Bool) (span : Span) → Back (map bare_bound) (bounds_tokens span) NotEnded (AfterType many) (bounds readers many)
+  pub bounds-back : (allow_plus : Bool) (span : Span) → RoundTrips (map erased_bound) (bounds_tokens span) NotEnded (AfterType allow_plus) (bounds readers allow_plus)
   unfolding bounds joined_bounds
-  bounds-back true span = joined-printed bare_bound bound_tokens 1 is_plus (plus span) (mark-length (codes "+") span) (λ tail. rw (mark_of-mark 43 [] span tail) refl) (one_bound readers) (one_bound readers) (AfterType true)
+  bounds-back true span = joined-printed erased_bound bound_tokens 1 is_plus (plus span) (mark-length (codes "+") span) (λ tail. rw (mark_of-mark 43 [] span tail) refl) (one_bound readers) (one_bound readers) (AfterType true)
       one_bound-back (λ rest tail f. f) (λ rest. (type-end false rest).0) (λ rest next tail seen f. path_before-plus rest tail span) (λ rest tail seen f. (keep-false is_plus rest tail seen f.1, f.0))
   bounds-back false span = whole {P = Unit {0}} (then-rest {Second = AfterType false} (λ place. one_bound-back) (λ it. pure-rest tt (it ∷ []) (λ q. q.1 ∷ []) refl (λ q ok. rw (ok.1) refl)) (λ rest tail f. f.0) (λ rest tail f. f))

@@ -14,12 +14,12 @@ use Rattle.syn_grammar.specs.Token.{is_joint, mark_of}
 use Rattle.print_core.specs.Exprs.{bin_op_tokens}
 use Rattle.print_core.specs.Marks.{Trees}
 use Rattle.print_core.specs.Nodes.{expr_tokens}
-use Rattle.law_spans.specs.Bare.{bare_expr}
+use Rattle.law_spans.specs.Erased.{erased_expr}
 use Rattle.law_spans.proofs.Made.{bare_expr-Binary}
-use Rattle.law_prefix.specs.Alike.{Relation, Any}
+use Rattle.law_prefix.specs.SameLookahead.{Relation, Any}
 use Rattle.law_round_trip.specs.Follow.{BeginsAtom, BeginsExpr, Looser, operates}
-use Rattle.law_round_trip.specs.Parts.{AllBacks}
-use Rattle.law_round_trip.specs.Printed.{Back}
+use Rattle.law_round_trip.specs.Parts.{AllRoundTrip}
+use Rattle.law_round_trip.specs.Printed.{RoundTrips}
 use Rattle.law_round_trip.proofs.Follows.{keep-false, looser-end}
 use Rattle.law_round_trip.proofs.Infix.{at_level-read, looser-operator, looser-tighter, operator-length, operator-some, operator_of-printed, width_of}
 use Rattle.law_round_trip.proofs.Loops.{Loop, loop-rest}
@@ -62,9 +62,9 @@ no-operator : (below : ℕ) → operates (suc below) [] ≡ false
 unfolding operator_of is_joint mark_of
 no-operator below = refl
 
-module _ (readers : Readers) (parts : AllBacks readers) where
-  right_of-rest : {Q : Type 0} {Ok : Q → Type 0} (start : Span) (start' : Q → Span) (below : ℕ) (left : Expr) (left' : Q → Expr) → ((q : Q) → Ok q → bare_expr (left' q) ≡ bare_expr left) → (it : Infix) → it ≡ infix_of (width_of it.op) it.op → level_of it.op ≡ suc below
-      → Rest {P = Span} {Q = Q} Ok bare_expr expr_tokens (λ place tokens. expr_tokens left ++ tokens) (Operator below (Some it)) (Looser below) (right_of readers start below left it) (λ q. right_of readers (start' q) below (left' q) it)
+module _ (readers : Readers) (parts : AllRoundTrip readers) where
+  right_of-rest : {Q : Type 0} {Ok : Q → Type 0} (start : Span) (start' : Q → Span) (below : ℕ) (left : Expr) (left' : Q → Expr) → ((q : Q) → Ok q → erased_expr (left' q) ≡ erased_expr left) → (it : Infix) → it ≡ infix_of (width_of it.op) it.op → level_of it.op ≡ suc below
+      → Rest {P = Span} {Q = Q} Ok erased_expr expr_tokens (λ place tokens. expr_tokens left ++ tokens) (Operator below (Some it)) (Looser below) (right_of readers start below left it) (λ q. right_of readers (start' q) below (left' q) it)
   unfolding right_of
   right_of-rest start start' below left left' same it is level = skip_by-rest {Second = Any} it.width (λ place. bin_op_tokens it.op place) (λ place. operator-length it.op place ∙ sym (ap (λ (it : Infix). it.width) is))
       (then-rest {Second = Looser below} (λ place. parts.expr below) (λ right. close-rest start (λ q. start' q.0) (expr.Binary left it.op right) (λ q. expr.Binary (left' q.0) it.op q.1)
@@ -85,7 +85,7 @@ module _ (readers : Readers) (parts : AllBacks readers) where
   Turn below rest tail = (is_end tail ≡ false) × (operates (suc below) tail ≡ true) × Looser below rest tail
 
   turn_by-rest : (start : Span) (below : ℕ) (left : Expr) (o : Option Infix) → IsOperator (suc below) o
-      → Rest {P = Span} {Q = Span × Expr} (λ q. bare_expr q.1 ≡ bare_expr left) bare_expr expr_tokens (λ place tokens. expr_tokens left ++ tokens) (Operator below o) (Looser below) (turn_by start below left o) (λ q. turn_by q.0 below q.1 o)
+      → Rest {P = Span} {Q = Span × Expr} (λ q. erased_expr q.1 ≡ erased_expr left) erased_expr expr_tokens (λ place tokens. expr_tokens left ++ tokens) (Operator below o) (Looser below) (turn_by start below left o) (λ q. turn_by q.0 below q.1 o)
   turn_by-rest start below left (Some it) valid = right_of-rest start (λ q. q.0) below left (λ q. q.1) (λ q ok. ok) it (valid it refl).0 (valid it refl).1
   turn_by-rest start below left None valid = refuse-rest
 
@@ -94,7 +94,7 @@ module _ (readers : Readers) (parts : AllBacks readers) where
   turned below None rest tail is f = absurd f
 
   turn-rest : (below : ℕ) (start : Span) (left : Expr)
-      → Rest {P = Span} {Q = Span × Expr} (λ q. bare_expr q.1 ≡ bare_expr left) bare_expr expr_tokens (λ place tokens. expr_tokens left ++ tokens) (Turn below) (Looser below) (turn below start left) (λ q. turn below q.0 q.1)
+      → Rest {P = Span} {Q = Span × Expr} (λ q. erased_expr q.1 ≡ erased_expr left) erased_expr expr_tokens (λ place tokens. expr_tokens left ++ tokens) (Turn below) (Looser below) (turn below start left) (λ q. turn below q.0 q.1)
   turn-rest below start left = sure_test-rest {Valid = IsOperator (suc below)} {by = Operator below} (operator_at (suc below)) (λ trees it e. at_level-read (suc below) trees it e) (turn_by-rest start below left) (turned below)
 
   chain-loop : (below : ℕ) → Loop (operates (suc below)) (turn below) (λ start turns left. chain_from readers start below turns left)
@@ -117,10 +117,10 @@ module _ (readers : Readers) (parts : AllBacks readers) where
 
   module _ {Q : Type 0} (Ok : Q → Type 0) (start : Span) (start' : Q → Span) (below : ℕ) (left : Expr) where
     abbrev ChainRest : Parser Expr → (Q × Expr → Parser Expr) → Type 0
-    ChainRest p p' = Rest {P = Unit {0}} {Q = Q × Expr} (λ q. Ok q.0 × (bare_expr q.1 ≡ bare_expr left)) bare_expr expr_tokens (λ place tokens. expr_tokens left ++ tokens) (Looser below) (Looser (suc below)) p p'
+    ChainRest p p' = Rest {P = Unit {0}} {Q = Q × Expr} (λ q. Ok q.0 × (erased_expr q.1 ≡ erased_expr left)) erased_expr expr_tokens (λ place tokens. expr_tokens left ++ tokens) (Looser below) (Looser (suc below)) p p'
 
     chain_all-rest : ChainRest (chain_all readers start below left) (λ q. chain_all readers (start' q.0) below q.1)
-    chain_all-rest = loop-rest bare_expr expr_tokens (operates (suc below)) (turn below) (λ start turns left. chain_from readers start below turns left) (Turn below) (Looser below) (Looser (suc below))
+    chain_all-rest = loop-rest erased_expr expr_tokens (operates (suc below)) (turn below) (λ start turns left. chain_from readers start below turns left) (Turn below) (Looser below) (Looser (suc below))
         (chain-loop below) (turn-rest below) (no-operator below) (λ rest. looser-end below rest) (λ rest tail seen f. f) (stays below) Ok start start' left
 
     -- the operator of a comparison, or what goes on with none
@@ -129,7 +129,7 @@ module _ (readers : Readers) (parts : AllBacks readers) where
     Compared None = Looser (suc below)
 
     compared_by-rest : (o : Option Infix) → IsOperator (suc below) o
-        → Rest {P = Unit {0}} {Q = Q × Expr} (λ q. Ok q.0 × (bare_expr q.1 ≡ bare_expr left)) bare_expr expr_tokens (λ place tokens. expr_tokens left ++ tokens) (Compared o) (Looser (suc below))
+        → Rest {P = Unit {0}} {Q = Q × Expr} (λ q. Ok q.0 × (erased_expr q.1 ≡ erased_expr left)) erased_expr expr_tokens (λ place tokens. expr_tokens left ++ tokens) (Compared o) (Looser (suc below))
         (chain_by readers pure start below left o) (λ q. chain_by readers pure (start' q.0) below q.1 o)
     compared_by-rest (Some it) valid = weak-rest (λ rest tail f. looser-tighter (suc below) below (omega arith) rest tail f) (λ rest tail f. f)
         (returned-rest (placed-rest (right_of-rest start (λ q. start' q.0) below left (λ q. q.1) (λ q ok. ok.1) it (valid it refl).0 (valid it refl).1)))
@@ -149,13 +149,13 @@ module _ (readers : Readers) (parts : AllBacks readers) where
 
   -- ---- all levels of operators
 
-  module _ (postfixed-back : (begins : AtomStart) → Back bare_expr expr_tokens (BeginsAtom begins) (Looser operand_level) (postfixed readers begins)) where
+  module _ (postfixed-back : (begins : AtomStart) → RoundTrips erased_expr expr_tokens (BeginsAtom begins) (Looser operand_level) (postfixed readers begins)) where
     binary_from-rest : (level : ℕ) (start : Span)
-        → Rest {P = Unit {0}} {Q = Unit {0} × Span} (λ q. Unit {0}) bare_expr expr_tokens hole (BeginsExpr operand_level) (Looser level) (binary_from readers start level) (λ q. binary_from readers q.1 level)
+        → Rest {P = Unit {0}} {Q = Unit {0} × Span} (λ q. Unit {0}) erased_expr expr_tokens hole (BeginsExpr operand_level) (Looser level) (binary_from readers start level) (λ q. binary_from readers q.1 level)
     unfolding binary_from
     binary_from-rest zero start = part (operand-back readers parts postfixed-back)
     binary_from-rest (suc below) start = part-rest {Second = Looser below} (λ place. binary_from-rest below start) (λ left. chain-rest (λ q. Unit {0}) start (λ q. q.1) below left) (λ rest tail f. f) (λ rest tail f. f)
 
-    pub binary-back : (level : ℕ) → Back bare_expr expr_tokens (BeginsExpr operand_level) (Looser level) (binary readers level)
+    pub binary-back : (level : ℕ) → RoundTrips erased_expr expr_tokens (BeginsExpr operand_level) (Looser level) (binary readers level)
     unfolding binary
     binary-back level = whole (here-rest (binary_from-rest level))

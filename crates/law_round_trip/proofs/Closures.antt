@@ -18,15 +18,15 @@ use Rattle.syn_grammar.specs.Token.{Layer, ident_of, is_arrow, is_group, is_join
 use Rattle.syn_grammar.specs.Words.{next_word}
 use Rattle.print_core.specs.Marks.{Trees}
 use Rattle.print_core.specs.Nodes.{expr_tokens}
-use Rattle.law_spans.specs.Bare.{bare_expr}
+use Rattle.law_spans.specs.Erased.{erased_expr}
 use Rattle.law_spans.proofs.Made.{bare_expr-Closure}
-use Rattle.law_prefix.specs.Closures.{AlikeBodies}
-use Rattle.law_prefix.specs.Front.{at}
+use Rattle.law_prefix.specs.Closures.{SameLookaheadOfBodies}
+use Rattle.law_prefix.specs.ReadsByPrefix.{at}
 use Rattle.law_prefix.proofs.Kept.{ClosureRead, closure-read}
 use Rattle.law_prefix.proofs.Paths.{AllFronts}
 use Rattle.law_round_trip.specs.Follow.{BeginsClosure, Looser, operates}
-use Rattle.law_round_trip.specs.Parts.{AllBacks}
-use Rattle.law_round_trip.specs.Printed.{Reads, Back}
+use Rattle.law_round_trip.specs.Parts.{AllRoundTrip}
+use Rattle.law_round_trip.specs.Printed.{Reads, RoundTrips}
 use Rattle.law_round_trip.proofs.Exprs.{print-Closure}
 use Rattle.law_round_trip.proofs.Infix.{operator_of-read}
 
@@ -74,14 +74,14 @@ closure-mark tree trees h = by (out-TokenTree tree) refl
     by (TokenTree-F.Group it) is = rw is refl
     by (TokenTree-F.Punct it) is = let bar : (it.ch == 124) ≡ true = rw is at h in rw (is, eqb-true it.ch 124 bar) (and-false it.joint)
 
-closure-begin : (kept rest tail : Trees) → 0 < length kept → begins_closure (kept ++ rest) ≡ true → (begins_closure (kept ++ tail) ≡ true) × AlikeBodies (kept ++ rest) (kept ++ tail)
+closure-begin : (kept rest tail : Trees) → 0 < length kept → begins_closure (kept ++ rest) ≡ true → (begins_closure (kept ++ tail) ≡ true) × SameLookaheadOfBodies (kept ++ rest) (kept ++ tail)
 unfolding begins_closure is_group mark_of next_word ident_of
 closure-begin [] rest tail some h = absurd (omega (arith, some))
 closure-begin (tree ∷ kept) rest tail some h = (h, record { bar = refl; arrow = closure-mark tree (kept ++ rest) h ∙ sym (closure-mark tree (kept ++ tail) h); block = refl })
 
-module _ (readers : Readers) (parts : AllBacks readers) (fronts : AllFronts readers) where
+module _ (readers : Readers) (parts : AllRoundTrip readers) (fronts : AllFronts readers) where
   closure-reads : (input after : Input) (found : Expr) (one : ClosureRead readers input after found)
-      → Reads bare_expr (BeginsClosure input.rest) (Looser any_level after.rest) (closure readers) (one.kept ++ expr_tokens one.body) (make.expr_closure one.kept one.body (joined one.start after.last))
+      → Reads erased_expr (BeginsClosure input.rest) (Looser any_level after.rest) (closure readers) (one.kept ++ expr_tokens one.body) (make.expr_closure one.kept one.body (joined one.start after.last))
   closure-reads input after found one =
       let body = (parts.expr one.level).of one.between after one.body one.body_is in
       record {
@@ -97,10 +97,10 @@ module _ (readers : Readers) (parts : AllBacks readers) (fronts : AllFronts read
         first = λ tail f seen. rw (append_assoc one.kept (expr_tokens one.body) tail, one.is) (closure-begin one.kept one.between.rest (expr_tokens one.body ++ tail) one.some (rw one.is at seen));
       }
 
-  pub closure-back : Back bare_expr expr_tokens BeginsClosure (Looser any_level) (closure readers)
+  pub closure-back : RoundTrips erased_expr expr_tokens BeginsClosure (Looser any_level) (closure readers)
   closure-back = record {
     of = λ input after found e.
         let one = closure-read readers fronts input after found e in
-        rw (one.found_is) (subst (λ tokens. Reads bare_expr (BeginsClosure input.rest) (Looser any_level after.rest) (closure readers) tokens (make.expr_closure one.kept one.body (joined one.start after.last))) (sym (print-Closure one.kept one.body (joined one.start after.last)))
+        rw (one.found_is) (subst (λ tokens. Reads erased_expr (BeginsClosure input.rest) (Looser any_level after.rest) (closure readers) tokens (make.expr_closure one.kept one.body (joined one.start after.last))) (sym (print-Closure one.kept one.body (joined one.start after.last)))
         (closure-reads input after found one));
   }

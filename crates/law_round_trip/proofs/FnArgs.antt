@@ -10,12 +10,12 @@ use Rattle.syn_grammar.specs.Readers.{Readers}
 use Rattle.syn_grammar.specs.Token.{is_colon}
 use Rattle.print_core.specs.Items.{fn_arg_tokens}
 use Rattle.print_core.specs.Marks.{Trees, mark}
-use Rattle.law_spans.specs.Bare.{bare_fn_arg}
-use Rattle.law_prefix.specs.Alike.{Relation, Any}
-use Rattle.law_prefix.specs.Front.{Front}
+use Rattle.law_spans.specs.Erased.{erased_fn_arg}
+use Rattle.law_prefix.specs.SameLookahead.{Relation, Any}
+use Rattle.law_prefix.specs.ReadsByPrefix.{ReadsByPrefix}
 use Rattle.law_round_trip.specs.Follow.{AfterType, NotEnded}
-use Rattle.law_round_trip.specs.Parts.{AllBacks}
-use Rattle.law_round_trip.specs.Printed.{Back}
+use Rattle.law_round_trip.specs.Parts.{AllRoundTrip}
+use Rattle.law_round_trip.specs.Printed.{RoundTrips}
 use Rattle.law_round_trip.proofs.Streams.{contents-stream}
 use Rattle.law_round_trip.proofs.Functions.{colon-mark}
 use Rattle.law_round_trip.proofs.Marks.{mark-length}
@@ -33,7 +33,7 @@ some-left (tree ∷ read) more some = refl
 
 -- a front that is kept as its tokens, and what comes after it
 module _ {A B D P Q : Type 0} {Ok : Q → Type 0} {bare : B → D} {print : B → Trees} {wrap : P → Trees → Trees} {Second F : Relation} {front : Parser A} {f : Span → Trees → Parser B} {g : Q × Span → Trees → Parser B} where
-  pub kept-rest : Front Any front → ((start : Span) (kept : Trees) → Rest {Q = Q × Span} (λ q. Ok q.0) bare print (λ place tokens. wrap place (kept ++ tokens)) Second F (f start kept) (λ q. g q kept))
+  pub kept-rest : ReadsByPrefix Any front → ((start : Span) (kept : Trees) → Rest {Q = Q × Span} (λ q. Ok q.0) bare print (λ place tokens. wrap place (kept ++ tokens)) Second F (f start kept) (λ q. g q kept))
       → Rest Ok bare print wrap NotEnded F (state >>= (λ before. here >>= (λ start. front >>= (λ found. read_since before.rest >>= f start)))) (λ q. state >>= (λ before. here >>= (λ start. front >>= (λ found. read_since before.rest >>= g (q, start)))))
   kept-rest again h = record {
     of = λ input after found e.
@@ -53,8 +53,8 @@ module _ {A B D P Q : Type 0} {Ok : Q → Type 0} {bare : B → D} {print : B �
         };
   }
 
-module _ (readers : Readers) (parts : AllBacks readers) where
-  pub fn_arg-back : Back bare_fn_arg fn_arg_tokens NotEnded (AfterType true) (fn_arg readers)
+module _ (readers : Readers) (parts : AllRoundTrip readers) where
+  pub fn_arg-back : RoundTrips erased_fn_arg fn_arg_tokens NotEnded (AfterType true) (fn_arg readers)
   unfolding fn_arg
   fn_arg-back = whole {P = Span} (kept-rest {Second = Any} (pattern-front max_pattern) (λ start kept.
       expect-rest {Second = Any} 1 is_colon (λ place. mark (codes ":") place) (mark-length (codes ":")) (λ place tail. colon-mark tail place)

@@ -15,10 +15,11 @@ use Rattle.syn_grammar.specs.declared.word.Word.{Word}
 use Rattle.syn_grammar.specs.declared.word.Word.TheVariants as word
 use Rattle.syn_grammar.specs.Input.{is_end}
 use Rattle.syn_grammar.specs.Look.{arguments_start, atom_start, begins_operand, operand_start, operator_of, postfix_start, begins_constant, is_bool, type_start, type_word}
-use Rattle.syn_grammar.specs.Token.{Layer, same_delimiter, mark_of, is_joint, is_group, is_pair, is_mark, is_colons, is_turbofish, is_arrow, is_colon, is_equals, is_less, is_plus, ident_of, lifetime_of, literal_of}
-use Rattle.syn_grammar.specs.Words.{begins_segment, next_word, word_of, sees, is_word}
+use Rattle.syn_grammar.specs.Token.{Layer, mark_of, is_joint, is_group, is_pair, is_mark, is_colons, is_turbofish, is_arrow, is_colon, is_equals, is_less, is_plus, ident_of, lifetime_of, literal_of}
+use Rattle.tok_types.specs.Delimiter.{same_delimiter}
+use Rattle.syn_grammar.specs.Words.{begins_segment, next_word, word_of, peek, is_word}
 use Rattle.print_core.specs.Marks.{Trees, mark, word as printed_word}
-use Rattle.law_prefix.specs.Alike.{Relation}
+use Rattle.law_prefix.specs.SameLookahead.{Relation}
 use Rattle.law_round_trip.specs.Follow.{is_path, Keep, Looser, KeepsName, name_before, Quiet, AfterPath, AfterType, is_type}
 use Rattle.law_round_trip.proofs.Marks.{mark_of-mark, is_joint-mark, is_group-mark, out-Ident}
 
@@ -48,7 +49,7 @@ module _ (ch : ℕ) (less : (ch == 60) ≡ false) (equals : (ch == 61) ≡ false
     colon = never is_colon rest _ (rw (mark_of-mark ch [] span tail, colon) refl);
   }
 
-  pub type_before-mark : (many : Bool) → AfterType many rest (mark (ch ∷ []) span ++ tail)
+  pub type_before-mark : (allow_plus : Bool) → AfterType allow_plus rest (mark (ch ∷ []) span ++ tail)
   type_before-mark true = ((never is_colons rest _ (pair-none 58 58), quiet-mark), never is_plus rest _ (rw (mark_of-mark ch [] span tail) plus))
   type_before-mark false = ((never is_colons rest _ (pair-none 58 58), quiet-mark), tt)
 
@@ -57,7 +58,7 @@ pub quiet-end : (rest : Trees) → Quiet rest []
 unfolding mark_of is_group is_pair is_joint
 quiet-end rest = record { less = λ h. absurd cc; inputs = λ h. absurd cc; arrow = λ h. absurd cc; equals = λ h. absurd cc; colon = λ h. absurd cc }
 
-pub type-end : (many : Bool) (rest : Trees) → AfterType many rest []
+pub type-end : (allow_plus : Bool) (rest : Trees) → AfterType allow_plus rest []
 unfolding mark_of is_pair is_joint
 type-end true rest = ((λ h. absurd cc, quiet-end rest), λ h. absurd cc)
 type-end false rest = ((λ h. absurd cc, quiet-end rest), tt)
@@ -74,14 +75,14 @@ module _ (it : Ident) (rest tail : Trees) where
     colon = never is_colon rest (tree.Ident it ∷ tail) (rw (out-Ident it) refl);
   }
 
-  type_before-ident : (many : Bool) → AfterType many rest (tree.Ident it ∷ tail)
+  type_before-ident : (allow_plus : Bool) → AfterType allow_plus rest (tree.Ident it ∷ tail)
   unfolding mark_of is_pair is_joint
   type_before-ident true = ((never is_colons rest (tree.Ident it ∷ tail) (rw (out-Ident it) refl), word-quiet), never is_plus rest (tree.Ident it ∷ tail) (rw (out-Ident it) refl))
   type_before-ident false = ((never is_colons rest (tree.Ident it ∷ tail) (rw (out-Ident it) refl), word-quiet), tt)
 
-pub type_before-word : (text : List ℕ) (span : Span) (many : Bool) (rest tail : Trees) → AfterType many rest (printed_word text span ++ tail)
+pub type_before-word : (text : List ℕ) (span : Span) (allow_plus : Bool) (rest tail : Trees) → AfterType allow_plus rest (printed_word text span ++ tail)
 unfolding printed_word
-type_before-word text span many rest tail = type_before-ident (record { text = text; raw = false; span = span }) rest tail many
+type_before-word text span allow_plus rest tail = type_before-ident (record { text = text; raw = false; span = span }) rest tail allow_plus
 
 -- ---- what begins a type
 
@@ -90,7 +91,7 @@ pub record TypeSeen (trees : Trees) : Type 0 where
   pub greater : is_mark 62 trees ≡ false
   pub lifetime : lifetime_of trees ≡ None
   pub constant : begins_constant trees ≡ false
-  pub mutable : sees word.Mut trees ≡ false
+  pub mutable : peek word.Mut trees ≡ false
 
 word-seen : (it : Word) → is_type (type_word it) ≡ true → (is_bool it ≡ false) × (is_word word.Mut it ≡ false)
 word-seen word.Name h = (refl, refl)
@@ -161,8 +162,8 @@ unfolding mark_of
 no-semicolon = refl
 
 -- a type with one bound asks less of what follows
-pub one_bound : (many : Bool) (rest tail : Trees) → AfterType many rest tail → AfterType false rest tail
-one_bound many rest tail f = (f.0, tt)
+pub one_bound : (allow_plus : Bool) (rest tail : Trees) → AfterType allow_plus rest tail → AfterType false rest tail
+one_bound allow_plus rest tail f = (f.0, tt)
 
 -- no lifetime comes
 abbrev pub Unliving : Relation
@@ -245,7 +246,7 @@ pub record PathSeen (trees : Trees) : Type 0 where
   pub some : is_end trees ≡ false
   pub question : is_mark 63 trees ≡ false
   pub lifetime : lifetime_of trees ≡ None
-  pub bound : sees word.For trees ≡ false
+  pub bound : peek word.For trees ≡ false
   pub start : type_start trees ≡ ty.Path
 
 segment-bound : (it : Word) → begins_segment it ≡ true → (is_word word.For it ≡ false) × (type_word it ≡ ty.Path)

@@ -15,19 +15,19 @@ use Rattle.syn_grammar.specs.Make as make
 use Rattle.syn_grammar.specs.Readers.{Readers}
 use Rattle.syn_grammar.specs.Token.{after_one, ident_of, is_colon, is_equals, is_group, is_joint, is_pair, mark_of}
 use Rattle.syn_grammar.specs.Types.{arg_name_by, name_before_colon, named_arg, type_fn_ptr}
-use Rattle.syn_grammar.specs.Words.{is_name, name_at, name_of, named_words, next_word, other_keywords, sees, word_at, word_of}
+use Rattle.syn_grammar.specs.Words.{is_name, name_at, name_of, named_words, next_word, other_keywords, peek, word_at, word_of}
 use Rattle.print_core.specs.Kinds.{named_arg_tokens}
 use Rattle.print_core.specs.Marks.{Trees, mark, word as printed_word}
 use Rattle.print_core.specs.Nodes.{type_tokens}
-use Rattle.law_spans.specs.Bare.{bare_named_arg, bare_type}
+use Rattle.law_spans.specs.Erased.{erased_named_arg, erased_type}
 use Rattle.law_spans.proofs.Made.{bare_type-FnPtr}
-use Rattle.law_prefix.specs.Alike.{Relation, Any}
+use Rattle.law_prefix.specs.SameLookahead.{Relation, Any}
 use Rattle.law_round_trip.specs.Follow.{AfterType, BeginsType, KeepsName, NotEnded, name_before}
-use Rattle.law_round_trip.specs.Printed.{Back}
+use Rattle.law_round_trip.specs.Printed.{RoundTrips}
 use Rattle.law_round_trip.proofs.Arguments.{NoForBut, binder-printed, group-printed, return_type-back}
 use Rattle.law_round_trip.proofs.Follows.{keep-false, never, one_bound, type-end, type_before-mark, type-seen}
 use Rattle.law_round_trip.proofs.Marks.{mark_of-mark, is_joint-mark, mark-length, word-length, name_of-Ident, out-Ident}
-use Rattle.law_round_trip.specs.Parts.{AllBacks}
+use Rattle.law_round_trip.specs.Parts.{AllRoundTrip}
 use Rattle.law_round_trip.proofs.Prints.{print-fn_ptr}
 use Rattle.law_round_trip.proofs.Steps.{Rest, whole, here-rest, test-rest, then-rest, exact-rest, close-rest}
 use Rattle.law_round_trip.proofs.Takes.{expect-rest, skip_by-rest}
@@ -67,7 +67,7 @@ unfolding name_before_colon name_of next_word
 unnamed-type rest tail is f =
     name-none (word_at (ident_of tail)) (ident_of tail) (is_colon (after_one tail)) (keep-false (name_before is_colon) rest tail (none-name (ident_of rest) (is_colon (after_one rest)) is) f.1.1)
 
-module _ (readers : Readers) (parts : AllBacks readers) where
+module _ (readers : Readers) (parts : AllRoundTrip readers) where
   abbrev named_rest : Span → Option Ident → Parser (NamedArg Ty)
   named_rest start name = readers.ty true >>= (λ ty. upto start >>= (λ span. pure (make.named_arg name ty span)))
 
@@ -76,7 +76,7 @@ module _ (readers : Readers) (parts : AllBacks readers) where
   ArgBegin None = BeginsType
   ArgBegin (Some name) = λ rest tail. (is_end tail ≡ false) × (name_before_colon rest ≡ Some name → name_before_colon tail ≡ Some name)
 
-  named_by : (start : Span) (name : Option Ident) → Rest {P = Span} {Q = Unit {0} × Span} (λ q. Unit {0}) bare_named_arg named_arg_tokens (λ place tokens. tokens) (ArgBegin name) (AfterType true)
+  named_by : (start : Span) (name : Option Ident) → Rest {P = Span} {Q = Unit {0} × Span} (λ q. Unit {0}) erased_named_arg named_arg_tokens (λ place tokens. tokens) (ArgBegin name) (AfterType true)
       (arg_name_by name >>= named_rest start) (λ q. arg_name_by name >>= named_rest q.1)
   named_by start None = then-rest {Second = AfterType true} (λ place. parts.ty true) (λ it. close-rest start (λ q. q.0.1) (make.named_arg None it) (λ q. make.named_arg None q.1)
       (λ span. sym (append-nil (type_tokens it))) (λ span other q ok. rw (ok.1) refl)) (λ rest tail f. f) (λ rest tail f. f)
@@ -92,7 +92,7 @@ module _ (readers : Readers) (parts : AllBacks readers) where
   seen_by None rest tail is f = (unnamed-type rest tail is f, (type-seen tail f.0).some)
   seen_by (Some name) rest tail is f = (f.1 is, f.0)
 
-  named_arg-back : Back bare_named_arg named_arg_tokens NotEnded (AfterType true) (named_arg readers)
+  named_arg-back : RoundTrips erased_named_arg named_arg_tokens NotEnded (AfterType true) (named_arg readers)
   unfolding named_arg
   named_arg-back = whole (here-rest (λ start. test-rest {by = ArgBegin} name_before_colon (named_by start) seen_by))
 
@@ -117,15 +117,15 @@ module _ (readers : Readers) (parts : AllBacks readers) where
   unfolding printed_word next_word ident_of word_of named_words other_keywords
   sees-fn span tail = rw (out-Ident (record { text = codes "fn"; raw = false; span = span })) refl
 
-  pub type_fn_ptr-back : (many : Bool) → Back bare_type type_tokens (λ rest tail. (type_start tail ≡ begin.FnPtr) × KeepsName true rest tail) (AfterType many) (type_fn_ptr readers)
+  pub type_fn_ptr-back : (allow_plus : Bool) → RoundTrips erased_type type_tokens (λ rest tail. (type_start tail ≡ begin.FnPtr) × KeepsName true rest tail) (AfterType allow_plus) (type_fn_ptr readers)
   unfolding type_fn_ptr
-  type_fn_ptr-back many = whole (here-rest (λ start.
+  type_fn_ptr-back allow_plus = whole (here-rest (λ start.
       exact-rest {Second = NoForBut FnSight} (λ place. binder-printed FnSight place (for-sight place)) (λ lifetimes.
-      expect-rest {Second = Any} 1 (sees word.Fn) (λ place. printed_word (codes "fn") place) (word-length (codes "fn")) (λ place tail. rw (sees-fn place tail) refl)
+      expect-rest {Second = Any} 1 (peek word.Fn) (λ place. printed_word (codes "fn") place) (word-length (codes "fn")) (λ place tail. rw (sees-fn place tail) refl)
       (then-rest {Start = Any} {Middle = Any} {Second = Any} (λ place. group-printed delimiter.Parenthesis named_arg-back (λ rest tail f. f) (type-end true) (λ rest tail span. type_before-mark 44 refl refl refl refl span rest tail true) place (λ rest inner tail own. tt)) (λ inputs.
-      then-rest {Second = AfterType many} (λ place. return_type-back readers parts place) (λ output. close-rest start (λ q. q.0.0.1) (make.type_fn_ptr lifetimes inputs output) (λ q. make.type_fn_ptr lifetimes q.0.1 q.1)
+      then-rest {Second = AfterType allow_plus} (λ place. return_type-back readers parts place) (λ output. close-rest start (λ q. q.0.0.1) (make.type_fn_ptr lifetimes inputs output) (λ q. make.type_fn_ptr lifetimes q.0.1 q.1)
       (λ span. rw (print-fn_ptr, append-nil, append_assoc, append_assoc) refl) (λ span other q ok. rw (bare_type-FnPtr, bare_type-FnPtr, ok.0.1, ok.1) refl))
-      (λ rest tail f. one_bound many rest tail f) (λ rest tail f. tt))
+      (λ rest tail f. one_bound allow_plus rest tail f) (λ rest tail f. tt))
       (λ rest tail f. tt) (λ rest tail f. tt))
       (λ input tail place seen f. (rw (sees-fn place tail) refl, fn-sight place tail)))
       (λ rest tail f. f)

@@ -8,7 +8,7 @@ use Rattle.tok_types.specs.declared.tree.Delimiter.{Delimiter}
 use Rattle.syn_grammar.specs.Input.{Input, Parser, ◌>>=◌, ◌<$>◌, pure, after_eat, at_end, eat, is_end, items_after, items_from}
 use Rattle.syn_grammar.specs.Token.{is_comma, mark_of}
 use Rattle.print_core.specs.Marks.{Trees, comma, group, joined, mark, tuple}
-use Rattle.law_prefix.specs.Alike.{Relation, Any, stops}
+use Rattle.law_prefix.specs.SameLookahead.{Relation, Any, stops}
 use Rattle.law_round_trip.specs.Printed.{Printed}
 use Rattle.law_round_trip.proofs.Lists.{ItemsMore, comma-length, items_from-more}
 use Rattle.law_round_trip.proofs.Marks.{is_comma-comma}

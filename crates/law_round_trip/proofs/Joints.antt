@@ -4,14 +4,14 @@ use Rattle.std.proofs.lemmas.Option.{some_pair_parts}
 use Rattle.tok_types.specs.declared.span.Span.{Span}
 use Rattle.syn_grammar.specs.Input.{Input, Parser, ◌>>=◌, pure, skipped, after_eat, eat, is_end, joined_from, joined_by}
 use Rattle.print_core.specs.Marks.{Trees, joined, ended}
-use Rattle.law_prefix.specs.Alike.{Relation}
-use Rattle.law_prefix.specs.Front.{at}
+use Rattle.law_prefix.specs.SameLookahead.{Relation}
+use Rattle.law_prefix.specs.ReadsByPrefix.{at}
 use Rattle.law_round_trip.specs.Printed.{Again, Reads, Printed}
 use Rattle.law_round_trip.proofs.Lists.{joined-push, ended-push, same-push, some-length}
 use Rattle.law_round_trip.proofs.Steps.{bind-at}
 use Rattle.law_round_trip.proofs.Takes.{skipped-over}
 
-module _ {A C : Type 0} (bare : A → C) (print : A → Trees) (count : ℕ) (holds : Trees → Bool) (separator : Trees) (sizes : length separator ≡ count) (sees : (tail : Trees) → holds (separator ++ tail) ≡ true) (item other : Parser A) {G F : Relation} (End : Relation)
+module _ {A C : Type 0} (bare : A → C) (print : A → Trees) (count : ℕ) (holds : Trees → Bool) (separator : Trees) (sizes : length separator ≡ count) (peek : (tail : Trees) → holds (separator ++ tail) ≡ true) (item other : Parser A) {G F : Relation} (End : Relation)
     (rule : Printed bare print G F item other) (starts : (rest tail : Trees) → G rest tail → is_end tail ≡ false) (ends : (rest : Trees) → F rest [])
     (between : (rest next tail : Trees) → holds rest ≡ true → G next tail → F rest (separator ++ tail)) (stays : (rest tail : Trees) → holds rest ≡ false → End rest tail → (holds tail ≡ false) × F rest tail) where
   -- more items: their printing goes on behind those that were found, and a loop with enough turns reads it
@@ -58,7 +58,7 @@ module _ {A C : Type 0} (bare : A → C) (print : A → Trees) (count : ℕ) (ho
           record {
             value = rest.value;
             new = rest.new;
-            is = rw (append_assoc (print x) (separator ++ two.tokens) tail, append_assoc separator two.tokens tail, more.is, sees (two.tokens ++ tail), stands.1) rest.is;
+            is = rw (append_assoc (print x) (separator ++ two.tokens) tail, append_assoc separator two.tokens tail, more.is, peek (two.tokens ++ tail), stands.1) rest.is;
             same = rest.same;
           }
 

@@ -8,8 +8,8 @@ use Rattle.tok_types.specs.declared.span.Span.{Span}
 use Rattle.syn_grammar.specs.Input.{Input, Outcome, Parser, and_then, ◌>>=◌, ◌>>◌, pure, skipped, after_eat, eat, expect, is_end, items_from, items_after, until_from, until}
 use Rattle.syn_grammar.specs.Token.{is_comma, is_mark}
 use Rattle.print_core.specs.Marks.{Trees, comma, joined, after, ended, mark}
-use Rattle.law_prefix.specs.Alike.{Relation, Any}
-use Rattle.law_prefix.specs.Front.{at}
+use Rattle.law_prefix.specs.SameLookahead.{Relation, Any}
+use Rattle.law_prefix.specs.ReadsByPrefix.{at}
 use Rattle.law_round_trip.specs.Printed.{Again, Reads, Printed}
 use Rattle.law_round_trip.proofs.Marks.{is_comma-comma, mark_of-mark}
 use Rattle.law_round_trip.proofs.Steps.{bind-at}

@@ -4,8 +4,8 @@ use Rattle.std.proofs.lemmas.Option.{some_pair_parts}
 use Rattle.tok_types.specs.declared.span.Span.{Span}
 use Rattle.syn_grammar.specs.Input.{Input, Outcome, Parser, and_then, by_turns, is_end}
 use Rattle.print_core.specs.Marks.{Trees}
-use Rattle.law_prefix.specs.Alike.{Relation}
-use Rattle.law_prefix.specs.Front.{at}
+use Rattle.law_prefix.specs.SameLookahead.{Relation}
+use Rattle.law_prefix.specs.ReadsByPrefix.{at}
 use Rattle.law_round_trip.specs.Printed.{Again}
 use Rattle.law_round_trip.proofs.Lists.{some-length}
 use Rattle.law_round_trip.proofs.Steps.{Rest, bind-at}

@@ -12,7 +12,8 @@ use Rattle.tok_types.specs.declared.tree.TokenTree.TheOpen.{TokenTree-F}
 use Rattle.tok_types.specs.declared.tree.TokenTree.TheVariants as tree
 use Rattle.syn_grammar.specs.declared.word.Word.{Word}
 use Rattle.syn_grammar.specs.declared.word.Word.TheVariants as word
-use Rattle.syn_grammar.specs.Token.{same_delimiter, mark_of, is_joint, is_group, is_pair, is_colons, is_arrow, is_comma, after_one, ident_of, lifetime_of, literal_of}
+use Rattle.syn_grammar.specs.Token.{mark_of, is_joint, is_group, is_pair, is_colons, is_arrow, is_comma, after_one, ident_of, lifetime_of, literal_of}
+use Rattle.tok_types.specs.Delimiter.{same_delimiter}
 use Rattle.syn_grammar.specs.Words.{begins_segment, segment_at, segment_word, name_at, name_of, next_word, word_of, word_at}
 use Rattle.print_core.specs.Marks.{Trees, group, mark, is_some, word as printed_word, comma, colons}
 

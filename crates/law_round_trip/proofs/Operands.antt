@@ -15,16 +15,16 @@ use Rattle.syn_grammar.specs.Input.{Input, next}
 use Rattle.syn_grammar.specs.Look.{begins_operand, is_operand, operand_start}
 use Rattle.syn_grammar.specs.Readers.{Readers, operand_level}
 use Rattle.syn_grammar.specs.Token.{after_one, is_arrow, is_joint, is_mark, is_pair}
-use Rattle.syn_grammar.specs.Words.{sees}
+use Rattle.syn_grammar.specs.Words.{peek}
 use Rattle.print_core.specs.Exprs.{un_op_tokens}
 use Rattle.print_core.specs.Marks.{Trees, mark, word as printed_word}
 use Rattle.print_core.specs.Nodes.{expr_tokens}
-use Rattle.law_spans.specs.Bare.{bare_expr}
+use Rattle.law_spans.specs.Erased.{erased_expr}
 use Rattle.law_spans.proofs.Made.{bare_expr-Reference, bare_expr-Unary}
-use Rattle.law_prefix.specs.Alike.{Relation, Any}
+use Rattle.law_prefix.specs.SameLookahead.{Relation, Any}
 use Rattle.law_round_trip.specs.Follow.{BeginsAtom, BeginsExpr, Looser}
-use Rattle.law_round_trip.specs.Parts.{AllBacks}
-use Rattle.law_round_trip.specs.Printed.{Back}
+use Rattle.law_round_trip.specs.Parts.{AllRoundTrip}
+use Rattle.law_round_trip.specs.Printed.{RoundTrips}
 use Rattle.law_round_trip.proofs.Marks.{is_joint-mark, mark-length, mark_of-mark, sees-mut, word-length}
 use Rattle.law_round_trip.proofs.Paths.{next-behind}
 use Rattle.law_round_trip.proofs.Prints.{print-expr_reference, print-unary}
@@ -96,8 +96,8 @@ arrowless trees h = by (is_arrow trees) refl
 unarmed : (begins : OperandStart) (rest tail : Trees) → is_operand begins ≡ true → is_minus begins ≡ false → operand_start rest ≡ begins → operand_start tail ≡ begins → (operand_start tail ≡ begins) × BeginsExpr operand_level rest tail
 unarmed begins rest tail is none seen f = started begins rest tail is seen (f, arrowless rest (rw seen none), arrowless tail (rw f none))
 
-module _ (readers : Readers) (parts : AllBacks readers) where
-  unary-back : (it : UnOp) → Back bare_expr expr_tokens (Started (start_of it)) (Looser operand_level) (unary readers it)
+module _ (readers : Readers) (parts : AllRoundTrip readers) where
+  unary-back : (it : UnOp) → RoundTrips erased_expr expr_tokens (Started (start_of it)) (Looser operand_level) (unary readers it)
   unfolding unary
   unary-back it = whole (here-rest (λ start. skip-rest {Second = BeginsExpr operand_level} (λ place. un_op_tokens it place) (un_op-length it)
       (then-rest {Second = Looser operand_level} (λ place. parts.expr operand_level) (λ operand. close-rest start (λ q. q.0.1) (expr.Unary it operand) (λ q. expr.Unary it q.1)
@@ -105,10 +105,10 @@ module _ (readers : Readers) (parts : AllBacks readers) where
       (λ rest tail f other. f) (λ rest tail f. f))
       (λ input tail place f. (un_op-start it place tail, source-arrow input f.source, un_op-arrow it place tail))))
 
-  reference-back : Back bare_expr expr_tokens (λ rest tail. operand_start tail ≡ begin.Reference) (Looser operand_level) (reference readers)
+  reference-back : RoundTrips erased_expr expr_tokens (λ rest tail. operand_start tail ≡ begin.Reference) (Looser operand_level) (reference readers)
   unfolding reference
   reference-back = whole (here-rest (λ start. skip-rest {Second = Any} (λ place. mark (codes "&") place) (mark-length (codes "&"))
-      (eat-rest {Second = λ b. BeginsExpr operand_level} 1 (sees word.Mut) (λ place. printed_word (codes "mut") place) (word-length (codes "mut")) (λ place tail. rw (sees-mut place tail) refl) (λ mutable.
+      (eat-rest {Second = λ b. BeginsExpr operand_level} 1 (peek word.Mut) (λ place. printed_word (codes "mut") place) (word-length (codes "mut")) (λ place tail. rw (sees-mut place tail) refl) (λ mutable.
       then-rest {Second = Looser operand_level} (λ place. parts.expr operand_level) (λ operand. close-rest start (λ q. q.0.1) (expr.Reference mutable operand) (λ q. expr.Reference mutable q.1)
       (λ span. rw (print-expr_reference, append-nil, append_assoc) refl) (λ span other q ok. rw (bare_expr-Reference, bare_expr-Reference, ok.1) refl))
       (λ rest tail f other. f) (λ rest tail f. f))
@@ -141,11 +141,11 @@ module _ (readers : Readers) (parts : AllBacks readers) where
   begun (begin.Atom atom.Invisible) rest tail is f = unarmed (begin.Atom atom.Invisible) rest tail refl refl is f
   begun (begin.Atom atom.Infer) rest tail is f = unarmed (begin.Atom atom.Infer) rest tail refl refl is f
 
-  module _ (postfixed-back : (begins : AtomStart) → Back bare_expr expr_tokens (BeginsAtom begins) (Looser operand_level) (postfixed readers begins)) where
-    atom-rest : (begins : AtomStart) → Rest {P = Unit {0}} {Q = Unit {0}} Free bare_expr expr_tokens hole (BeginsAtom begins) (Looser operand_level) (postfixed readers begins) (λ q. postfixed readers begins)
+  module _ (postfixed-back : (begins : AtomStart) → RoundTrips erased_expr expr_tokens (BeginsAtom begins) (Looser operand_level) (postfixed readers begins)) where
+    atom-rest : (begins : AtomStart) → Rest {P = Unit {0}} {Q = Unit {0}} Free erased_expr expr_tokens hole (BeginsAtom begins) (Looser operand_level) (postfixed readers begins) (λ q. postfixed readers begins)
     atom-rest begins = shown-rest tt (λ it. refl) (postfixed-back begins)
 
-    operand_by-rest : (begins : OperandStart) → Rest {P = Unit {0}} {Q = Unit {0}} Free bare_expr expr_tokens hole (Begun begins) (Looser operand_level) (operand_by readers begins) (λ q. operand_by readers begins)
+    operand_by-rest : (begins : OperandStart) → Rest {P = Unit {0}} {Q = Unit {0}} Free erased_expr expr_tokens hole (Begun begins) (Looser operand_level) (operand_by readers begins) (λ q. operand_by readers begins)
     unfolding postfixed
     operand_by-rest begin.Neg = shown-rest tt (λ it. refl) (unary-back op.Neg)
     operand_by-rest begin.Not = shown-rest tt (λ it. refl) (unary-back op.Not)
@@ -162,6 +162,6 @@ module _ (readers : Readers) (parts : AllBacks readers) where
     operand_by-rest (begin.Atom atom.Invisible) = atom-rest atom.Invisible
     operand_by-rest (begin.Atom atom.Infer) = atom-rest atom.Infer
 
-    pub operand-back : Back bare_expr expr_tokens (BeginsExpr operand_level) (Looser operand_level) (operand readers)
+    pub operand-back : RoundTrips erased_expr expr_tokens (BeginsExpr operand_level) (Looser operand_level) (operand readers)
     unfolding operand
     operand-back = whole (test-rest {by = Begun} operand_start operand_by-rest (λ begins rest tail is f. begun begins rest tail is f))

@@ -24,15 +24,15 @@ use Rattle.print_core.specs.declared.path.PathStyle.TheVariants.{Plain, Turbofis
 use Rattle.print_core.specs.Marks.{Trees, colons, comma, joined, mark}
 use Rattle.print_core.specs.Nodes.{argument_tokens, arguments_tokens, path_tokens, segment_tokens}
 use Rattle.print_core.specs.Paths.{in_style}
-use Rattle.law_spans.specs.Bare.{bare_argument, bare_arguments, bare_path, bare_segment}
+use Rattle.law_spans.specs.Erased.{erased_argument, erased_arguments, erased_path, erased_segment}
 use Rattle.law_spans.proofs.Made.{bare_arguments-AngleBracketed, bare_path-make, bare_segment-make}
 use Rattle.law_round_trip.specs.Follow.{AfterPath, AfterSegment, AfterType, KeepsMarks, BeginsPath, BeginsSegment, Keep, Quiet, name_before}
-use Rattle.law_round_trip.specs.Printed.{Reads, Back}
+use Rattle.law_round_trip.specs.Printed.{Reads, RoundTrips}
 use Rattle.law_round_trip.proofs.Arguments.{generic_arguments-back, parenthesized-back}
 use Rattle.law_round_trip.proofs.Follows.{fish-colons, group-seen, keep-false, never, no-colons, segment-seen, type-end, unnamed}
 use Rattle.law_round_trip.proofs.Joints.{joined-printed}
 use Rattle.law_round_trip.proofs.Marks.{segment-word, segment_word-Ident, mark_of-mark, is_joint-mark, is_group-mark, mark-length, next_word-mark, next_word-Ident, is_colons-colons}
-use Rattle.law_round_trip.specs.Parts.{AllBacks, style_of}
+use Rattle.law_round_trip.specs.Parts.{AllRoundTrip, style_of}
 use Rattle.law_round_trip.proofs.Prints.{print-AngleBracketed, print-None, print-segment, path_parts-make}
 use Rattle.law_round_trip.proofs.Steps.{bind-at, whole, here-rest, then-rest, close-rest}
 use Rattle.law_round_trip.proofs.Takes.{skipped-over, take_as-rest, eat-rest}
@@ -96,14 +96,14 @@ colons-begin : (in_type : Bool) (rest tail : Trees) (span : Span) → BeginsPath
 colons-begin true rest tail span = (rw (is_colons-colons tail span) refl, unnamed rest (colons span ++ tail) (next_word-mark 58 (58 ∷ []) span tail))
 colons-begin false rest tail span = (rw (is_colons-colons tail span) refl, tt)
 
-module _ (readers : Readers) (parts' : AllBacks readers) where
+module _ (readers : Readers) (parts' : AllRoundTrip readers) where
   abbrev ArgumentsRead : Bool → Span → Trees → Trees → PathArguments → Type 0
-  ArgumentsRead in_type span source rest found = Reads bare_arguments (KeepsMarks in_type source) (AfterSegment in_type rest) (arguments readers in_type) (arguments_tokens found (style_of in_type) span) found
+  ArgumentsRead in_type span source rest found = Reads erased_arguments (KeepsMarks in_type source) (AfterSegment in_type rest) (arguments readers in_type) (arguments_tokens found (style_of in_type) span) found
 
   abbrev inner_tokens : Span → List GenericArgument → Trees
   inner_tokens span items = joined (comma span) (map argument_tokens items) ++ mark (codes ">") span
 
-  angle-read : (in_type : Bool) (span : Span) (source rest : Trees) (items : List GenericArgument) → Reads (map bare_argument) (λ tail. Unit {0}) (λ tail. Unit {0}) (angle_list (generic_argument readers)) (inner_tokens span items) items
+  angle-read : (in_type : Bool) (span : Span) (source rest : Trees) (items : List GenericArgument) → Reads (map erased_argument) (λ tail. Unit {0}) (λ tail. Unit {0}) (angle_list (generic_argument readers)) (inner_tokens span items) items
       → ArgumentsRead in_type span source rest (made.AngleBracketed items)
   unfolding arguments skipped
   angle-read true span source rest items one = record {
@@ -170,7 +170,7 @@ module _ (readers : Readers) (parts' : AllBacks readers) where
       subst (λ found. ArgumentsRead in_type span source after.rest found) both.0 (angle-read in_type span source after.rest parts.0 ((generic_arguments-back readers parts' span).of input parts.1 parts.0 parts.2))
 
   inputs-read : (span : Span) (source rest : Trees) (found : PathArguments)
-      → Reads bare_arguments (λ tail. is_group delimiter.Parenthesis tail ≡ true) (AfterType false rest) (parenthesized readers) (arguments_tokens found Plain span) found → ArgumentsRead true span source rest found
+      → Reads erased_arguments (λ tail. is_group delimiter.Parenthesis tail ≡ true) (AfterType false rest) (parenthesized readers) (arguments_tokens found Plain span) found → ArgumentsRead true span source rest found
   unfolding arguments
   inputs-read span source rest found one = record {
     again = λ tail last f.
@@ -187,7 +187,7 @@ module _ (readers : Readers) (parts' : AllBacks readers) where
       by true h = absurd cc
       by false h = absurd cc
 
-  pub arguments-back : (in_type : Bool) (span : Span) → Back bare_arguments (λ it. arguments_tokens it (style_of in_type) span) (KeepsMarks in_type) (AfterSegment in_type) (arguments readers in_type)
+  pub arguments-back : (in_type : Bool) (span : Span) → RoundTrips erased_arguments (λ it. arguments_tokens it (style_of in_type) span) (KeepsMarks in_type) (AfterSegment in_type) (arguments readers in_type)
   unfolding arguments
   arguments-back in_type span = record { of = λ input after found e. by input after found (arguments_start in_type input.rest) refl e }
     where
@@ -205,7 +205,7 @@ module _ (readers : Readers) (parts' : AllBacks readers) where
 
   -- ---- segments
 
-  pub segment-back : (in_type : Bool) → Back bare_segment (λ it. segment_tokens it (style_of in_type)) (BeginsSegment in_type) (AfterSegment in_type) (segment readers in_type)
+  pub segment-back : (in_type : Bool) → RoundTrips erased_segment (λ it. segment_tokens it (style_of in_type)) (BeginsSegment in_type) (AfterSegment in_type) (segment readers in_type)
   unfolding segment
   segment-back in_type = whole (here-rest (λ start. take_as-rest {Second = KeepsMarks in_type} segment_word tree.Ident (λ rest tail it is. segment_word-Ident rest tail it is) (λ name.
       then-rest {Second = AfterSegment in_type} (λ place. arguments-back in_type place) (λ found. close-rest start (λ q. q.0.1) (make.segment name found) (λ q. make.segment name q.1)
@@ -213,14 +213,14 @@ module _ (readers : Readers) (parts' : AllBacks readers) where
       (λ rest tail f. f) (λ rest tail f. f))
       (λ input tail name is f. segment-begin in_type input tail name is f)))
 
-  pub segments-back : (in_type : Bool) (span : Span) → Back (map bare_segment) (λ items. joined (colons span) (map (λ it. segment_tokens it (style_of in_type)) items)) (BeginsSegment in_type) (AfterPath in_type) (segments readers in_type)
+  pub segments-back : (in_type : Bool) (span : Span) → RoundTrips (map erased_segment) (λ items. joined (colons span) (map (λ it. segment_tokens it (style_of in_type)) items)) (BeginsSegment in_type) (AfterPath in_type) (segments readers in_type)
   unfolding segments
-  segments-back in_type span = joined-printed bare_segment (λ it. segment_tokens it (style_of in_type)) 2 is_colons (colons span) (mark-length (codes "::") span) (λ tail. is_colons-colons tail span) (segment readers in_type) (segment readers in_type) (AfterPath in_type)
+  segments-back in_type span = joined-printed erased_segment (λ it. segment_tokens it (style_of in_type)) 2 is_colons (colons span) (mark-length (codes "::") span) (λ tail. is_colons-colons tail span) (segment readers in_type) (segment readers in_type) (AfterPath in_type)
       (segment-back in_type) (λ rest tail f. (segment-seen tail f.0).some) (λ rest. segment-end in_type rest) (λ rest next tail seen f. segment_before-colons in_type rest tail span seen (segment-seen tail f.0).less) (λ rest tail seen f. segment-last in_type rest tail seen f)
 
   -- ---- paths
 
-  pub path-back : (in_type : Bool) → Back bare_path (path_tokens (style_of in_type)) (BeginsPath in_type) (AfterPath in_type) (path readers in_type)
+  pub path-back : (in_type : Bool) → RoundTrips erased_path (path_tokens (style_of in_type)) (BeginsPath in_type) (AfterPath in_type) (path readers in_type)
   unfolding path
   path-back in_type = whole (here-rest (λ start. eat-rest {Second = λ b. BeginsSegment in_type} 2 is_colons (λ place. colons place) (mark-length (codes "::")) (λ place tail. is_colons-colons tail place) (λ leading.
       then-rest {Second = AfterPath in_type} (λ place. segments-back in_type place) (λ found. close-rest start (λ q. q.0.1) (make.path leading found) (λ q. make.path leading q.1)

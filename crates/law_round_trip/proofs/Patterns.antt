@@ -13,10 +13,10 @@ use Rattle.syn_grammar.specs.declared.word.Word.TheVariants as word
 use Rattle.syn_grammar.specs.Input.{Input, Outcome, Parser, and_then, ◌>>=◌, after_eat, skipped, next, taken, finished, inside, is_end, start_of, test}
 use Rattle.syn_grammar.specs.Patterns.{ands_from, is_underscore, pattern, pattern_word, patterns_by, skip_ands}
 use Rattle.syn_grammar.specs.Token.{Layer, contents_in, contents_of, ident_in, ident_of, is_and, is_group, mark_of, span_of}
-use Rattle.syn_grammar.specs.Words.{name_of, next_word, is_word, sees, word_at}
+use Rattle.syn_grammar.specs.Words.{name_of, next_word, is_word, peek, word_at}
 use Rattle.print_core.specs.Marks.{Trees}
-use Rattle.law_prefix.specs.Alike.{Any}
-use Rattle.law_prefix.specs.Front.{at, Front}
+use Rattle.law_prefix.specs.SameLookahead.{Any}
+use Rattle.law_prefix.specs.ReadsByPrefix.{at, ReadsByPrefix}
 use Rattle.law_round_trip.proofs.Steps.{bind-at}
 
 -- ---- the marks before it
@@ -125,11 +125,11 @@ module _ (tree : TokenTree) (trees : Trees) (last : Span) where
   unfolding pattern_word after_eat skipped next
   word-wild wild = rw wild refl
 
-  word-plain : is_underscore (next_word (tree ∷ trees)) ≡ false → sees word.Mut (tree ∷ trees) ≡ false → pattern_word (at (tree ∷ trees) last) ≡ and_then (taken (name_of (tree ∷ trees)) (at trees (span_of tree))) (λ name input. Some (tt, input))
+  word-plain : is_underscore (next_word (tree ∷ trees)) ≡ false → peek word.Mut (tree ∷ trees) ≡ false → pattern_word (at (tree ∷ trees) last) ≡ and_then (taken (name_of (tree ∷ trees)) (at trees (span_of tree))) (λ name input. Some (tt, input))
   unfolding pattern_word after_eat skipped next
   word-plain wild mutable = rw (wild, mutable) refl
 
-  word-mutable : is_underscore (next_word (tree ∷ trees)) ≡ false → sees word.Mut (tree ∷ trees) ≡ true → pattern_word (at (tree ∷ trees) last) ≡ and_then (taken (name_of trees) (next (at trees (span_of tree)))) (λ name input. Some (tt, input))
+  word-mutable : is_underscore (next_word (tree ∷ trees)) ≡ false → peek word.Mut (tree ∷ trees) ≡ true → pattern_word (at (tree ∷ trees) last) ≡ and_then (taken (name_of trees) (next (at trees (span_of tree)))) (λ name input. Some (tt, input))
   unfolding pattern_word after_eat skipped next
   word-mutable wild mutable = rw (wild, mutable) refl
 
@@ -143,7 +143,7 @@ no-name = refl
 
 module _ (after : Input) (done : Unit {0}) where
   -- one word
-  name-ends : (tree : TokenTree) (trees : Trees) (found : Option Ident) → name_of (tree ∷ trees) ≡ found → is_underscore (next_word (tree ∷ trees)) ≡ false → sees word.Mut (tree ∷ trees) ≡ false
+  name-ends : (tree : TokenTree) (trees : Trees) (found : Option Ident) → name_of (tree ∷ trees) ≡ found → is_underscore (next_word (tree ∷ trees)) ≡ false → peek word.Mut (tree ∷ trees) ≡ false
       → and_then (taken found (at trees (span_of tree))) (λ name input. Some (tt, input)) ≡ Some (done, after) → Ends pattern_word (tree ∷ trees) after
   name-ends tree trees None is wild mutable e = absurd cc
   name-ends tree trees (Some it) is wild mutable e = rw (← (some_pair_parts tt done (at trees (span_of tree)) after e).1) (record {
@@ -155,7 +155,7 @@ module _ (after : Input) (done : Unit {0}) where
   })
 
   -- `mut` and a word
-  mutable-ends : (tree : TokenTree) (trees : Trees) (found : Option Ident) → name_of trees ≡ found → is_underscore (next_word (tree ∷ trees)) ≡ false → sees word.Mut (tree ∷ trees) ≡ true
+  mutable-ends : (tree : TokenTree) (trees : Trees) (found : Option Ident) → name_of trees ≡ found → is_underscore (next_word (tree ∷ trees)) ≡ false → peek word.Mut (tree ∷ trees) ≡ true
       → and_then (taken found (next (at trees (span_of tree)))) (λ name input. Some (tt, input)) ≡ Some (done, after) → Ends pattern_word (tree ∷ trees) after
   unfolding next
   mutable-ends tree trees None is wild mutable e = absurd cc
@@ -172,9 +172,9 @@ module _ (after : Input) (done : Unit {0}) where
 
   word-ends : (trees : Trees) (last : Span) → pattern_word (at trees last) ≡ Some (done, after) → Ends pattern_word trees after
   word-ends [] last e = let none = sym (no-word last) ∙ e in absurd cc
-  word-ends (tree ∷ trees) last e = by (is_underscore (next_word (tree ∷ trees))) refl (sees word.Mut (tree ∷ trees)) refl
+  word-ends (tree ∷ trees) last e = by (is_underscore (next_word (tree ∷ trees))) refl (peek word.Mut (tree ∷ trees)) refl
     where
-      by : (wild : Bool) → is_underscore (next_word (tree ∷ trees)) ≡ wild → (mutable : Bool) → sees word.Mut (tree ∷ trees) ≡ mutable → Ends pattern_word (tree ∷ trees) after
+      by : (wild : Bool) → is_underscore (next_word (tree ∷ trees)) ≡ wild → (mutable : Bool) → peek word.Mut (tree ∷ trees) ≡ mutable → Ends pattern_word (tree ∷ trees) after
       by true wild mutable is = rw (← (some_pair_parts tt done (at trees (span_of tree)) after (sym (word-wild tree trees last wild) ∙ e)).1) (record {
         read = tree ∷ [];
         is = refl;
@@ -227,7 +227,7 @@ some-length read [] some = absurd cc
 some-length read (tree ∷ more) some = omega (arith, length-append read (tree ∷ more))
 
 -- marks before what is read again
-behind-ands : (parser : Parser (Unit {0})) → ((trees : Trees) (last : Span) (after : Input) (done : Unit {0}) → parser (at trees last) ≡ Some (done, after) → Ends parser trees after) → Front Any (skip_ands >>= (λ marks. parser))
+behind-ands : (parser : Parser (Unit {0})) → ((trees : Trees) (last : Span) (after : Input) (done : Unit {0}) → parser (at trees last) ≡ Some (done, after) → Ends parser trees after) → ReadsByPrefix Any (skip_ands >>= (λ marks. parser))
 behind-ands parser ends = record {
   of = λ input after found e.
       let parts = bind-at (skip_ands input) (λ marks. parser) found after e in
@@ -243,7 +243,7 @@ behind-ands parser ends = record {
       };
 }
 
-pub pattern-front : (below : ℕ) → Front Any (pattern below)
+pub pattern-front : (below : ℕ) → ReadsByPrefix Any (pattern below)
 unfolding pattern
 pattern-front zero = behind-ands pattern_word (λ trees last after done e. word-ends after done trees last e)
 pattern-front (suc below) = behind-ands parser ends

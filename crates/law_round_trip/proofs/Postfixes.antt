@@ -28,13 +28,13 @@ use Rattle.syn_grammar.specs.Words.{name_of}
 use Rattle.print_core.specs.Exprs.{called_with}
 use Rattle.print_core.specs.Marks.{Trees, colons, comma, group, joined, mark}
 use Rattle.print_core.specs.Nodes.{argument_tokens, expr_tokens}
-use Rattle.law_spans.specs.Bare.{bare_argument, bare_expr}
+use Rattle.law_spans.specs.Erased.{erased_argument, erased_expr}
 use Rattle.law_spans.proofs.Made.{bare_expr-Call, bare_expr-Field, bare_expr-Index, bare_expr-MethodCall, bare_expr-Try}
-use Rattle.law_prefix.specs.Alike.{Relation, Any}
-use Rattle.law_prefix.specs.Front.{at}
+use Rattle.law_prefix.specs.SameLookahead.{Relation, Any}
+use Rattle.law_prefix.specs.ReadsByPrefix.{at}
 use Rattle.law_round_trip.specs.Follow.{BeginsAtom, Keep, Looser, goes_on}
-use Rattle.law_round_trip.specs.Parts.{AllBacks}
-use Rattle.law_round_trip.specs.Printed.{Printed, Back}
+use Rattle.law_round_trip.specs.Parts.{AllRoundTrip}
+use Rattle.law_round_trip.specs.Printed.{Printed, RoundTrips}
 use Rattle.law_round_trip.proofs.Arguments.{generic_arguments-back, group-printed}
 use Rattle.law_round_trip.proofs.Atoms.{brackets-back, expr_bool-back, expr_path-back, expr_qualified-back, infer-back, invisible-back, literal-back, parentheses-back}
 use Rattle.law_round_trip.proofs.AtomStarts.{atom-begins, expr-some, index-token, no-name}
@@ -144,8 +144,8 @@ taken-found {A} of input after found e = by (of input.rest) e
     by None e = absurd cc
     by (Some it) e = ap Some (some_pair_parts it found (next input) after e).0
 
-module _ (readers : Readers) (parts : AllBacks readers) where
-  args-printed : {Start : Relation} (span : Span) → ((rest inner tail : Trees) (own : Span) → Start rest (group delimiter.Parenthesis inner own ++ tail)) → Printed (map bare_expr) (λ items. called_with (map expr_tokens items) span) Start Any (args readers) (args readers)
+module _ (readers : Readers) (parts : AllRoundTrip readers) where
+  args-printed : {Start : Relation} (span : Span) → ((rest inner tail : Trees) (own : Span) → Start rest (group delimiter.Parenthesis inner own ++ tail)) → Printed (map erased_expr) (λ items. called_with (map expr_tokens items) span) Start Any (args readers) (args readers)
   args-printed span begins = group-printed delimiter.Parenthesis (parts.expr any_level) (λ rest tail f. expr-some any_level tail f.begins) (λ rest. expr-end any_level rest) (λ rest tail span. expr_before-comma any_level rest tail span) span begins
 
   named-method : (start : Span) (left : Expr) (name : Ident) (tail : Trees) (last : Span) → is_group delimiter.Parenthesis tail ≡ true → named_member readers start left name (at tail last) ≡ method_call readers start left name (at tail last)
@@ -155,10 +155,10 @@ module _ (readers : Readers) (parts : AllBacks readers) where
   module _ (start : Span) (left : Expr) where
     -- the operand is there already
     abbrev Fine : Span × Expr → Type 0
-    Fine q = bare_expr q.1 ≡ bare_expr left
+    Fine q = erased_expr q.1 ≡ erased_expr left
 
     abbrev BehindLeft : (Span → Trees → Trees) → Relation → Relation → Parser Expr → (Span × Expr → Parser Expr) → Type 0
-    BehindLeft shown = Rest {P = Span} {Q = Span × Expr} Fine bare_expr expr_tokens (λ place tokens. expr_tokens left ++ shown place tokens)
+    BehindLeft shown = Rest {P = Span} {Q = Span × Expr} Fine erased_expr expr_tokens (λ place tokens. expr_tokens left ++ shown place tokens)
 
     abbrev Begun : PostfixStart → Relation
     Begun begins rest tail = postfix_start tail ≡ begins
@@ -169,7 +169,7 @@ module _ (readers : Readers) (parts : AllBacks readers) where
         close-rest start (λ q. q.0.0) (expr.Call left given) (λ q. expr.Call q.0.1 q.1) (λ span. rw (print-Call, append-nil) refl) (λ span other q ok. rw (bare_expr-Call, bare_expr-Call, ok.0, ok.1) refl))
         (λ rest tail f. tt) (λ rest tail f. f)
 
-    index-printed : (span : Span) → Printed bare_expr (λ it. group delimiter.Bracket (expr_tokens it) span) (Begun postfix.Index) Any (inside delimiter.Bracket (readers.expr any_level)) (inside delimiter.Bracket (readers.expr any_level))
+    index-printed : (span : Span) → Printed erased_expr (λ it. group delimiter.Bracket (expr_tokens it) span) (Begun postfix.Index) Any (inside delimiter.Bracket (readers.expr any_level)) (inside delimiter.Bracket (readers.expr any_level))
     index-printed span = whole {P = Unit {0}} (inside-rest {Inner = Any} delimiter.Bracket (λ place. span) (shown-rest tt (λ it. refl) (weak-printed (λ rest tail f. rw f (expr-end any_level rest)) (λ rest tail f. tt) (parts.expr any_level)))
         (λ rest inner tail own seen f. bracket-start inner tail own))
 
@@ -222,7 +222,7 @@ module _ (readers : Readers) (parts : AllBacks readers) where
           (λ input tail place f. fish-seen tail place)))
         where
           given-rest : (arguments : List GenericArgument)
-              → Rest {P = Span} {Q = (Span × Expr) × List GenericArgument} (λ q. Fine q.0 × (map bare_argument q.1 ≡ map bare_argument arguments)) bare_expr expr_tokens
+              → Rest {P = Span} {Q = (Span × Expr) × List GenericArgument} (λ q. Fine q.0 × (map erased_argument q.1 ≡ map erased_argument arguments)) erased_expr expr_tokens
               (λ place tokens. expr_tokens left ++ (mark (codes ".") place ++ (tree.Ident name ∷ ((colons place ++ mark (codes "<") place) ++ ((joined (comma place) (map argument_tokens arguments) ++ mark (codes ">") place) ++ tokens))))) Any AfterAtom (given_to arguments)
               (λ q. args readers >>= (λ given. upto q.0.0 >>= (λ span. pure (expr.MethodCall q.0.1 name q.1 given span))))
           given-rest [] = refuse-rest
@@ -240,7 +240,7 @@ module _ (readers : Readers) (parts : AllBacks readers) where
       named_member-rest = record { of = λ input after found e. by input after found (is_turbofish input.rest) (is_group delimiter.Parenthesis input.rest) refl refl e }
         where
           NamedGive : Input → Expr → Type 0
-          NamedGive after found = Gives {P = Span} {Q = Span × Expr} Fine bare_expr expr_tokens (λ place tokens. expr_tokens left ++ (mark (codes ".") place ++ (tree.Ident name ∷ tokens))) (λ tail. Unit {0}) (AfterAtom after.rest) named found
+          NamedGive after found = Gives {P = Span} {Q = Span × Expr} Fine erased_expr expr_tokens (λ place tokens. expr_tokens left ++ (mark (codes ".") place ++ (tree.Ident name ∷ tokens))) (λ tail. Unit {0}) (AfterAtom after.rest) named found
 
           fish : (input between after : Input) (found : Expr) (arguments : List GenericArgument) → angle_list (generic_argument readers) (skipped 3 input) ≡ Some (arguments, between)
               → (args readers >>= (λ given. upto start >>= (λ span. pure (expr.MethodCall left name arguments given span)))) between ≡ Some (found, after) → NamedGive after found
@@ -286,7 +286,7 @@ module _ (readers : Readers) (parts : AllBacks readers) where
     abbrev turn : Parser Expr
     turn = test postfix_start >>= postfix_by readers start left
 
-  turn-rest : (start : Span) (left : Expr) → Rest {P = Span} {Q = Span × Expr} (λ q. bare_expr q.1 ≡ bare_expr left) bare_expr expr_tokens (λ place tokens. expr_tokens left ++ tokens) Turn AfterAtom (turn start left) (λ q. turn q.0 q.1)
+  turn-rest : (start : Span) (left : Expr) → Rest {P = Span} {Q = Span × Expr} (λ q. erased_expr q.1 ≡ erased_expr left) erased_expr expr_tokens (λ place tokens. expr_tokens left ++ tokens) Turn AfterAtom (turn start left) (λ q. turn q.0 q.1)
   turn-rest start left = test-rest {by = λ begins rest tail. postfix_start tail ≡ begins} postfix_start (postfix_by-rest start left) (λ begins rest tail is f. (f, f ∙ sym is))
 
   -- ---- all of them
@@ -312,7 +312,7 @@ module _ (readers : Readers) (parts : AllBacks readers) where
 
   -- ---- atoms
 
-  atom_by-back : (begins : AtomStart) → Back bare_expr expr_tokens (BeginsAtom begins) AfterAtom (atom_by readers begins)
+  atom_by-back : (begins : AtomStart) → RoundTrips erased_expr expr_tokens (BeginsAtom begins) AfterAtom (atom_by readers begins)
   atom_by-back atom.Literal = weak-printed (λ rest tail f. tt) (λ rest tail f. atom-begins atom.Literal tail refl f) literal-back
   atom_by-back atom.Bool = weak-printed (λ rest tail f. tt) (λ rest tail f. atom-begins atom.Bool tail refl f) expr_bool-back
   atom_by-back atom.Path = weak-printed (λ rest tail f. (f.colons, tt)) (λ rest tail f. atom-begins atom.Path tail refl f) (expr_path-back readers parts)
@@ -328,9 +328,9 @@ module _ (readers : Readers) (parts : AllBacks readers) where
   unfolding postfix_start is_group mark_of
   no-postfix = refl
 
-  pub postfixed-back : (begins : AtomStart) → Back bare_expr expr_tokens (BeginsAtom begins) (Looser operand_level) (postfixed readers begins)
+  pub postfixed-back : (begins : AtomStart) → RoundTrips erased_expr expr_tokens (BeginsAtom begins) (Looser operand_level) (postfixed readers begins)
   unfolding postfixed
   postfixed-back begins = whole {P = Unit {0}} (here-rest (λ start. then-rest {Second = AfterAtom} (λ place. atom_by-back begins) (λ left.
-      loop-rest bare_expr expr_tokens goes turn (postfixes_from readers) Turn AfterAtom (Looser operand_level) postfixes-loop turn-rest no-postfix (λ rest. loose-atom rest [] (looser-end operand_level rest)) turn-seen
+      loop-rest erased_expr expr_tokens goes turn (postfixes_from readers) Turn AfterAtom (Looser operand_level) postfixes-loop turn-rest no-postfix (λ rest. loose-atom rest [] (looser-end operand_level rest)) turn-seen
       (λ rest tail seen f. (keep-false goes rest tail seen f.postfix, loose-atom rest tail f)) (λ q. Unit {0}) start (λ q. q.1) left)
       (λ rest tail f. f) (λ rest tail f. f)))

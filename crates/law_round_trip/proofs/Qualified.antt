@@ -16,22 +16,22 @@ use Rattle.syn_grammar.specs.Make as make
 use Rattle.syn_grammar.specs.Paths.{after_as, without_as, qualified, segment, segments}
 use Rattle.syn_grammar.specs.Readers.{Readers}
 use Rattle.syn_grammar.specs.Token.{is_colons, is_greater, is_less}
-use Rattle.syn_grammar.specs.Words.{named_words, next_word, other_keywords, sees, word_of}
+use Rattle.syn_grammar.specs.Words.{named_words, next_word, other_keywords, peek, word_of}
 use Rattle.syn_grammar.specs.Token.{ident_of}
 use Rattle.print_core.specs.declared.path.PathStyle.{PathStyle}
 use Rattle.print_core.specs.declared.path.PathStyle.TheVariants.{Plain}
 use Rattle.print_core.specs.Marks.{Trees, after, colons, joined, mark, word as printed_word}
 use Rattle.print_core.specs.Nodes.{path_parts, segment_tokens, type_tokens}
 use Rattle.print_core.specs.Paths.{after_type, in_style}
-use Rattle.law_spans.specs.Bare.{bare_path, bare_qself, bare_segment, bare_type}
+use Rattle.law_spans.specs.Erased.{erased_path, erased_qself, erased_segment, erased_type}
 use Rattle.law_spans.proofs.Made.{bare_path-make}
-use Rattle.law_prefix.specs.Alike.{Relation, Any}
+use Rattle.law_prefix.specs.SameLookahead.{Relation, Any}
 use Rattle.law_round_trip.specs.Follow.{AfterPath, AfterType, BeginsSegment, BeginsType, KeepsName}
-use Rattle.law_round_trip.specs.Printed.{Back}
+use Rattle.law_round_trip.specs.Printed.{RoundTrips}
 use Rattle.law_round_trip.proofs.Follows.{segment-seen, type_before-mark, type_before-word, unnamed}
 use Rattle.law_round_trip.proofs.Joints.{joined-some}
 use Rattle.law_round_trip.proofs.Marks.{is_colons-colons, is_group-mark, mark-length, mark_of-mark, next_word-mark, out-Ident, word-length}
-use Rattle.law_round_trip.specs.Parts.{AllBacks, style_of}
+use Rattle.law_round_trip.specs.Parts.{AllRoundTrip, style_of}
 use Rattle.law_round_trip.proofs.Paths.{segments-back, styled}
 use Rattle.law_round_trip.proofs.Prints.{path_parts-make}
 use Rattle.law_round_trip.proofs.Steps.{Rest, whole, pure-rest, here-rest, upto-rest, then-rest, sure-rest}
@@ -41,8 +41,8 @@ use Rattle.law_round_trip.proofs.Takes.{eat-rest, eat_or-rest, expect-rest}
 abbrev pub Pair : Type 0
 Pair = QSelf Ty × Path
 
-abbrev pub bare_pair : Pair → Pair
-bare_pair it = (bare_qself it.0, bare_path it.1)
+abbrev pub erased_pair : Pair → Pair
+erased_pair it = (erased_qself it.0, erased_path it.1)
 
 abbrev pub pair_tokens : PathStyle → Pair → Trees
 pair_tokens style it = mark (codes "<") it.0.span ++ type_tokens it.0.ty ++ after_type it.0.position it.0.span style (path_parts it.1)
@@ -83,14 +83,14 @@ sees-as : (span : Span) (tail : Trees) → next_word (printed_word (codes "as") 
 unfolding printed_word next_word ident_of word_of named_words other_keywords
 sees-as span tail = rw (out-Ident (record { text = codes "as"; raw = false; span = span })) refl
 
-same-length : (one two : List PathSegment) → map bare_segment one ≡ map bare_segment two → length one ≡ length two
-same-length one two h = sym (length-map one bare_segment) ∙ ap length h ∙ length-map two bare_segment
+same-length : (one two : List PathSegment) → map erased_segment one ≡ map erased_segment two → length one ≡ length two
+same-length one two h = sym (length-map one erased_segment) ∙ ap length h ∙ length-map two erased_segment
 
 -- `>` and no `as`
 abbrev Closed : Relation
-Closed rest tail = (sees word.As tail ≡ false) × AfterType true rest tail
+Closed rest tail = (peek word.As tail ≡ false) × AfterType true rest tail
 
-module _ (readers : Readers) (parts : AllBacks readers) where
+module _ (readers : Readers) (parts : AllRoundTrip readers) where
   segments-some : (in_type : Bool) (input after : Input) (found : List PathSegment) → segments readers in_type input ≡ Some (found, after) → 1 ≤ length found
   unfolding segments
   segments-some in_type input after found e = joined-some (eat 2 is_colons) (segment readers in_type) (length input.rest) [] input after found e
@@ -99,10 +99,10 @@ module _ (readers : Readers) (parts : AllBacks readers) where
   Env = (Unit {0} × Span) × Ty
 
   abbrev Bound : Ty → Env → Type 0
-  Bound it q = Unit {0} × (bare_type q.1 ≡ bare_type it)
+  Bound it q = Unit {0} × (erased_type q.1 ≡ erased_type it)
 
   without_as-rest : (in_type : Bool) (start : Span) (it : Ty)
-      → Rest {P = Span × Span} {Q = Env} (Bound it) bare_pair (pair_tokens (style_of in_type)) (λ place more. mark (codes "<") place.0 ++ (type_tokens it ++ more)) Closed (AfterPath in_type) (without_as readers in_type start it) (λ q. without_as readers in_type q.0.1 q.1)
+      → Rest {P = Span × Span} {Q = Env} (Bound it) erased_pair (pair_tokens (style_of in_type)) (λ place more. mark (codes "<") place.0 ++ (type_tokens it ++ more)) Closed (AfterPath in_type) (without_as readers in_type start it) (λ q. without_as readers in_type q.0.1 q.1)
   unfolding without_as
   without_as-rest in_type start it = expect-rest {Second = Any} 1 is_greater (λ place. mark (codes ">") place.0) (λ place. mark-length (codes ">") place.0) (λ place tail. rw (mark_of-mark 62 [] place.0 tail) refl)
       (upto-rest start (λ q. q.0.1) (λ qspan. here-rest (λ path_start. expect-rest {Second = BeginsSegment in_type} 2 is_colons (λ place. colons place.1) (λ place. mark-length (codes "::") place.1) (λ place tail. is_colons-colons tail place.1)
@@ -115,7 +115,7 @@ module _ (readers : Readers) (parts : AllBacks readers) where
       (λ input tail place seen f. (rw (next_word-mark 62 [] place.0 tail) refl, type_before-mark 62 refl refl refl refl place.0 input.rest tail true))
 
   after_as-rest : (in_type : Bool) (start : Span) (it : Ty)
-      → Rest {P = Span × Span} {Q = Env} (Bound it) bare_pair (pair_tokens (style_of in_type)) (λ place more. mark (codes "<") place.0 ++ (type_tokens it ++ (printed_word (codes "as") place.0 ++ more))) Any (AfterPath in_type) (after_as readers in_type start it) (λ q. after_as readers in_type q.0.1 q.1)
+      → Rest {P = Span × Span} {Q = Env} (Bound it) erased_pair (pair_tokens (style_of in_type)) (λ place more. mark (codes "<") place.0 ++ (type_tokens it ++ (printed_word (codes "as") place.0 ++ more))) Any (AfterPath in_type) (after_as readers in_type start it) (λ q. after_as readers in_type q.0.1 q.1)
   unfolding after_as
   after_as-rest in_type start it = here-rest (λ path_start. eat-rest {Second = λ b. BeginsSegment true} 2 is_colons (λ place. colons place.1) (λ place. mark-length (codes "::") place.1) (λ place tail. is_colons-colons tail place.1) (λ leading.
       sure-rest {Second = λ rest tail. AfterPath true rest tail} (λ place. segments-back readers parts true place.1) (segments-some true) (λ before some.
@@ -133,10 +133,10 @@ module _ (readers : Readers) (parts : AllBacks readers) where
       (λ input tail place seen f. tt)
       (λ rest tail seen f. ((segment-seen tail f.0).colons, tt)))
 
-  pub qualified-back : (in_type : Bool) → Back bare_pair (pair_tokens (style_of in_type)) (λ rest tail. (type_start tail ≡ begin.Qualified) × KeepsName true rest tail) (AfterPath in_type) (qualified readers in_type)
+  pub qualified-back : (in_type : Bool) → RoundTrips erased_pair (pair_tokens (style_of in_type)) (λ rest tail. (type_start tail ≡ begin.Qualified) × KeepsName true rest tail) (AfterPath in_type) (qualified readers in_type)
   unfolding qualified
   qualified-back in_type = whole (here-rest (λ start. expect-rest {Second = BeginsType} 1 is_less (λ place. mark (codes "<") place.0) (λ place. mark-length (codes "<") place.0) (λ place tail. rw (mark_of-mark 60 [] place.0 tail) refl)
-      (then-rest {Second = AfterType true} (λ place. parts.ty true) (λ it. eat_or-rest {Yes = Any} {No = Closed} 1 (sees word.As) (λ place. printed_word (codes "as") place.0) (λ place. word-length (codes "as") place.0) (λ place tail. rw (sees-as place.0 tail) refl)
+      (then-rest {Second = AfterType true} (λ place. parts.ty true) (λ it. eat_or-rest {Yes = Any} {No = Closed} 1 (peek word.As) (λ place. printed_word (codes "as") place.0) (λ place. word-length (codes "as") place.0) (λ place tail. rw (sees-as place.0 tail) refl)
       (after_as-rest in_type start it) (without_as-rest in_type start it)
       (λ input tail place seen f. type_before-word (codes "as") place.0 true input.rest tail)
       (λ rest tail seen f. f))

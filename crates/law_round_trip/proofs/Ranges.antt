@@ -13,12 +13,12 @@ use Rattle.syn_grammar.specs.Readers.{Readers, any_level, constant_level, operan
 use Rattle.syn_grammar.specs.Token.{is_closed_dots, is_colons, is_dots, is_group, is_pair, is_turbofish}
 use Rattle.print_core.specs.Marks.{Trees, mark, optional}
 use Rattle.print_core.specs.Nodes.{expr_tokens}
-use Rattle.law_spans.specs.Bare.{bare_expr}
+use Rattle.law_spans.specs.Erased.{erased_expr}
 use Rattle.law_spans.proofs.Made.{bare_expr-Range}
-use Rattle.law_prefix.specs.Alike.{Relation, Any}
+use Rattle.law_prefix.specs.SameLookahead.{Relation, Any}
 use Rattle.law_round_trip.specs.Follow.{AfterExpr, BeginsAtom, BeginsClosure, BeginsExpr, Looser, goes_on, operates}
-use Rattle.law_round_trip.specs.Parts.{AllBacks}
-use Rattle.law_round_trip.specs.Printed.{Back}
+use Rattle.law_round_trip.specs.Parts.{AllRoundTrip}
+use Rattle.law_round_trip.specs.Printed.{RoundTrips}
 use Rattle.law_round_trip.proofs.Chains.{binary-back}
 use Rattle.law_round_trip.proofs.Follows.{keep-false, never}
 use Rattle.law_round_trip.proofs.Infix.{looser-tighter, operator_of-mark, pair-apart}
@@ -84,16 +84,16 @@ operand-begin rest tail none f =
     let seen = (operand-seen tail f.begins).dots in
     (seen, record { source = rw (none, f.source) refl; begins = rw (seen, f.begins) refl; bodies = f.bodies })
 
-module _ (readers : Readers) (parts : AllBacks readers) where
+module _ (readers : Readers) (parts : AllRoundTrip readers) where
   -- ---- the dots and the end of a range
 
-  module _ {Q : Type 0} (Ok : Q → Type 0) (start : Span) (start' : Q → Span) (left : Option Expr) (left' : Q → Option Expr) (same : (q : Q) → Ok q → option_map bare_expr (left' q) ≡ option_map bare_expr left) where
+  module _ {Q : Type 0} (Ok : Q → Type 0) (start : Span) (start' : Q → Span) (left : Option Expr) (left' : Q → Option Expr) (same : (q : Q) → Ok q → option_map erased_expr (left' q) ≡ option_map erased_expr left) where
     -- what an expression of this end prints in front
     abbrev before : Bool → Span → Trees → Trees
     before closed place tokens = optional (option_map expr_tokens left) ++ (dots_tokens closed place ++ tokens)
 
     abbrev EndRest : Bool → Relation → Parser Expr → (Q → Parser Expr) → Type 0
-    EndRest closed Begins p p' = Rest {P = Span} {Q = Q} Ok bare_expr expr_tokens (before closed) Begins (Looser range_level) p p'
+    EndRest closed Begins p p' = Rest {P = Span} {Q = Q} Ok erased_expr expr_tokens (before closed) Begins (Looser range_level) p p'
 
     abbrev bounded_by : Span → Option Expr → Bool → Parser Expr
     bounded_by start left closed = readers.expr or_level >>= (λ right. upto start >>= (λ span. pure (make.expr_range left (Some right) closed span)))
@@ -127,7 +127,7 @@ module _ (readers : Readers) (parts : AllBacks readers) where
     end-seen true rest tail is f = (f.begins, tt)
     end-seen false rest tail is f = (keep-false begins_operand rest tail is (f.operand (omega arith)), tt)
 
-    range_from-rest : Rest {P = Span} {Q = Q} Ok bare_expr expr_tokens (λ place tokens. optional (option_map expr_tokens left) ++ tokens) Dotted (Looser range_level) (range_from readers start left) (λ q. range_from readers (start' q) (left' q))
+    range_from-rest : Rest {P = Span} {Q = Q} Ok erased_expr expr_tokens (λ place tokens. optional (option_map expr_tokens left) ++ tokens) Dotted (Looser range_level) (range_from readers start left) (λ q. range_from readers (start' q) (left' q))
     unfolding range_from
     range_from-rest = test-rest {by = λ closed rest tail. (is_closed_dots tail ≡ closed) × Dotted rest tail} is_closed_dots (λ closed.
         skip_by-rest {Second = Any} (dots_width closed) (dots_tokens closed) (dots-length closed)
@@ -137,9 +137,9 @@ module _ (readers : Readers) (parts : AllBacks readers) where
 
   -- ---- ranges
 
-  module _ (postfixed-back : (begins : AtomStart) → Back bare_expr expr_tokens (BeginsAtom begins) (Looser operand_level) (postfixed readers begins)) where
+  module _ (postfixed-back : (begins : AtomStart) → RoundTrips erased_expr expr_tokens (BeginsAtom begins) (Looser operand_level) (postfixed readers begins)) where
     abbrev RangeRest : Relation → Parser Expr → (Unit {0} × Span → Parser Expr) → Type 0
-    RangeRest Begins p p' = Rest {P = Span} {Q = Unit {0} × Span} (λ q. Unit {0}) bare_expr expr_tokens hole Begins (Looser range_level) p p'
+    RangeRest Begins p p' = Rest {P = Span} {Q = Unit {0} × Span} (λ q. Unit {0}) erased_expr expr_tokens hole Begins (Looser range_level) p p'
 
     -- dots come behind the first operand, or nothing that goes on with it
     abbrev Ranged : Bool → Relation
@@ -149,9 +149,9 @@ module _ (readers : Readers) (parts : AllBacks readers) where
     abbrev ranged_by : Span → Expr → Bool → Parser Expr
     ranged_by start left ranged = if ranged then range_from readers start (Some left) else pure left
 
-    ranged-rest : (start : Span) (left : Expr) (ranged : Bool) → Rest {P = Span} {Q = (Unit {0} × Span) × Expr} (λ q. Unit {0} × (bare_expr q.1 ≡ bare_expr left)) bare_expr expr_tokens (λ place tokens. expr_tokens left ++ tokens) (Ranged ranged) (Looser range_level)
+    ranged-rest : (start : Span) (left : Expr) (ranged : Bool) → Rest {P = Span} {Q = (Unit {0} × Span) × Expr} (λ q. Unit {0} × (erased_expr q.1 ≡ erased_expr left)) erased_expr expr_tokens (λ place tokens. expr_tokens left ++ tokens) (Ranged ranged) (Looser range_level)
         (ranged_by start left ranged) (λ q. ranged_by q.0.1 q.1 ranged)
-    ranged-rest start left true = range_from-rest (λ q. Unit {0} × (bare_expr q.1 ≡ bare_expr left)) start (λ q. q.0.1) (Some left) (λ q. Some q.1) (λ q ok. rw (ok.1) refl)
+    ranged-rest start left true = range_from-rest (λ q. Unit {0} × (erased_expr q.1 ≡ erased_expr left)) start (λ q. q.0.1) (Some left) (λ q. Some q.1) (λ q ok. rw (ok.1) refl)
     ranged-rest start left false = pure-rest start left (λ q. q.1) (rw append-nil refl) (λ q ok. ok.1)
 
     ranged-seen : (ranged : Bool) (rest tail : Trees) → is_dots rest ≡ ranged → Ranged ranged rest tail → (is_dots tail ≡ ranged) × Looser or_level rest tail
@@ -173,18 +173,18 @@ module _ (readers : Readers) (parts : AllBacks readers) where
     unbounded-seen true rest tail is f = (f.0, dots-begin rest tail is f.0)
     unbounded-seen false rest tail is f = operand-begin rest tail is f
 
-    pub range-back : Back bare_expr expr_tokens (BeginsExpr range_level) (Looser range_level) (range readers)
+    pub range-back : RoundTrips erased_expr expr_tokens (BeginsExpr range_level) (Looser range_level) (range readers)
     unfolding range
     range-back = whole (here-rest (λ start. test-rest {by = Unbounded} is_dots (range_by-rest start) unbounded-seen))
 
     -- ---- all levels
 
-    module _ (closure-back : Back bare_expr expr_tokens BeginsClosure (Looser any_level) (closure readers)) where
+    module _ (closure-back : RoundTrips erased_expr expr_tokens BeginsClosure (Looser any_level) (closure readers)) where
       abbrev Closed : Bool → Relation
       Closed true = BeginsClosure
       Closed false = BeginsExpr range_level
 
-      any_by-rest : (closed : Bool) → Rest {P = Unit {0}} {Q = Unit {0}} Free bare_expr expr_tokens hole (Closed closed) (Looser any_level) (if closed then closure readers else range readers) (λ q. if closed then closure readers else range readers)
+      any_by-rest : (closed : Bool) → Rest {P = Unit {0}} {Q = Unit {0}} Free erased_expr expr_tokens hole (Closed closed) (Looser any_level) (if closed then closure readers else range readers) (λ q. if closed then closure readers else range readers)
       any_by-rest true = shown-rest tt (λ it. refl) closure-back
       any_by-rest false = shown-rest tt (λ it. refl) (weak-printed (λ rest tail f. looser-tighter any_level range_level (omega arith) rest tail f) (λ rest tail f. f) range-back)
 
@@ -192,16 +192,16 @@ module _ (readers : Readers) (parts : AllBacks readers) where
       closed-seen true rest tail is f = let both = f is in (both.0, record { source = rw is refl; begins = rw (both.0) refl; bodies = both.1 })
       closed-seen false rest tail is f = let none = (range-seen tail f.begins).closure in (none, record { source = rw is f.source; begins = rw none f.begins; bodies = f.bodies })
 
-      pub any-back : Back bare_expr expr_tokens (BeginsExpr any_level) (Looser any_level) (any readers)
+      pub any-back : RoundTrips erased_expr expr_tokens (BeginsExpr any_level) (Looser any_level) (any readers)
       unfolding any
       any-back = whole (test-rest {by = Closed} begins_closure any_by-rest closed-seen)
 
-      module _ (constant-back : Back bare_expr expr_tokens (BeginsExpr constant_level) Any (constant readers)) where
+      module _ (constant-back : RoundTrips erased_expr expr_tokens (BeginsExpr constant_level) Any (constant readers)) where
         -- the law of a parser at this level
         abbrev Level : Parser Expr → ℕ → Type 0
-        Level p level = Back bare_expr expr_tokens (BeginsExpr level) (AfterExpr level) p
+        Level p level = RoundTrips erased_expr expr_tokens (BeginsExpr level) (AfterExpr level) p
 
-        pub expr_step-back : (level : ℕ) → Back bare_expr expr_tokens (BeginsExpr level) (AfterExpr level) (expr_step readers level)
+        pub expr_step-back : (level : ℕ) → RoundTrips erased_expr expr_tokens (BeginsExpr level) (AfterExpr level) (expr_step readers level)
         unfolding expr_step
         expr_step-back level = by (level == any_level) (level == range_level) (level == constant_level) refl refl refl
           where

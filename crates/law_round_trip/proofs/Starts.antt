@@ -14,10 +14,11 @@ use Rattle.syn_grammar.specs.declared.word.Word.{Word}
 use Rattle.syn_grammar.specs.declared.word.Word.TheVariants as word
 use Rattle.syn_grammar.specs.Input.{is_end}
 use Rattle.syn_grammar.specs.Look.{atom_start, atom_word, begins_closure, begins_operand, is_atom, is_move, is_operand, operand_start}
-use Rattle.syn_grammar.specs.Token.{Layer, ident_of, is_arrow, is_bar, is_dots, is_group, is_joint, is_mark, is_pair, literal_of, mark_of, same_delimiter}
-use Rattle.syn_grammar.specs.Words.{is_word, next_word, sees, word_of}
+use Rattle.syn_grammar.specs.Token.{Layer, ident_of, is_arrow, is_bar, is_dots, is_group, is_joint, is_mark, is_pair, literal_of, mark_of}
+use Rattle.tok_types.specs.Delimiter.{same_delimiter}
+use Rattle.syn_grammar.specs.Words.{is_word, next_word, peek, word_of}
 use Rattle.print_core.specs.Marks.{Trees}
-use Rattle.law_prefix.specs.Closures.{AlikeBodies}
+use Rattle.law_prefix.specs.Closures.{SameLookaheadOfBodies}
 use Rattle.law_round_trip.specs.Follow.{begins_range}
 
 -- what begins an operand is no end, no `|`, no `..`, no `>`, no closure and no `mut`
@@ -27,7 +28,7 @@ pub record OperandSeen (trees : Trees) : Type 0 where
   pub dots : is_dots trees ≡ false
   pub greater : is_mark 62 trees ≡ false
   pub closure : begins_closure trees ≡ false
-  pub mutable : sees word.Mut trees ≡ false
+  pub mutable : peek word.Mut trees ≡ false
 
 operand-word : (it : Word) → is_atom (atom_word it) ≡ true → (is_move it ≡ false) × (is_word word.Mut it ≡ false)
 operand-word word.Move h = absurd cc
@@ -142,7 +143,7 @@ arrow-start trees h =
     rw (marks.0) refl
 
 -- two operands that start in one way, none of them with an arrow, are one body
-pub operand-bodies : (rest tail : Trees) → operand_start rest ≡ operand_start tail → begins_operand rest ≡ true → begins_operand tail ≡ true → is_arrow rest ≡ false → is_arrow tail ≡ false → AlikeBodies rest tail
+pub operand-bodies : (rest tail : Trees) → operand_start rest ≡ operand_start tail → begins_operand rest ≡ true → begins_operand tail ≡ true → is_arrow rest ≡ false → is_arrow tail ≡ false → SameLookaheadOfBodies rest tail
 operand-bodies rest tail same source printed none other = record {
   bar = (operand-seen rest source).bar ∙ sym (operand-seen tail printed).bar;
   arrow = none ∙ sym other;

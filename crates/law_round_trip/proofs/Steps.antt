@@ -5,8 +5,8 @@ use Rattle.tok_types.specs.Span.{joined}
 use Rattle.tok_types.specs.declared.span.Span.{Span}
 use Rattle.syn_grammar.specs.Input.{Input, Outcome, Parser, and_then, ◌>>=◌, pure, refuse, test, here, first_span, upto}
 use Rattle.print_core.specs.Marks.{Trees}
-use Rattle.law_prefix.specs.Alike.{Relation}
-use Rattle.law_prefix.specs.Front.{at}
+use Rattle.law_prefix.specs.SameLookahead.{Relation}
+use Rattle.law_prefix.specs.ReadsByPrefix.{at}
 use Rattle.law_round_trip.specs.Printed.{Again, Reads, Printed}
 
 pub bind-at : {A B : Type 0} (outcome : Outcome A) (next : A → Parser B) (found : B) (after : Input) → and_then outcome next ≡ Some (found, after)
@@ -183,7 +183,7 @@ module _ {A B P Q : Type 0} {Ok : Q → Type 0} {bare : A → B} {print : A → 
   pub sure_test-rest : {V : Type 0} {Valid : V → Type 0} {by : V → Relation} {G F : Relation} {f : V → Parser A} {g : Q → V → Parser A} (look : Trees → V) → ((trees : Trees) → Valid (look trees))
       → ((value : V) → Valid value → Rest Ok bare print wrap (by value) F (f value) (λ q. g q value)) → ((value : V) (rest tail : Trees) → look rest ≡ value → by value rest tail → (look tail ≡ value) × G rest tail)
       → Rest Ok bare print wrap G F (test look >>= f) (λ q. test look >>= g q)
-  sure_test-rest {g = g} look valid h sees = record {
+  sure_test-rest {g = g} look valid h peek = record {
     of = λ input after found e.
         let one = (h (look input.rest) (valid input.rest)).of input after found e in
         record {
@@ -192,15 +192,15 @@ module _ {A B P Q : Type 0} {Ok : Q → Type 0} {bare : A → B} {print : A → 
           is = one.is;
           again = λ q ok tail last f.
               let more = one.again q ok tail last f in
-              let seen = (sees (look input.rest) input.rest (one.tokens ++ tail) refl (one.first tail f)).0 in
+              let seen = (peek (look input.rest) input.rest (one.tokens ++ tail) refl (one.first tail f)).0 in
               record { value = more.value; new = more.new; is = ap (λ value. g q value (at (one.tokens ++ tail) last)) seen ∙ more.is; same = more.same };
-          first = λ tail f. (sees (look input.rest) input.rest (one.tokens ++ tail) refl (one.first tail f)).1;
+          first = λ tail f. (peek (look input.rest) input.rest (one.tokens ++ tail) refl (one.first tail f)).1;
         };
   }
 
   pub test-rest : {V : Type 0} {by : V → Relation} {G F : Relation} {f : V → Parser A} {g : Q → V → Parser A} (look : Trees → V) → ((value : V) → Rest Ok bare print wrap (by value) F (f value) (λ q. g q value))
       → ((value : V) (rest tail : Trees) → look rest ≡ value → by value rest tail → (look tail ≡ value) × G rest tail) → Rest Ok bare print wrap G F (test look >>= f) (λ q. test look >>= g q)
-  test-rest look h sees = sure_test-rest {Valid = λ value. Unit {0}} look (λ trees. tt) (λ value valid. h value) sees
+  test-rest look h peek = sure_test-rest {Valid = λ value. Unit {0}} look (λ trees. tt) (λ value valid. h value) peek
 
 -- whatever the place was, of which the printing so far does not speak
 pub placed-rest : {A B P Q : Type 0} {Ok : Q → Type 0} {bare : A → B} {print : A → Trees} {wrap : Trees → Trees} {G F : Relation} {p : Parser A} {p' : Q → Parser A} → Rest {P = P} Ok bare print (λ place tokens. wrap tokens) G F p p'

@@ -7,10 +7,11 @@ use Rattle.tok_types.specs.declared.tree.Delimiter.{Delimiter}
 use Rattle.tok_types.specs.declared.tree.Delimiter.TheVariants as delimiter
 use Rattle.tok_types.specs.declared.tree.TokenTree.{TokenTree, the_lemmas}
 use Rattle.syn_grammar.specs.Input.{Input, Outcome, Parser, and_then, ◌>>=◌, next, skipped, skip, skip_by, after_eat, eat, expect, taken, take_as, after_found, eat_as, is_end, finished, inside, start_of}
-use Rattle.syn_grammar.specs.Token.{is_group, contents_of, span_of, same_delimiter}
+use Rattle.syn_grammar.specs.Token.{is_group, contents_of, span_of}
+use Rattle.tok_types.specs.Delimiter.{same_delimiter}
 use Rattle.print_core.specs.Marks.{Trees, group}
-use Rattle.law_prefix.specs.Alike.{Relation}
-use Rattle.law_prefix.specs.Front.{at}
+use Rattle.law_prefix.specs.SameLookahead.{Relation}
+use Rattle.law_prefix.specs.ReadsByPrefix.{at}
 use Rattle.law_round_trip.specs.Printed.{Reads, Printed}
 use Rattle.law_round_trip.proofs.Steps.{Gives, Rest}
 
@@ -52,7 +53,7 @@ module _ {A B P Q : Type 0} {Ok : Q → Type 0} {bare : A → B} {print : A → 
       → Rest Ok bare print (λ place more. wrap place (tokens place ++ more)) Second F f g
       → ((input : Input) (tail : Trees) (place : P) → holds input.rest ≡ true → Second (skipped count input).rest tail → G input.rest (tokens place ++ tail))
       → Rest Ok bare print wrap G F (expect count holds >>= (λ _. f)) (λ q. expect count holds >>= (λ _. g q))
-  expect-rest count holds tokens sizes sees h starts = record { of = λ input after found e. by input after found (holds input.rest) refl e }
+  expect-rest count holds tokens sizes peek h starts = record { of = λ input after found e. by input after found (holds input.rest) refl e }
     where
       by : (input after : Input) (found : A) (b : Bool) → holds input.rest ≡ b → and_then (if b then Some (tt {0}, skipped count input) else None) (λ _. f) ≡ Some (found, after)
           → Gives Ok bare print wrap (G input.rest) (F after.rest) (λ q. expect count holds >>= (λ _. g q)) found
@@ -66,7 +67,7 @@ module _ {A B P Q : Type 0} {Ok : Q → Type 0} {bare : A → B} {print : A → 
             again = λ q ok tail last f.
                 let stands = skipped-over count (tokens two.place) (two.tokens ++ tail) last (sizes two.place) in
                 let more = two.again q ok tail stands.0 f in
-                record { value = more.value; new = more.new; is = rw (append_assoc (tokens two.place) two.tokens tail, sees two.place (two.tokens ++ tail), stands.1) more.is; same = more.same };
+                record { value = more.value; new = more.new; is = rw (append_assoc (tokens two.place) two.tokens tail, peek two.place (two.tokens ++ tail), stands.1) more.is; same = more.same };
             first = λ tail f. rw (append_assoc (tokens two.place) two.tokens tail) (starts input (two.tokens ++ tail) two.place is (two.first tail f));
           }
 
@@ -78,7 +79,7 @@ module _ {A B P Q : Type 0} {Ok : Q → Type 0} {bare : A → B} {print : A → 
       → ((rest tail : Trees) → holds rest ≡ false → No rest tail → (holds tail ≡ false) × G rest tail)
       → Rest Ok bare print wrap G F (eat count holds >>= (λ b. if b then f else one)) (λ q. eat count holds >>= (λ b. if b then g q else other q))
   unfolding after_eat
-  eat_or-rest count holds tokens sizes sees there none starts stays = record { of = λ input after found e. by input after found (holds input.rest) refl e }
+  eat_or-rest count holds tokens sizes peek there none starts stays = record { of = λ input after found e. by input after found (holds input.rest) refl e }
     where
       by : (input after : Input) (found : A) (b : Bool) → holds input.rest ≡ b → (if b then f else one) (after_eat count b input) ≡ Some (found, after)
           → Gives Ok bare print wrap (G input.rest) (F after.rest) (λ q. eat count holds >>= (λ b. if b then g q else other q)) found
@@ -91,7 +92,7 @@ module _ {A B P Q : Type 0} {Ok : Q → Type 0} {bare : A → B} {print : A → 
             again = λ q ok tail last f.
                 let stands = skipped-over count (tokens two.place) (two.tokens ++ tail) last (sizes two.place) in
                 let more = two.again q ok tail stands.0 f in
-                record { value = more.value; new = more.new; is = rw (append_assoc (tokens two.place) two.tokens tail, sees two.place (two.tokens ++ tail), stands.1) more.is; same = more.same };
+                record { value = more.value; new = more.new; is = rw (append_assoc (tokens two.place) two.tokens tail, peek two.place (two.tokens ++ tail), stands.1) more.is; same = more.same };
             first = λ tail f. rw (append_assoc (tokens two.place) two.tokens tail) (starts input (two.tokens ++ tail) two.place is (two.first tail f));
           }
       by input after found false is e =
@@ -114,7 +115,7 @@ module _ {A B P Q : Type 0} {Ok : Q → Type 0} {bare : A → B} {print : A → 
       → ((rest tail : Trees) → holds rest ≡ false → Second false rest tail → (holds tail ≡ false) × G rest tail)
       → Rest Ok bare print wrap G F (eat count holds >>= f) (λ q. eat count holds >>= g q)
   unfolding after_eat
-  eat-rest count holds tokens sizes sees h starts stays = record { of = λ input after found e. by input after found (holds input.rest) refl e }
+  eat-rest count holds tokens sizes peek h starts stays = record { of = λ input after found e. by input after found (holds input.rest) refl e }
     where
       by : (input after : Input) (found : A) (b : Bool) → holds input.rest ≡ b → f b (after_eat count b input) ≡ Some (found, after) → Gives Ok bare print wrap (G input.rest) (F after.rest) (λ q. eat count holds >>= g q) found
       by input after found true is e =
@@ -126,7 +127,7 @@ module _ {A B P Q : Type 0} {Ok : Q → Type 0} {bare : A → B} {print : A → 
             again = λ q ok tail last f.
                 let stands = skipped-over count (tokens two.place) (two.tokens ++ tail) last (sizes two.place) in
                 let more = two.again q ok tail stands.0 f in
-                record { value = more.value; new = more.new; is = rw (append_assoc (tokens two.place) two.tokens tail, sees two.place (two.tokens ++ tail), stands.1) more.is; same = more.same };
+                record { value = more.value; new = more.new; is = rw (append_assoc (tokens two.place) two.tokens tail, peek two.place (two.tokens ++ tail), stands.1) more.is; same = more.same };
             first = λ tail f. rw (append_assoc (tokens two.place) two.tokens tail) (starts input (two.tokens ++ tail) two.place is (two.first tail f));
           }
       by input after found false is e =
@@ -148,7 +149,7 @@ module _ {A B D P Q : Type 0} {Ok : Q → Type 0} {bare : B → D} {print : B �
       → ((x : A) → Rest Ok bare print (λ place more. wrap place (token x ∷ more)) Second F (f x) (λ q. g q x))
       → ((input : Input) (tail : Trees) (x : A) → of input.rest ≡ Some x → Second (next input).rest tail → G input.rest (token x ∷ tail)) → Rest Ok bare print wrap G F (take_as of >>= f) (λ q. take_as of >>= g q)
   unfolding next
-  take_as-rest of token sees h starts = record { of = λ input after found e. by input after found (of input.rest) refl e }
+  take_as-rest of token peek h starts = record { of = λ input after found e. by input after found (of input.rest) refl e }
     where
       by : (input after : Input) (found : B) (o : Option A) → of input.rest ≡ o → and_then (taken o (next input)) f ≡ Some (found, after) → Gives Ok bare print wrap (G input.rest) (F after.rest) (λ q. take_as of >>= g q) found
       by input after found None is e = absurd cc
@@ -160,7 +161,7 @@ module _ {A B D P Q : Type 0} {Ok : Q → Type 0} {bare : B → D} {print : B �
             is = two.is;
             again = λ q ok tail last f.
                 let more = two.again q ok tail (span_of (token x)) f in
-                record { value = more.value; new = more.new; is = rw (sees input.rest (two.tokens ++ tail) x is) more.is; same = more.same };
+                record { value = more.value; new = more.new; is = rw (peek input.rest (two.tokens ++ tail) x is) more.is; same = more.same };
             first = λ tail f. starts input (two.tokens ++ tail) x is (two.first tail f);
           }
 
@@ -172,7 +173,7 @@ module _ {A B D P Q : Type 0} {Ok : Q → Type 0} {bare : B → D} {print : B �
       → ((input : Input) (tail : Trees) (x : A) → of input.rest ≡ Some x → Second (Some x) (next input).rest tail → G input.rest (token x ∷ tail))
       → ((rest tail : Trees) → of rest ≡ None → Second None rest tail → (of tail ≡ None) × G rest tail) → Rest Ok bare print wrap G F (eat_as of >>= f) (λ q. eat_as of >>= g q)
   unfolding next
-  eat_as-rest of print₁ token empty one sees h starts stays = record { of = λ input after found e. by input after found (of input.rest) refl e }
+  eat_as-rest of print₁ token empty one peek h starts stays = record { of = λ input after found e. by input after found (of input.rest) refl e }
     where
       by : (input after : Input) (found : B) (o : Option A) → of input.rest ≡ o → f o (after_found o input) ≡ Some (found, after) → Gives Ok bare print wrap (G input.rest) (F after.rest) (λ q. eat_as of >>= g q) found
       by input after found None is e =
@@ -194,7 +195,7 @@ module _ {A B D P Q : Type 0} {Ok : Q → Type 0} {bare : B → D} {print : B �
             is = two.is ∙ rw (one x) refl;
             again = λ q ok tail last f.
                 let more = two.again q ok tail (span_of (token x)) f in
-                record { value = more.value; new = more.new; is = rw (sees input.rest (two.tokens ++ tail) x is) more.is; same = more.same };
+                record { value = more.value; new = more.new; is = rw (peek input.rest (two.tokens ++ tail) x is) more.is; same = more.same };
             first = λ tail f. starts input (two.tokens ++ tail) x is (two.first tail f);
           }
 
@@ -202,14 +203,14 @@ module _ {A B D P Q : Type 0} {Ok : Q → Type 0} {bare : B → D} {print : B �
 pub take_as-printed : {A : Type 0} {G F : Relation} (of : Trees → Option A) (token : A → TokenTree) → ((rest tail : Trees) (x : A) → of rest ≡ Some x → of (token x ∷ tail) ≡ Some x)
     → ((input : Input) (tail : Trees) (x : A) → of input.rest ≡ Some x → F (next input).rest tail → G input.rest (token x ∷ tail)) → Printed (λ (it : A). it) (λ x. token x ∷ []) G F (take_as of) (take_as of)
 unfolding next
-take_as-printed {A} {G} {F} of token sees starts = record { of = λ input after found e. by input after found (of input.rest) refl e }
+take_as-printed {A} {G} {F} of token peek starts = record { of = λ input after found e. by input after found (of input.rest) refl e }
   where
     by : (input after : Input) (found : A) (o : Option A) → of input.rest ≡ o → taken o (next input) ≡ Some (found, after) → Reads (λ (it : A). it) (G input.rest) (F after.rest) (take_as of) (token found ∷ []) found
     by input after found None is e = absurd cc
     by input after found (Some x) is e =
         let both = some_pair_parts x found (next input) after e in
         rw (← both.0) (record {
-          again = λ tail last f. record { value = x; new = span_of (token x); is = rw (sees input.rest tail x is) refl; same = refl };
+          again = λ tail last f. record { value = x; new = span_of (token x); is = rw (peek input.rest tail x is) refl; same = refl };
           first = λ tail f. starts input tail x is (rw both.1 f);
         })
 

@@ -12,20 +12,20 @@ use Rattle.syn_grammar.specs.Make as make
 use Rattle.syn_grammar.specs.Readers.{Readers, any_level}
 use Rattle.syn_grammar.specs.Token.{ident_of, is_colon, is_equals, is_group, is_joint, is_pair, is_semicolon, lifetime_of, mark_of}
 use Rattle.syn_grammar.specs.Types.{type_bracket, type_in_brackets, type_reference, type_pointer, type_trait_object, type_impl_trait, type_path, type_qualified, type_group, type_in_parentheses, type_by, type_step}
-use Rattle.syn_grammar.specs.Words.{is_name, named_words, next_word, other_keywords, sees, word_of}
+use Rattle.syn_grammar.specs.Words.{is_name, named_words, next_word, other_keywords, peek, word_of}
 use Rattle.print_core.specs.Marks.{Trees, group, lifetime, mark, optional, tuple, word as printed_word}
 use Rattle.print_core.specs.Nodes.{type_tokens}
-use Rattle.law_spans.specs.Bare.{bare_type}
+use Rattle.law_spans.specs.Erased.{erased_type}
 use Rattle.law_spans.proofs.Made.{bare_type-Tuple, bare_type-Paren, bare_type-Ptr, bare_type-TraitObject, bare_type-ImplTrait, bare_type-Path, bare_type_path-make, bare_type-Never, bare_type-Infer, bare_type-Array, bare_array-make, bare_type-Slice, bare_type-Reference}
-use Rattle.law_prefix.specs.Alike.{Relation, Any}
+use Rattle.law_prefix.specs.SameLookahead.{Relation, Any}
 use Rattle.law_round_trip.specs.Follow.{AfterType, BeginsType, KeepsName, NotEnded, name_before}
-use Rattle.law_round_trip.specs.Printed.{Back}
+use Rattle.law_round_trip.specs.Printed.{RoundTrips}
 use Rattle.law_round_trip.proofs.Bounds.{bounds-back}
 use Rattle.law_round_trip.proofs.Follows.{never, path-seen, type-end, type_before-mark, type-seen, unnamed, looser-end, no-semicolon, one_bound, Unliving}
 use Rattle.law_round_trip.proofs.Functions.{type_fn_ptr-back}
 use Rattle.law_round_trip.proofs.Groups.{inner-rest, tuple-long, tuple-single}
 use Rattle.law_round_trip.proofs.Marks.{mark_of-mark, is_group-mark, next_word-mark, mark-length, word-length, sees-mut, lifetime_of-Lifetime, lifetime_of-word, next_word-group, no-group, out-Ident, sees-const}
-use Rattle.law_round_trip.specs.Parts.{AllBacks}
+use Rattle.law_round_trip.specs.Parts.{AllRoundTrip}
 use Rattle.law_round_trip.proofs.Paths.{path-back}
 use Rattle.law_round_trip.proofs.Prints.{print-tuple, print-paren, print-type_qualified, print-impl_trait, print-infer, print-never, print-ptr, print-trait_object, print-type_path, print-array, print-reference, print-slice}
 use Rattle.law_round_trip.proofs.Qualified.{Pair, qualified-back}
@@ -84,10 +84,10 @@ infer-begin : (rest tail : Trees) (span : Span) → Begin begin.Infer rest (prin
 unfolding word_of named_words other_keywords
 infer-begin rest tail span = word-begin (codes "_") begin.Infer rest tail span refl refl
 
-module _ (readers : Readers) (parts : AllBacks readers) where
-  type_in_brackets-back : (many : Bool) → Back bare_type type_tokens (Begin begin.Bracket) (AfterType many) (type_in_brackets readers)
+module _ (readers : Readers) (parts : AllRoundTrip readers) where
+  type_in_brackets-back : (allow_plus : Bool) → RoundTrips erased_type type_tokens (Begin begin.Bracket) (AfterType allow_plus) (type_in_brackets readers)
   unfolding type_in_brackets type_bracket
-  type_in_brackets-back many = whole (here-rest (λ span. inside-rest {Inner = Any} delimiter.Bracket (λ (place : Unit {0}). span)
+  type_in_brackets-back allow_plus = whole (here-rest (λ span. inside-rest {Inner = Any} delimiter.Bracket (λ (place : Unit {0}). span)
       (then-rest {Second = AfterType true} (λ place. parts.ty true) (λ elem. eat_or-rest {Yes = Any} {No = AtEnd} 1 is_semicolon (λ place. mark (codes ";") span) (λ place. mark-length (codes ";") span) (λ place tail. rw (mark_of-mark 59 [] span tail) refl)
       (then-rest {Second = AtEnd} (λ place. parts.expr any_level) (λ len. pure-rest tt (make.type_array elem len span) (λ q. make.type_array q.0.1 q.1 q.0.0.1)
       (rw (print-array, append-nil, append_assoc) refl) (λ q ok. rw (bare_type-Array, bare_type-Array, bare_array-make, bare_array-make, ok.0.1, ok.1) refl))
@@ -98,14 +98,14 @@ module _ (readers : Readers) (parts : AllBacks readers) where
       (λ rest tail f. f) (λ rest tail f. tt))
       (λ rest inner tail span seen f. brackets-begin rest inner tail span)))
 
-  type_reference-back : (many : Bool) → Back bare_type type_tokens (Begin begin.Reference) (AfterType many) (type_reference readers)
+  type_reference-back : (allow_plus : Bool) → RoundTrips erased_type type_tokens (Begin begin.Reference) (AfterType allow_plus) (type_reference readers)
   unfolding type_reference
-  type_reference-back many = whole (here-rest (λ start. skip-rest {Second = Any} (λ place. mark (codes "&") place) (mark-length (codes "&"))
+  type_reference-back allow_plus = whole (here-rest (λ start. skip-rest {Second = Any} (λ place. mark (codes "&") place) (mark-length (codes "&"))
       (eat_as-rest {Second = λ o. Unliving} lifetime_of (λ o. optional (option_map lifetime o)) tree.Lifetime refl (λ it. refl) (λ rest tail it is. lifetime_of-Lifetime it tail) (λ it.
-      eat-rest {Second = λ b. BeginsType} 1 (sees word.Mut) (λ place. printed_word (codes "mut") place) (word-length (codes "mut")) (λ place tail. rw (sees-mut place tail) refl) (λ mutable.
-      then-rest {Second = AfterType many} (λ place. parts.ty false) (λ elem. close-rest start (λ q. q.0.1) (make.type_reference it mutable elem) (λ q. make.type_reference it mutable q.1)
+      eat-rest {Second = λ b. BeginsType} 1 (peek word.Mut) (λ place. printed_word (codes "mut") place) (word-length (codes "mut")) (λ place tail. rw (sees-mut place tail) refl) (λ mutable.
+      then-rest {Second = AfterType allow_plus} (λ place. parts.ty false) (λ elem. close-rest start (λ q. q.0.1) (make.type_reference it mutable elem) (λ q. make.type_reference it mutable q.1)
       (λ span. rw (print-reference, append-nil, append_assoc, append_assoc) refl) (λ span other q ok. rw (bare_type-Reference, bare_type-Reference, ok.1) refl))
-      (λ rest tail f. one_bound many rest tail f) (λ rest tail f. f))
+      (λ rest tail f. one_bound allow_plus rest tail f) (λ rest tail f. f))
       (λ input tail place seen f. lifetime_of-word (codes "mut") place tail)
       (λ rest tail seen f. ((type-seen tail f.0).mutable, (type-seen tail f.0).lifetime)))
       (λ input tail it is f. tt) (λ rest tail none f. (f, tt)))
@@ -114,75 +114,75 @@ module _ (readers : Readers) (parts : AllBacks readers) where
   -- ---- pointers
 
   abbrev pointer_rest : Bool → Parser (Unit {0})
-  pointer_rest mutable = if mutable then pure tt else expect 1 (sees word.Const)
+  pointer_rest mutable = if mutable then pure tt else expect 1 (peek word.Const)
 
-  pointer_by : (many : Bool) (start : Span) (mutable : Bool)
-      → Rest {P = Span} {Q = Unit {0} × Span} (λ q. Unit {0}) bare_type type_tokens (λ place more. mark (codes "*") place ++ ((if mutable then printed_word (codes "mut") place else []) ++ more)) (λ rest tail. mutable ≡ false → sees word.Mut tail ≡ false) (AfterType many)
+  pointer_by : (allow_plus : Bool) (start : Span) (mutable : Bool)
+      → Rest {P = Span} {Q = Unit {0} × Span} (λ q. Unit {0}) erased_type type_tokens (λ place more. mark (codes "*") place ++ ((if mutable then printed_word (codes "mut") place else []) ++ more)) (λ rest tail. mutable ≡ false → peek word.Mut tail ≡ false) (AfterType allow_plus)
       (pointer_rest mutable >>= (λ constant. readers.ty false >>= (λ elem. upto start >>= (λ span. pure (make.type_ptr mutable elem span)))))
       (λ q. pointer_rest mutable >>= (λ constant. readers.ty false >>= (λ elem. upto q.1 >>= (λ span. pure (make.type_ptr mutable elem span)))))
-  pointer_by many start true = then-rest {Second = AfterType many} (λ place. parts.ty false) (λ elem. close-rest start (λ q. q.0.1) (make.type_ptr true elem) (λ q. make.type_ptr true q.1)
+  pointer_by allow_plus start true = then-rest {Second = AfterType allow_plus} (λ place. parts.ty false) (λ elem. close-rest start (λ q. q.0.1) (make.type_ptr true elem) (λ q. make.type_ptr true q.1)
       (λ span. rw (print-ptr, append-nil, append_assoc) refl) (λ span other q ok. rw (bare_type-Ptr, bare_type-Ptr, ok.1) refl))
-      (λ rest tail f. one_bound many rest tail f) (λ rest tail f h. absurd cc)
-  pointer_by many start false = expect-rest {Second = BeginsType} 1 (sees word.Const) (λ place. printed_word (codes "const") place) (word-length (codes "const")) (λ place tail. rw (sees-const place tail) refl)
-      (then-rest {Second = AfterType many} (λ place. parts.ty false) (λ elem. close-rest start (λ q. q.0.1) (make.type_ptr false elem) (λ q. make.type_ptr false q.1)
+      (λ rest tail f. one_bound allow_plus rest tail f) (λ rest tail f h. absurd cc)
+  pointer_by allow_plus start false = expect-rest {Second = BeginsType} 1 (peek word.Const) (λ place. printed_word (codes "const") place) (word-length (codes "const")) (λ place tail. rw (sees-const place tail) refl)
+      (then-rest {Second = AfterType allow_plus} (λ place. parts.ty false) (λ elem. close-rest start (λ q. q.0.1) (make.type_ptr false elem) (λ q. make.type_ptr false q.1)
       (λ span. rw (print-ptr, append-nil, append_assoc) refl) (λ span other q ok. rw (bare_type-Ptr, bare_type-Ptr, ok.1) refl))
-      (λ rest tail f. one_bound many rest tail f) (λ rest tail f. f))
+      (λ rest tail f. one_bound allow_plus rest tail f) (λ rest tail f. f))
       (λ input tail place seen f h. rw (sees-const place tail) refl)
 
-  type_pointer-back : (many : Bool) → Back bare_type type_tokens (Begin begin.Pointer) (AfterType many) (type_pointer readers)
+  type_pointer-back : (allow_plus : Bool) → RoundTrips erased_type type_tokens (Begin begin.Pointer) (AfterType allow_plus) (type_pointer readers)
   unfolding type_pointer
-  type_pointer-back many = whole (here-rest (λ start. skip-rest {Second = Any} (λ place. mark (codes "*") place) (mark-length (codes "*"))
-      (eat-rest {Second = λ mutable rest tail. mutable ≡ false → sees word.Mut tail ≡ false} 1 (sees word.Mut) (λ place. printed_word (codes "mut") place) (word-length (codes "mut")) (λ place tail. rw (sees-mut place tail) refl) (pointer_by many start)
+  type_pointer-back allow_plus = whole (here-rest (λ start. skip-rest {Second = Any} (λ place. mark (codes "*") place) (mark-length (codes "*"))
+      (eat-rest {Second = λ mutable rest tail. mutable ≡ false → peek word.Mut tail ≡ false} 1 (peek word.Mut) (λ place. printed_word (codes "mut") place) (word-length (codes "mut")) (λ place tail. rw (sees-mut place tail) refl) (pointer_by allow_plus start)
       (λ input tail place seen f. tt) (λ rest tail seen f. (f refl, tt)))
       (λ input tail place f. star-begin input.rest tail place)))
 
   -- ---- bounds, paths, and single tokens
 
-  type_trait_object-back : (many : Bool) → Back bare_type type_tokens (Begin begin.TraitObject) (AfterType many) (type_trait_object readers many)
+  type_trait_object-back : (allow_plus : Bool) → RoundTrips erased_type type_tokens (Begin begin.TraitObject) (AfterType allow_plus) (type_trait_object readers allow_plus)
   unfolding type_trait_object
-  type_trait_object-back many = whole (here-rest (λ start. skip-rest {Second = NotEnded} (λ place. printed_word (codes "dyn") place) (word-length (codes "dyn"))
-      (then-rest {Second = AfterType many} (λ place. bounds-back readers parts many place) (λ found. close-rest start (λ q. q.0.1) (make.type_trait_object found) (λ q. make.type_trait_object q.1)
+  type_trait_object-back allow_plus = whole (here-rest (λ start. skip-rest {Second = NotEnded} (λ place. printed_word (codes "dyn") place) (word-length (codes "dyn"))
+      (then-rest {Second = AfterType allow_plus} (λ place. bounds-back readers parts allow_plus place) (λ found. close-rest start (λ q. q.0.1) (make.type_trait_object found) (λ q. make.type_trait_object q.1)
       (λ span. rw (print-trait_object, append-nil) refl) (λ span other q ok. rw (bare_type-TraitObject, bare_type-TraitObject, ok.1) refl))
       (λ rest tail f. f) (λ rest tail f. f))
       (λ input tail place f. dyn-begin input.rest tail place)))
 
-  type_impl_trait-back : (many : Bool) → Back bare_type type_tokens (Begin begin.ImplTrait) (AfterType many) (type_impl_trait readers many)
+  type_impl_trait-back : (allow_plus : Bool) → RoundTrips erased_type type_tokens (Begin begin.ImplTrait) (AfterType allow_plus) (type_impl_trait readers allow_plus)
   unfolding type_impl_trait
-  type_impl_trait-back many = whole (here-rest (λ start. skip-rest {Second = NotEnded} (λ place. printed_word (codes "impl") place) (word-length (codes "impl"))
-      (then-rest {Second = AfterType many} (λ place. bounds-back readers parts many place) (λ found. close-rest start (λ q. q.0.1) (make.type_impl_trait found) (λ q. make.type_impl_trait q.1)
+  type_impl_trait-back allow_plus = whole (here-rest (λ start. skip-rest {Second = NotEnded} (λ place. printed_word (codes "impl") place) (word-length (codes "impl"))
+      (then-rest {Second = AfterType allow_plus} (λ place. bounds-back readers parts allow_plus place) (λ found. close-rest start (λ q. q.0.1) (make.type_impl_trait found) (λ q. make.type_impl_trait q.1)
       (λ span. rw (print-impl_trait, append-nil) refl) (λ span other q ok. rw (bare_type-ImplTrait, bare_type-ImplTrait, ok.1) refl))
       (λ rest tail f. f) (λ rest tail f. f))
       (λ input tail place f. impl-begin input.rest tail place)))
 
-  type_path-back : (many : Bool) → Back bare_type type_tokens (Begin begin.Path) (AfterType many) (type_path readers)
+  type_path-back : (allow_plus : Bool) → RoundTrips erased_type type_tokens (Begin begin.Path) (AfterType allow_plus) (type_path readers)
   unfolding type_path
-  type_path-back many = whole (here-rest (λ start.
-      then-rest {Second = AfterType many} (λ (place : Span). path-back readers parts true) (λ found. close-rest start (λ q. q.0.1) (make.type_path None found) (λ q. make.type_path None q.1)
+  type_path-back allow_plus = whole (here-rest (λ start.
+      then-rest {Second = AfterType allow_plus} (λ (place : Span). path-back readers parts true) (λ found. close-rest start (λ q. q.0.1) (make.type_path None found) (λ q. make.type_path None q.1)
       (λ span. rw (print-type_path, append-nil) refl) (λ span other q ok. rw (bare_type-Path, bare_type-Path, bare_type_path-make, bare_type_path-make, ok.1) refl))
       (λ rest tail f. f.0) (λ rest tail f. ((path-seen tail f.0).start, f.1))))
 
-  type_never-back : (many : Bool) → Back bare_type type_tokens (Begin begin.Never) (AfterType many) (here >>= (λ span. skip >> pure (make.type_never span)))
-  type_never-back many = whole (here-rest (λ span. skip-rest {Second = AfterType many} (λ (place : Unit {0}). mark (codes "!") span) (λ place. mark-length (codes "!") span)
+  type_never-back : (allow_plus : Bool) → RoundTrips erased_type type_tokens (Begin begin.Never) (AfterType allow_plus) (here >>= (λ span. skip >> pure (make.type_never span)))
+  type_never-back allow_plus = whole (here-rest (λ span. skip-rest {Second = AfterType allow_plus} (λ (place : Unit {0}). mark (codes "!") span) (λ place. mark-length (codes "!") span)
       (pure-rest tt (make.type_never span) (λ q. make.type_never q.1) (rw (print-never, append-nil) refl) (λ q ok. rw (bare_type-Never, bare_type-Never) refl)) (λ input tail place f. bang-begin input.rest tail span)))
 
-  type_infer-back : (many : Bool) → Back bare_type type_tokens (Begin begin.Infer) (AfterType many) (here >>= (λ span. skip >> pure (make.type_infer span)))
-  type_infer-back many = whole (here-rest (λ span. skip-rest {Second = AfterType many} (λ (place : Unit {0}). printed_word (codes "_") span) (λ place. word-length (codes "_") span)
+  type_infer-back : (allow_plus : Bool) → RoundTrips erased_type type_tokens (Begin begin.Infer) (AfterType allow_plus) (here >>= (λ span. skip >> pure (make.type_infer span)))
+  type_infer-back allow_plus = whole (here-rest (λ span. skip-rest {Second = AfterType allow_plus} (λ (place : Unit {0}). printed_word (codes "_") span) (λ place. word-length (codes "_") span)
       (pure-rest tt (make.type_infer span) (λ q. make.type_infer q.1) (rw (print-infer, append-nil) refl) (λ q ok. rw (bare_type-Infer, bare_type-Infer) refl)) (λ input tail place f. infer-begin input.rest tail span)))
 
-  type_qualified-back : (many : Bool) → Back bare_type type_tokens (Begin begin.Qualified) (AfterType many) (type_qualified readers)
+  type_qualified-back : (allow_plus : Bool) → RoundTrips erased_type type_tokens (Begin begin.Qualified) (AfterType allow_plus) (type_qualified readers)
   unfolding type_qualified
-  type_qualified-back many = whole (here-rest (λ start.
-      then-rest {Second = AfterType many} (λ (place : Span). qualified-back readers parts true) (λ found. close-rest start (λ q. q.0.1) (make.type_path (Some found.0) found.1) (λ q. make.type_path (Some q.1.0) q.1.1)
+  type_qualified-back allow_plus = whole (here-rest (λ start.
+      then-rest {Second = AfterType allow_plus} (λ (place : Span). qualified-back readers parts true) (λ found. close-rest start (λ q. q.0.1) (make.type_path (Some found.0) found.1) (λ q. make.type_path (Some q.1.0) q.1.1)
       (λ span. rw (print-type_qualified, append-nil) refl)
       (λ span other q ok. rw (bare_type-Path, bare_type-Path, bare_type_path-make, bare_type_path-make, ap (λ (it : Pair). it.0) ok.1, ap (λ (it : Pair). it.1) ok.1) refl))
       (λ rest tail f. f.0) (λ rest tail f. f)))
 
   -- ---- parentheses
 
-  type_in_parentheses-back : (many : Bool) → Back bare_type type_tokens (Begin begin.Parenthesis) (AfterType many) (type_in_parentheses readers)
+  type_in_parentheses-back : (allow_plus : Bool) → RoundTrips erased_type type_tokens (Begin begin.Parenthesis) (AfterType allow_plus) (type_in_parentheses readers)
   unfolding type_in_parentheses type_group
-  type_in_parentheses-back many = whole (here-rest (λ span. inside-rest {Inner = Any} delimiter.Parenthesis (λ (place : Unit {0}). span)
-      (inner-rest bare_type type_tokens (readers.ty true) (parts.ty true) (λ rest tail f. (type-seen tail f.0).some) (type-end true) (λ rest tail span. type_before-mark 44 refl refl refl refl span rest tail true)
+  type_in_parentheses-back allow_plus = whole (here-rest (λ span. inside-rest {Inner = Any} delimiter.Parenthesis (λ (place : Unit {0}). span)
+      (inner-rest erased_type type_tokens (readers.ty true) (parts.ty true) (λ rest tail f. (type-seen tail f.0).some) (type-end true) (λ rest tail span. type_before-mark 44 refl refl refl refl span rest tail true)
       delimiter.Parenthesis tuple (λ span. refl) tuple-long make.type_tuple make.type_paren (inl tuple-single) print-tuple print-paren
       (λ one two span other same. rw (bare_type-Tuple, bare_type-Tuple, same) refl) (λ one two span other same. rw (bare_type-Paren, bare_type-Paren, same) refl) span)
       (λ rest inner tail span' seen f. group-begin rest inner tail span')))
@@ -194,19 +194,19 @@ module _ (readers : Readers) (parts : AllBacks readers) where
   Begun begin.Nothing = λ rest tail. ⊥
   Begun begins = Begin begins
 
-  type_by-rest : (many : Bool) (begins : TypeStart) → Rest {P = Unit {0}} {Q = Unit {0}} Free bare_type type_tokens hole (Begun begins) (AfterType many) (type_by readers many begins) (λ q. type_by readers many begins)
-  type_by-rest many begin.Parenthesis = shown-rest tt (λ it. refl) (type_in_parentheses-back many)
-  type_by-rest many begin.Bracket = shown-rest tt (λ it. refl) (type_in_brackets-back many)
-  type_by-rest many begin.Never = shown-rest tt (λ it. refl) (type_never-back many)
-  type_by-rest many begin.Infer = shown-rest tt (λ it. refl) (type_infer-back many)
-  type_by-rest many begin.Reference = shown-rest tt (λ it. refl) (type_reference-back many)
-  type_by-rest many begin.Pointer = shown-rest tt (λ it. refl) (type_pointer-back many)
-  type_by-rest many begin.FnPtr = shown-rest tt (λ it. refl) (type_fn_ptr-back readers parts many)
-  type_by-rest many begin.TraitObject = shown-rest tt (λ it. refl) (type_trait_object-back many)
-  type_by-rest many begin.ImplTrait = shown-rest tt (λ it. refl) (type_impl_trait-back many)
-  type_by-rest many begin.Qualified = shown-rest tt (λ it. refl) (type_qualified-back many)
-  type_by-rest many begin.Path = shown-rest tt (λ it. refl) (type_path-back many)
-  type_by-rest many begin.Nothing = refuse-rest
+  type_by-rest : (allow_plus : Bool) (begins : TypeStart) → Rest {P = Unit {0}} {Q = Unit {0}} Free erased_type type_tokens hole (Begun begins) (AfterType allow_plus) (type_by readers allow_plus begins) (λ q. type_by readers allow_plus begins)
+  type_by-rest allow_plus begin.Parenthesis = shown-rest tt (λ it. refl) (type_in_parentheses-back allow_plus)
+  type_by-rest allow_plus begin.Bracket = shown-rest tt (λ it. refl) (type_in_brackets-back allow_plus)
+  type_by-rest allow_plus begin.Never = shown-rest tt (λ it. refl) (type_never-back allow_plus)
+  type_by-rest allow_plus begin.Infer = shown-rest tt (λ it. refl) (type_infer-back allow_plus)
+  type_by-rest allow_plus begin.Reference = shown-rest tt (λ it. refl) (type_reference-back allow_plus)
+  type_by-rest allow_plus begin.Pointer = shown-rest tt (λ it. refl) (type_pointer-back allow_plus)
+  type_by-rest allow_plus begin.FnPtr = shown-rest tt (λ it. refl) (type_fn_ptr-back readers parts allow_plus)
+  type_by-rest allow_plus begin.TraitObject = shown-rest tt (λ it. refl) (type_trait_object-back allow_plus)
+  type_by-rest allow_plus begin.ImplTrait = shown-rest tt (λ it. refl) (type_impl_trait-back allow_plus)
+  type_by-rest allow_plus begin.Qualified = shown-rest tt (λ it. refl) (type_qualified-back allow_plus)
+  type_by-rest allow_plus begin.Path = shown-rest tt (λ it. refl) (type_path-back allow_plus)
+  type_by-rest allow_plus begin.Nothing = refuse-rest
 
   begun : (begins : TypeStart) (rest tail : Trees) → type_start rest ≡ begins → Begun begins rest tail → (type_start tail ≡ begins) × BeginsType rest tail
   begun begin.Parenthesis rest tail is f = (f.0, (rw (f.0) refl, f.1))
@@ -222,11 +222,11 @@ module _ (readers : Readers) (parts : AllBacks readers) where
   begun begin.Path rest tail is f = (f.0, (rw (f.0) refl, f.1))
   begun begin.Nothing rest tail is f = absurd f
 
-  pub type_step-back : (many : Bool) → Back bare_type type_tokens BeginsType (AfterType many) (type_step readers many)
+  pub type_step-back : (allow_plus : Bool) → RoundTrips erased_type type_tokens BeginsType (AfterType allow_plus) (type_step readers allow_plus)
   unfolding type_step
-  type_step-back many = whole (test-rest {by = Begun} type_start (type_by-rest many) (λ begins rest tail is f. begun begins rest tail is f))
+  type_step-back allow_plus = whole (test-rest {by = Begun} type_start (type_by-rest allow_plus) (λ begins rest tail is f. begun begins rest tail is f))
 
   -- a type begins as the source's did
-  pub type_start-back : (many : Bool) → Back bare_type type_tokens (λ rest tail. type_start tail ≡ type_start rest) (AfterType many) (type_step readers many)
+  pub type_start-back : (allow_plus : Bool) → RoundTrips erased_type type_tokens (λ rest tail. type_start tail ≡ type_start rest) (AfterType allow_plus) (type_step readers allow_plus)
   unfolding type_step
-  type_start-back many = whole (test-rest {by = Begun} type_start (type_by-rest many) (λ begins rest tail is f. let begin = begun begins rest tail is f in (begin.0, begin.0 ∙ sym is)))
+  type_start-back allow_plus = whole (test-rest {by = Begun} type_start (type_by-rest allow_plus) (λ begins rest tail is f. let begin = begun begins rest tail is f in (begin.0, begin.0 ∙ sym is)))

@@ -15,12 +15,12 @@ use Rattle.print_core.specs.declared.path.PathStyle.TheVariants.{Plain}
 use Rattle.print_core.specs.Items.{fn_arg_tokens}
 use Rattle.print_core.specs.Marks.{Trees, comma, ident}
 use Rattle.print_core.specs.Nodes.{expr_tokens, path_tokens, type_tokens}
-use Rattle.law_spans.specs.Bare.{bare_expr, bare_fn_arg, bare_ident, bare_path, bare_type}
-use Rattle.law_prefix.specs.Alike.{Relation, Any}
-use Rattle.law_prefix.specs.Front.{at}
+use Rattle.law_spans.specs.Erased.{erased_expr, erased_fn_arg, erased_ident, erased_path, erased_type}
+use Rattle.law_prefix.specs.SameLookahead.{Relation, Any}
+use Rattle.law_prefix.specs.ReadsByPrefix.{at}
 use Rattle.law_round_trip.specs.Follow.{NotEnded, begins_expr}
-use Rattle.law_round_trip.specs.Parts.{AllBacks}
-use Rattle.law_round_trip.specs.Printed.{Back, ReadBack, separated}
+use Rattle.law_round_trip.specs.Parts.{AllRoundTrip}
+use Rattle.law_round_trip.specs.Printed.{RoundTrips, ReadBack, separated}
 use Rattle.law_round_trip.proofs.AtomStarts.{expr-some}
 use Rattle.law_round_trip.proofs.FnArgs.{fn_arg-back}
 use Rattle.law_round_trip.proofs.Streams.{contents-stream}
@@ -41,7 +41,7 @@ all-parts {A} (Some pair) found e = by pair.1.rest refl e
     by [] is e = (pair.1.last, ap (λ rest. Some (pair.0, at rest pair.1.last)) is ∙ ap (λ value. Some (value, at [] pair.1.last)) (same_Some pair.0 found e))
     by (tree ∷ trees) is e = absurd cc
 
-pub all-again : {A B : Type 0} {bare : A → B} {print : A → Trees} {G F : Relation} {parser : Parser A} → Back bare print G F parser → F [] [] → (trees : Trees) (found : A) → all (parser (start_of trees)) ≡ Some found
+pub all-again : {A B : Type 0} {bare : A → B} {print : A → Trees} {G F : Relation} {parser : Parser A} → RoundTrips bare print G F parser → F [] [] → (trees : Trees) (found : A) → all (parser (start_of trees)) ≡ Some found
     → (value : A) × (all (parser (start_of (print found))) ≡ Some value) × (bare value ≡ bare found)
 all-again {A} {B} {bare} {print} {G} {F} {parser} rule ends trees found e =
     let source = all-parts (parser (start_of trees)) found e in
@@ -51,14 +51,14 @@ all-again {A} {B} {bare} {print} {G} {F} {parser} rule ends trees found e =
     (more.value, rw reads refl, more.same)
 
 -- what the printing begins with
-pub all-first : {A B : Type 0} {bare : A → B} {print : A → Trees} {G F : Relation} {parser : Parser A} → Back bare print G F parser → F [] [] → (trees : Trees) (found : A) → all (parser (start_of trees)) ≡ Some found → G trees (print found)
+pub all-first : {A B : Type 0} {bare : A → B} {print : A → Trees} {G F : Relation} {parser : Parser A} → RoundTrips bare print G F parser → F [] [] → (trees : Trees) (found : A) → all (parser (start_of trees)) ≡ Some found → G trees (print found)
 all-first {A} {B} {bare} {print} {G} {F} {parser} rule ends trees found e =
     let source = all-parts (parser (start_of trees)) found e in
     let one = rule.of (start_of trees) (at [] source.0) found source.1 in
     rw append-nil at (one.first [] ends)
 
 -- a rule that nothing has to follow
-pub whole-back : {A B : Type 0} {bare : A → B} {print : A → Trees} {G F : Relation} {parser : Parser A} → F [] [] → Back bare print G F parser → ReadBack bare print (whole parser)
+pub whole-back : {A B : Type 0} {bare : A → B} {print : A → Trees} {G F : Relation} {parser : Parser A} → F [] [] → RoundTrips bare print G F parser → ReadBack bare print (whole parser)
 whole-back {print = print} ends rule = record {
   of = λ tokens tree e.
       let again = all-again rule ends (out-TokenStream tokens).trees tree e in
@@ -66,12 +66,12 @@ whole-back {print = print} ends rule = record {
 }
 
 -- a list with commas
-pub list-back : {A B : Type 0} {bare : A → B} {print : A → Trees} {G F : Relation} {item : Parser A} → Back bare print G F item → ((rest tail : Trees) → G rest tail → is_end tail ≡ false) → ((rest : Trees) → F rest [])
+pub list-back : {A B : Type 0} {bare : A → B} {print : A → Trees} {G F : Relation} {item : Parser A} → RoundTrips bare print G F item → ((rest tail : Trees) → G rest tail → is_end tail ≡ false) → ((rest : Trees) → F rest [])
     → ((rest tail : Trees) (span : Span) → F rest (comma span ++ tail)) → ReadBack (map bare) (separated print) (whole (list item))
 list-back {bare = bare} {print = print} {item = item} rule starts ends commas = whole-back refl (items-printed bare print item item rule starts ends commas CallSite)
 
 -- what is read exactly is read as the same without its places
-exactly : {A B : Type 0} (bare : A → B) {print : A → Trees} {G F : Relation} {parser : Parser A} → Back (λ (it : A). it) print G F parser → Back bare print G F parser
+exactly : {A B : Type 0} (bare : A → B) {print : A → Trees} {G F : Relation} {parser : Parser A} → RoundTrips (λ (it : A). it) print G F parser → RoundTrips bare print G F parser
 exactly bare h = record {
   of = λ input after found e.
       let one = h.of input after found e in
@@ -81,14 +81,14 @@ exactly bare h = record {
       };
 }
 
-pub name-back : Back bare_ident ident NotEnded Any (take_as name_of)
-name-back = exactly bare_ident (take_as-printed name_of tree.Ident (λ rest tail it is. name_of-Ident rest tail it is) (λ input tail it is f. refl))
+pub name-back : RoundTrips erased_ident ident NotEnded Any (take_as name_of)
+name-back = exactly erased_ident (take_as-printed name_of tree.Ident (λ rest tail it is. name_of-Ident rest tail it is) (λ input tail it is f. refl))
 
-pub ident_of-back : ReadBack bare_ident ident ident_of
+pub ident_of-back : ReadBack erased_ident ident ident_of
 unfolding ident_of
 ident_of-back = whole-back tt name-back
 
-pub idents_of-back : ReadBack (map bare_ident) (separated ident) idents_of
+pub idents_of-back : ReadBack (map erased_ident) (separated ident) idents_of
 unfolding idents_of
 idents_of-back = list-back name-back (λ rest tail f. f) (λ rest. tt) (λ rest tail span. tt)
 
@@ -96,27 +96,27 @@ idents_of-back = list-back name-back (λ rest tail f. f) (λ rest. tt) (λ rest 
 pub any-some : (tail : Trees) → begins_expr any_level tail ≡ true → is_end tail ≡ false
 any-some = expr-some any_level
 
-module _ (parts : AllBacks (within max_depth)) where
-  pub type_of-back : ReadBack bare_type type_tokens type_of
+module _ (parts : AllRoundTrip (within max_depth)) where
+  pub type_of-back : ReadBack erased_type type_tokens type_of
   unfolding type_of
   type_of-back = whole-back (type-end true []) (parts.ty true)
 
-  pub path_of-back : ReadBack bare_path (path_tokens Plain) path_of
+  pub path_of-back : ReadBack erased_path (path_tokens Plain) path_of
   unfolding path_of
   path_of-back = whole-back (type-end false []).0 (path-back (within max_depth) parts true)
 
-  pub paths_of-back : ReadBack (map bare_path) (separated (path_tokens Plain)) paths_of
+  pub paths_of-back : ReadBack (map erased_path) (separated (path_tokens Plain)) paths_of
   unfolding paths_of
   paths_of-back = list-back (path-back (within max_depth) parts true) (λ rest tail f. (path-seen tail f.0).some) (λ rest. (type-end false rest).0) (λ rest tail span. (type_before-mark 44 refl refl refl refl span rest tail false).0)
 
-  pub fn_args_of-back : ReadBack (map bare_fn_arg) (separated fn_arg_tokens) fn_args_of
+  pub fn_args_of-back : ReadBack (map erased_fn_arg) (separated fn_arg_tokens) fn_args_of
   unfolding fn_args_of
   fn_args_of-back = list-back (fn_arg-back (within max_depth) parts) (λ rest tail f. f) (type-end true) (λ rest tail span. type_before-mark 44 refl refl refl refl span rest tail true)
 
-  pub expr_of-back : ReadBack bare_expr expr_tokens expr_of
+  pub expr_of-back : ReadBack erased_expr expr_tokens expr_of
   unfolding expr_of
   expr_of-back = whole-back (expr-end any_level []) (parts.expr any_level)
 
-  pub exprs_of-back : ReadBack (map bare_expr) (separated expr_tokens) exprs_of
+  pub exprs_of-back : ReadBack (map erased_expr) (separated expr_tokens) exprs_of
   unfolding exprs_of
   exprs_of-back = list-back (parts.expr any_level) (λ rest tail f. any-some tail f.begins) (expr-end any_level) (expr_before-comma any_level)

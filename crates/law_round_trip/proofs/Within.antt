@@ -8,24 +8,24 @@ use Rattle.syn_grammar.specs.Depth.{bound_depth, deepest, expr_depth, type_depth
 use Rattle.syn_grammar.specs.Grammar.{bounds_depth, kept, within}
 use Rattle.syn_grammar.specs.Input.{Input, Outcome, Parser, refuse}
 use Rattle.print_core.specs.Marks.{Trees}
-use Rattle.law_spans.specs.Bare.{bare_bound, bare_expr, bare_type}
+use Rattle.law_spans.specs.Erased.{erased_bound, erased_expr, erased_type}
 use Rattle.law_spans.proofs.Depths.{bound_depth-bare, expr_depth-bare, type_depth-bare}
-use Rattle.law_prefix.specs.Alike.{Relation}
-use Rattle.law_round_trip.specs.Printed.{Reads, Back}
+use Rattle.law_prefix.specs.SameLookahead.{Relation}
+use Rattle.law_round_trip.specs.Printed.{Reads, RoundTrips}
 use Rattle.law_prefix.proofs.Within.{within-fronts}
 use Rattle.law_round_trip.proofs.Blocks.{constant-back}
 use Rattle.law_round_trip.proofs.Bounds.{bounds-back}
 use Rattle.law_round_trip.proofs.Closures.{closure-back}
 use Rattle.law_round_trip.proofs.Postfixes.{postfixed-back}
 use Rattle.law_round_trip.proofs.Ranges.{expr_step-back}
-use Rattle.law_round_trip.specs.Parts.{AllBacks}
+use Rattle.law_round_trip.specs.Parts.{AllRoundTrip}
 use Rattle.law_round_trip.proofs.Types.{type_step-back}
 
-refuse-back : {A B : Type 0} {bare : A → B} {print : A → Trees} {G F : Relation} → Back bare print G F refuse
+refuse-back : {A B : Type 0} {bare : A → B} {print : A → Trees} {G F : Relation} → RoundTrips bare print G F refuse
 refuse-back = record { of = λ input after found e. absurd cc }
 
 -- what is no deeper than a limit, where the size does not see places
-kept-back : {A B : Type 0} {bare : A → B} {print : A → Trees} {G F : Relation} {p : Parser A} (size : A → ℕ) (limit : ℕ) → ((one two : A) → bare one ≡ bare two → size one ≡ size two) → Back bare print G F p → Back bare print G F (λ input. kept size limit (p input))
+kept-back : {A B : Type 0} {bare : A → B} {print : A → Trees} {G F : Relation} {p : Parser A} (size : A → ℕ) (limit : ℕ) → ((one two : A) → bare one ≡ bare two → size one ≡ size two) → RoundTrips bare print G F p → RoundTrips bare print G F (λ input. kept size limit (p input))
 kept-back {A} {B} {bare} {print} {G} {F} {p} size limit blind h = record { of = λ input after found e. by input after found (p input) refl e }
   where
     reads : (input after : Input) (found : A) → nat_le (size found) limit ≡ true → Reads bare (G input.rest) (F after.rest) p (print found) found → Reads bare (G input.rest) (F after.rest) (λ input. kept size limit (p input)) (print found) found
@@ -49,27 +49,27 @@ kept-back {A} {B} {bare} {print} {G} {F} {p} size limit blind h = record { of = 
 
 -- depths do not see places
 
-type-blind : (one two : Ty) → bare_type one ≡ bare_type two → type_depth one ≡ type_depth two
+type-blind : (one two : Ty) → erased_type one ≡ erased_type two → type_depth one ≡ type_depth two
 type-blind one two same = sym (type_depth-bare one) ∙ ap type_depth same ∙ type_depth-bare two
 
-expr-blind : (one two : Expr) → bare_expr one ≡ bare_expr two → expr_depth one ≡ expr_depth two
+expr-blind : (one two : Expr) → erased_expr one ≡ erased_expr two → expr_depth one ≡ expr_depth two
 expr-blind one two same = sym (expr_depth-bare one) ∙ ap expr_depth same ∙ expr_depth-bare two
 
-bound-depths : (found : List TypeParamBound) → map bound_depth (map bare_bound found) ≡ map bound_depth found
+bound-depths : (found : List TypeParamBound) → map bound_depth (map erased_bound found) ≡ map bound_depth found
 bound-depths [] = refl
 bound-depths (it ∷ found) = rw (bound_depth-bare it, bound-depths found) refl
 
-bounds-blind : (one two : List TypeParamBound) → map bare_bound one ≡ map bare_bound two → bounds_depth one ≡ bounds_depth two
+bounds-blind : (one two : List TypeParamBound) → map erased_bound one ≡ map erased_bound two → bounds_depth one ≡ bounds_depth two
 bounds-blind one two same = ap (λ depths. suc (deepest depths)) (sym (bound-depths one) ∙ ap (map bound_depth) same ∙ bound-depths two)
 
-pub within-backs : (depth : ℕ) → AllBacks (within depth)
+pub within-backs : (depth : ℕ) → AllRoundTrip (within depth)
 unfolding within
-within-backs zero = record { ty = λ many. refuse-back; expr = λ level. refuse-back; bounds = λ span. refuse-back }
+within-backs zero = record { ty = λ allow_plus. refuse-back; expr = λ level. refuse-back; bounds = λ span. refuse-back }
 within-backs (suc below) =
     let readers = within below in
     let parts = within-backs below in
     record {
-      ty = λ many. kept-back type_depth (suc below) type-blind (type_step-back readers parts many);
+      ty = λ allow_plus. kept-back type_depth (suc below) type-blind (type_step-back readers parts allow_plus);
       expr = λ level. kept-back expr_depth (suc below) expr-blind (expr_step-back readers parts (postfixed-back readers parts) (closure-back readers parts (within-fronts below)) (constant-back readers parts) level);
       bounds = λ span. kept-back bounds_depth (suc below) bounds-blind (bounds-back readers parts true span);
     }

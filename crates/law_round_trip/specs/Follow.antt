@@ -1,5 +1,6 @@
 -- What may follow what is printed, and what begins it, beside the tokens that the source had there.
 use Rattle.std.specs.Prelude.{◌≡◌, ℕ, ◌≤◌, Bool, true, false, ◌&&◌, ◌||◌, ◌==◌, if◌then◌else◌}
+use Rattle.tok_types.specs.Ascii.{greater}
 use Rattle.tok_types.specs.declared.tree.Delimiter.TheVariants as delimiter
 use Rattle.syn_grammar.specs.declared.look.AtomStart.{AtomStart}
 use Rattle.syn_grammar.specs.declared.look.OperandStart.TheVariants as start
@@ -13,8 +14,8 @@ use Rattle.syn_grammar.specs.Readers.{any_level, constant_level, range_level}
 use Rattle.syn_grammar.specs.Token.{after_one, is_arrow, is_colon, is_colons, is_dots, is_equals, is_group, is_less, is_mark, is_plus, is_turbofish}
 use Rattle.syn_grammar.specs.Words.{begins_segment, is_name, next_word}
 use Rattle.print_core.specs.Marks.{Trees}
-use Rattle.law_prefix.specs.Alike.{Relation, Any}
-use Rattle.law_prefix.specs.Closures.{AlikeBodies}
+use Rattle.law_prefix.specs.SameLookahead.{Relation, Any}
+use Rattle.law_prefix.specs.Closures.{SameLookaheadOfBodies}
 
 -- the printed tokens have this only where the source had it
 abbrev pub Keep : (Trees → Bool) → Relation
@@ -56,7 +57,7 @@ KeepsMarks false rest tail = Unit {0}
 
 -- some token, and no `>` (62)
 abbrev pub Open : Relation
-Open rest tail = (is_end tail ≡ false) × (is_mark 62 tail ≡ false)
+Open rest tail = (is_end tail ≡ false) × (is_mark greater tail ≡ false)
 
 abbrev pub BeginsSegment : Bool → Relation
 BeginsSegment in_type rest tail = (begins_segment (next_word tail) ≡ true) × KeepsName in_type rest tail
@@ -79,7 +80,7 @@ Plus false = Any
 
 -- a type with several bounds goes on with `+`
 abbrev pub AfterType : Bool → Relation
-AfterType many rest tail = AfterPath true rest tail × Plus many rest tail
+AfterType allow_plus rest tail = AfterPath true rest tail × Plus allow_plus rest tail
 
 abbrev pub is_type : TypeStart → Bool
 is_type ty.Nothing = false
@@ -119,15 +120,15 @@ begins_range trees = is_dots trees || begins_operand trees
 abbrev pub begins_expr : ℕ → Trees → Bool
 begins_expr level trees =
     if level == any_level then begins_closure trees || begins_range trees
-    else (if level == range_level then begins_range trees
-    else (if level == constant_level then begins_constant trees
-    else begins_operand trees))
+    else if level == range_level then begins_range trees
+    else if level == constant_level then begins_constant trees
+    else begins_operand trees
 
 -- The source had an expression too, and both are the same body to the head of a closure.
 pub record BeginsExpr (level : ℕ) (rest tail : Trees) : Type 0 where
   pub source : begins_expr level rest ≡ true
   pub begins : begins_expr level tail ≡ true
-  pub bodies : AlikeBodies rest tail
+  pub bodies : SameLookaheadOfBodies rest tail
 
 -- an operand that is an atom of this kind, with what stands behind it
 abbrev pub BeginsAtom : AtomStart → Relation
@@ -135,4 +136,4 @@ BeginsAtom begins rest tail = operand_start tail ≡ start.Atom begins
 
 -- a closure, where one was
 abbrev pub BeginsClosure : Relation
-BeginsClosure rest tail = begins_closure rest ≡ true → (begins_closure tail ≡ true) × AlikeBodies rest tail
+BeginsClosure rest tail = begins_closure rest ≡ true → (begins_closure tail ≡ true) × SameLookaheadOfBodies rest tail

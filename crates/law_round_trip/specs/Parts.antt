@@ -8,9 +8,9 @@ use Rattle.print_core.specs.declared.path.PathStyle.TheVariants.{Plain, Turbofis
 use Rattle.print_core.specs.Marks.{Trees}
 use Rattle.print_core.specs.Nodes.{bound_tokens, expr_tokens, type_tokens}
 use Rattle.print_core.specs.Paths.{sum_of}
-use Rattle.law_spans.specs.Bare.{bare_bound, bare_expr, bare_type}
+use Rattle.law_spans.specs.Erased.{erased_bound, erased_expr, erased_type}
 use Rattle.law_round_trip.specs.Follow.{AfterExpr, AfterType, BeginsExpr, BeginsType, NotEnded}
-use Rattle.law_round_trip.specs.Printed.{Back}
+use Rattle.law_round_trip.specs.Printed.{RoundTrips}
 
 -- how a path prints its arguments, in a type or an expression
 abbrev pub style_of : Bool → PathStyle
@@ -22,7 +22,7 @@ abbrev pub bounds_tokens : Span → List TypeParamBound → Trees
 bounds_tokens span found = sum_of (map bound_tokens found) span
 
 -- the readers of the parts have the law
-pub record AllBacks (readers : Readers) : Type 0 where
-  pub ty : (many : Bool) → Back bare_type type_tokens BeginsType (AfterType many) (readers.ty many)
-  pub expr : (level : ℕ) → Back bare_expr expr_tokens (BeginsExpr level) (AfterExpr level) (readers.expr level)
-  pub bounds : (span : Span) → Back (map bare_bound) (bounds_tokens span) NotEnded (AfterType true) readers.bounds
+pub record AllRoundTrip (readers : Readers) : Type 0 where
+  pub ty : (allow_plus : Bool) → RoundTrips erased_type type_tokens BeginsType (AfterType allow_plus) (readers.ty allow_plus)
+  pub expr : (level : ℕ) → RoundTrips erased_expr expr_tokens (BeginsExpr level) (AfterExpr level) (readers.expr level)
+  pub bounds : (span : Span) → RoundTrips (map erased_bound) (bounds_tokens span) NotEnded (AfterType true) readers.bounds

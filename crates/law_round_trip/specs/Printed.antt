@@ -5,8 +5,8 @@ use Rattle.tok_types.specs.declared.span.Span.TheVariants.{CallSite}
 use Rattle.tok_types.specs.declared.tree.TokenStream.{TokenStream, roll-TokenStream}
 use Rattle.syn_grammar.specs.Input.{Input, Parser}
 use Rattle.print_core.specs.Marks.{Trees, comma, joined}
-use Rattle.law_prefix.specs.Alike.{Relation}
-use Rattle.law_prefix.specs.Front.{at}
+use Rattle.law_prefix.specs.SameLookahead.{Relation}
+use Rattle.law_prefix.specs.ReadsByPrefix.{at}
 
 -- The parser reads a value to the tail that is the same without its places.
 pub record Again {A B : Type 0} (bare : A → B) (parser : Parser A) (input : Input) (tail : Trees) (found : A) : Type 0 where
@@ -25,8 +25,8 @@ pub record Printed {A B : Type 0} (bare : A → B) (print : A → Trees) (Begins
   pub of : (input after : Input) (found : A) → parser input ≡ Some (found, after) → Reads bare (Begins input.rest) (After after.rest) other (print found) found
 
 -- what the parser reads, it reads from its printing
-abbrev pub Back : {A B : Type 0} → (A → B) → (A → Trees) → Relation → Relation → Parser A → Type 0
-Back bare print Begins After parser = Printed bare print Begins After parser parser
+abbrev pub RoundTrips : {A B : Type 0} → (A → B) → (A → Trees) → Relation → Relation → Parser A → Type 0
+RoundTrips bare print Begins After parser = Printed bare print Begins After parser parser
 
 -- ---- whole lists of tokens
 

@@ -24,14 +24,14 @@ use Rattle.print_core.specs.declared.path.PathStyle.TheVariants.{Plain}
 use Rattle.print_core.specs.Items.{attribute_tokens, attributes_tokens, meta_tokens}
 use Rattle.print_core.specs.Marks.{Trees, colons, group, joined, mark}
 use Rattle.print_core.specs.Nodes.{expr_tokens, path_tokens, segment_tokens}
-use Rattle.law_spans.specs.Bare.{bare_path, bare_segment}
+use Rattle.law_spans.specs.Erased.{erased_path, erased_segment}
 use Rattle.law_spans.proofs.Made.{bare_path-make, bare_segment-make}
-use Rattle.law_spans_items.specs.Bare.{bare_attribute, bare_meta}
-use Rattle.law_prefix.specs.Alike.{Relation, Any}
-use Rattle.law_prefix.specs.Front.{at}
+use Rattle.law_spans_items.specs.Erased.{erased_attribute, erased_meta}
+use Rattle.law_prefix.specs.SameLookahead.{Relation, Any}
+use Rattle.law_prefix.specs.ReadsByPrefix.{at}
 use Rattle.law_round_trip.specs.Follow.{Keep, NotEnded}
-use Rattle.law_round_trip.specs.Parts.{AllBacks}
-use Rattle.law_round_trip.specs.Printed.{Again, Back}
+use Rattle.law_round_trip.specs.Parts.{AllRoundTrip}
+use Rattle.law_round_trip.specs.Printed.{Again, RoundTrips}
 use Rattle.law_round_trip.proofs.Streams.{contents-stream}
 use Rattle.law_round_trip.proofs.Follows.{keep-false, never, no-colons}
 use Rattle.law_round_trip.proofs.Joints.{joined-printed}
@@ -71,18 +71,18 @@ colons-begin rest tail span h =
       truth = rw (next_word-mark 58 (58 ∷ []) span tail, (mark-seen 57 rest colon).1) refl;
     }
 
-meta_segment-back : Back bare_segment (λ it. segment_tokens it Plain) BeginsWord Any meta_segment
+meta_segment-back : RoundTrips erased_segment (λ it. segment_tokens it Plain) BeginsWord Any meta_segment
 unfolding meta_segment
 meta_segment-back = whole (here-rest (λ start. take_as-rest {Second = Any} ident_of tree.Ident (λ rest tail it is. ident_of-Ident it tail)
     (λ name. close-rest start (λ q. q.1) (make_segment name arguments.None) (λ q. make_segment name arguments.None)
     (λ span. rw (print-segment name arguments.None span Plain, print-None Plain span) refl) (λ span other q ok. rw (bare_segment-make, bare_segment-make) refl))
     (λ input tail name is f. word-begins name input.rest tail is)))
 
-meta_segments-back : (span : Span) → Back (map bare_segment) (λ items. joined (colons span) (map (λ it. segment_tokens it Plain) items)) BeginsWord (Keep is_colons) (joined_by (eat 2 is_colons) meta_segment)
-meta_segments-back span = joined-printed bare_segment (λ it. segment_tokens it Plain) 2 is_colons (colons span) (mark-length (codes "::") span) (λ tail. is_colons-colons tail span) meta_segment meta_segment (Keep is_colons)
+meta_segments-back : (span : Span) → RoundTrips (map erased_segment) (λ items. joined (colons span) (map (λ it. segment_tokens it Plain) items)) BeginsWord (Keep is_colons) (joined_by (eat 2 is_colons) meta_segment)
+meta_segments-back span = joined-printed erased_segment (λ it. segment_tokens it Plain) 2 is_colons (colons span) (mark-length (codes "::") span) (λ tail. is_colons-colons tail span) meta_segment meta_segment (Keep is_colons)
     meta_segment-back (λ rest tail f. f.0.some) (λ rest. tt) (λ rest next tail seen f. tt) (λ rest tail seen f. (keep-false is_colons rest tail seen f, tt))
 
-pub meta_path-back : Back bare_path (path_tokens Plain) StartsPath (Keep is_colons) meta_path
+pub meta_path-back : RoundTrips erased_path (path_tokens Plain) StartsPath (Keep is_colons) meta_path
 unfolding meta_path
 meta_path-back = whole (here-rest (λ start. eat-rest {Second = λ b. BeginsWord} 2 is_colons (λ place. colons place) (mark-length (codes "::")) (λ place tail. is_colons-colons tail place) (λ leading.
     then-rest {Second = Keep is_colons} (λ place. meta_segments-back place) (λ found. close-rest start (λ q. q.0.1) (make_path leading found) (λ q. make_path leading q.1)
@@ -130,17 +130,17 @@ no-hash : is_mark 35 [] ≡ false
 unfolding mark_of
 no-hash = refl
 
-module _ (parts : AllBacks (within max_depth)) where
+module _ (parts : AllRoundTrip (within max_depth)) where
   module _ (start : Span) (path : Path) where
     -- what was bound: where the item starts, and the path
     abbrev Env : Type 0
     Env = (Unit {0} × Span) × Path
 
     abbrev Bound : Env → Type 0
-    Bound q = Unit {0} × (bare_path q.1 ≡ bare_path path)
+    Bound q = Unit {0} × (erased_path q.1 ≡ erased_path path)
 
     abbrev MetaRest : Relation → Parser Meta → (Env → Parser Meta) → Type 0
-    MetaRest Begins parser others = Rest {P = Span} {Q = Env} Bound bare_meta meta_tokens (λ place tokens. path_tokens Plain path ++ tokens) Begins AtEnd parser others
+    MetaRest Begins parser others = Rest {P = Span} {Q = Env} Bound erased_meta meta_tokens (λ place tokens. path_tokens Plain path ++ tokens) Begins AtEnd parser others
 
     meta_list-rest : (between : Delimiter) → MetaRest (Grouped (Some between)) (meta_list start path between) (λ q. meta_list q.0.1 q.1 between)
     unfolding meta_list
@@ -156,16 +156,16 @@ module _ (parts : AllBacks (within max_depth)) where
 
     -- the value, which takes what is left
     value-rest : (eq_span : Span)
-        → Rest {P = Span} {Q = Env × Span} (λ q. Bound q.0) bare_meta meta_tokens (λ place tokens. path_tokens Plain path ++ (mark (codes "=") place ++ tokens)) NotEnded AtEnd
+        → Rest {P = Span} {Q = Env × Span} (λ q. Bound q.0) erased_meta meta_tokens (λ place tokens. path_tokens Plain path ++ (mark (codes "=") place ++ tokens)) NotEnded AtEnd
         (at_end >>= (λ none. if none then refuse else value_rest start eq_span path)) (λ q. at_end >>= (λ none. if none then refuse else value_rest q.0.0.1 q.1 q.0.1))
     value-rest eq_span = record { of = λ input after found e. by input after found (is_end input.rest) refl e }
       where
         by : (input after : Input) (found : Meta) (none : Bool) → is_end input.rest ≡ none → (if none then refuse else value_rest start eq_span path) input ≡ Some (found, after)
-            → Gives {P = Span} {Q = Env × Span} (λ q. Bound q.0) bare_meta meta_tokens (λ place tokens. path_tokens Plain path ++ (mark (codes "=") place ++ tokens)) (NotEnded input.rest) (AtEnd after.rest) (λ q. at_end >>= (λ none. if none then refuse else value_rest q.0.0.1 q.1 q.0.1)) found
+            → Gives {P = Span} {Q = Env × Span} (λ q. Bound q.0) erased_meta meta_tokens (λ place tokens. path_tokens Plain path ++ (mark (codes "=") place ++ tokens)) (NotEnded input.rest) (AtEnd after.rest) (λ q. at_end >>= (λ none. if none then refuse else value_rest q.0.0.1 q.1 q.0.1)) found
         by input after found true is e = absurd cc
         by input after found false is e =
             let both = some_pair_parts (made.NameValue (record { path = path; eq_span = eq_span; value = value_of input.rest; span = joined_spans start end.last })) found end after e in
-            subst (λ found. Gives {P = Span} {Q = Env × Span} (λ q. Bound q.0) bare_meta meta_tokens (λ place tokens. path_tokens Plain path ++ (mark (codes "=") place ++ tokens)) (NotEnded input.rest) (AtEnd after.rest) (λ q. at_end >>= (λ none. if none then refuse else value_rest q.0.0.1 q.1 q.0.1)) found) both.0 (record {
+            subst (λ found. Gives {P = Span} {Q = Env × Span} (λ q. Bound q.0) erased_meta meta_tokens (λ place tokens. path_tokens Plain path ++ (mark (codes "=") place ++ tokens)) (NotEnded input.rest) (AtEnd after.rest) (λ q. at_end >>= (λ none. if none then refuse else value_rest q.0.0.1 q.1 q.0.1)) found) both.0 (record {
               place = joined_spans start end.last;
               tokens = tokens;
               is = append_assoc (path_tokens Plain path) (mark (codes "=") (joined_spans start end.last)) tokens;
@@ -182,7 +182,7 @@ module _ (parts : AllBacks (within max_depth)) where
             tokens : Trees
             tokens = expr_tokens (value_of input.rest)
 
-            read : (q : Env × Span) → Bound q.0 → (last : Span) → Again bare_meta (at_end >>= (λ none. if none then refuse else value_rest q.0.0.1 q.1 q.0.1)) (at (tokens ++ []) last) [] (made.NameValue (record { path = path; eq_span = eq_span; value = value_of input.rest; span = joined_spans start end.last }))
+            read : (q : Env × Span) → Bound q.0 → (last : Span) → Again erased_meta (at_end >>= (λ none. if none then refuse else value_rest q.0.0.1 q.1 q.0.1)) (at (tokens ++ []) last) [] (made.NameValue (record { path = path; eq_span = eq_span; value = value_of input.rest; span = joined_spans start end.last }))
             read q ok last =
                 let stands = skipped-over (length tokens) tokens [] last refl in
                 let place = rw append-nil at stands.1 in
@@ -213,13 +213,13 @@ module _ (parts : AllBacks (within max_depth)) where
 
   -- ---- meta items and attributes
 
-  pub meta-back : Back bare_meta meta_tokens NotEnded AtEnd meta
+  pub meta-back : RoundTrips erased_meta meta_tokens NotEnded AtEnd meta
   unfolding meta
   meta-back = whole (here-rest (λ start. then-rest {Second = λ rest tail. is_colons tail ≡ false} (λ (place : Span). meta_path-back) (λ path.
       test-rest {by = Grouped} delimiter_of (meta_by-rest start path) (λ grouped rest tail is f. f))
       (λ rest tail f. never is_colons rest tail f) (λ rest tail f. f.some)))
 
-  pub attribute-back : Back bare_attribute attribute_tokens (λ rest tail. (is_end tail ≡ false) × (is_mark 35 tail ≡ true)) Any attribute
+  pub attribute-back : RoundTrips erased_attribute attribute_tokens (λ rest tail. (is_end tail ≡ false) × (is_mark 35 tail ≡ true)) Any attribute
   unfolding attribute
   attribute-back = whole (here-rest (λ start. expect-rest {Second = Any} 1 (is_mark 35) (λ place. mark (codes "#") place) (mark-length (codes "#")) (λ place tail. hash-mark tail place)
       (then-rest {Start = Any} {Middle = Any} {Second = Any} (λ place. whole {P = Unit {0}} (inside-rest {Inner = NotEnded} delimiter.Bracket (λ it. place) (shown-rest tt (λ it. refl) meta-back) (λ rest inner tail span seen f. tt))) (λ found.
@@ -228,6 +228,6 @@ module _ (parts : AllBacks (within max_depth)) where
       (λ input tail place seen f. (hash-some tail place, hash-mark tail place))))
 
   -- what follows is seen in the place of the attributes, where there are none
-  pub attributes-back : (Sight : Relation) → ((rest tail : Trees) → is_mark 35 tail ≡ true → Sight rest tail) → Back (map bare_attribute) attributes_tokens Sight (AfterAttributes Sight) attributes
+  pub attributes-back : (Sight : Relation) → ((rest tail : Trees) → is_mark 35 tail ≡ true → Sight rest tail) → RoundTrips (map erased_attribute) attributes_tokens Sight (AfterAttributes Sight) attributes
   unfolding attributes
-  attributes-back Sight seen = while-printed bare_attribute attribute_tokens (is_mark 35) no-hash attribute attribute attribute-back (λ rest tail f. f) (λ rest tail. tt) Sight seen
+  attributes-back Sight seen = while-printed erased_attribute attribute_tokens (is_mark 35) no-hash attribute attribute attribute-back (λ rest tail f. f) (λ rest tail. tt) Sight seen

@@ -23,7 +23,7 @@ use Rattle.syn_grammar.specs.Paths.{binder, list, return_type}
 use Rattle.syn_grammar.specs.Readers.{Readers}
 use Rattle.syn_grammar.specs.Token.{Layer, ident_of, is_group, is_joint, is_pair, mark_of}
 use Rattle.syn_grammar.specs.Types.{named_arg, type_fn_ptr, type_step}
-use Rattle.syn_grammar.specs.Words.{is_word, named_words, next_word, other_keywords, sees, word_of}
+use Rattle.syn_grammar.specs.Words.{is_word, named_words, next_word, other_keywords, peek, word_of}
 use Rattle.syn_items.specs.Generics.{any_type}
 use Rattle.print_core.specs.Items.{begins_with_binder}
 use Rattle.print_core.specs.Marks.{Trees, word as printed_word}
@@ -40,7 +40,7 @@ use Rattle.law_round_trip_items.proofs.Makes.{kept-read}
 
 -- without a binder of its own it begins with no `for`
 abbrev Unbound : Ty → Type 0
-Unbound it = begins_with_binder it ≡ false → (tail : Trees) → sees word.For (type_tokens it ++ tail) ≡ false
+Unbound it = begins_with_binder it ≡ false → (tail : Trees) → peek word.For (type_tokens it ++ tail) ≡ false
 
 sees-fn : (span : Span) (tail : Trees) → next_word (printed_word (codes "fn") span ++ tail) ≡ word.Fn
 unfolding printed_word next_word ident_of word_of named_words other_keywords
@@ -64,12 +64,12 @@ fn_ptr-unbound (it ∷ lifetimes) inputs output span bare tail = let bound = rw 
 
 type_fn_ptr-unbound : (readers : Readers) → Always Unbound (type_fn_ptr readers)
 unfolding type_fn_ptr
-type_fn_ptr-unbound readers = then-always here (λ start. then-always binder (λ lifetimes. then-always (expect 1 (sees word.Fn)) (λ keyword. then-always (inside delimiter.Parenthesis (list (named_arg readers))) (λ inputs.
+type_fn_ptr-unbound readers = then-always here (λ start. then-always binder (λ lifetimes. then-always (expect 1 (peek word.Fn)) (λ keyword. then-always (inside delimiter.Parenthesis (list (named_arg readers))) (λ inputs.
     then-always (return_type readers) (λ output. then-always (upto start) (λ span. pure-always (make.type_fn_ptr lifetimes inputs output span) (fn_ptr-unbound lifetimes inputs output span)))))))
 
 -- ---- what begins with `for`
 
-for-start : (trees : Trees) → sees word.For trees ≡ true → type_start trees ≡ begin.FnPtr
+for-start : (trees : Trees) → peek word.For trees ≡ true → type_start trees ≡ begin.FnPtr
 unfolding type_start is_group mark_of is_pair is_joint next_word ident_of
 for-start [] h = absurd cc
 for-start (tree ∷ trees) h = by (out-TokenTree tree) refl
@@ -85,20 +85,20 @@ for-start (tree ∷ trees) h = by (out-TokenTree tree) refl
     by (TokenTree-F.Literal other) same = let none = rw same at h in absurd cc
     by (TokenTree-F.Group other) same = let none = rw same at h in absurd cc
 
-within-for : (depth : ℕ) (input after : Input) (found : Ty) → (within depth).ty true input ≡ Some (found, after) → (tail : Trees) → AfterType true after.rest tail → begins_with_binder found ≡ false → sees word.For (type_tokens found ++ tail) ≡ false
+within-for : (depth : ℕ) (input after : Input) (found : Ty) → (within depth).ty true input ≡ Some (found, after) → (tail : Trees) → AfterType true after.rest tail → begins_with_binder found ≡ false → peek word.For (type_tokens found ++ tail) ≡ false
 unfolding within type_step
 within-for zero input after found e tail follows bare = absurd cc
-within-for (suc below) input after found e tail follows bare = by (sees word.For (type_tokens found ++ tail)) refl
+within-for (suc below) input after found e tail follows bare = by (peek word.For (type_tokens found ++ tail)) refl
   where
     read : type_step (within below) true input ≡ Some (found, after)
     read = kept-read type_depth (suc below) (type_step (within below) true input) found after e
 
-    by : (b : Bool) → sees word.For (type_tokens found ++ tail) ≡ b → sees word.For (type_tokens found ++ tail) ≡ false
+    by : (b : Bool) → peek word.For (type_tokens found ++ tail) ≡ b → peek word.For (type_tokens found ++ tail) ≡ false
     by false is = is
     by true is =
         let start : type_start input.rest ≡ begin.FnPtr = sym (((type_start-back (within below) (within-backs below) true).of input after found read).first tail follows) ∙ for-start (type_tokens found ++ tail) is in
         let pointer : type_fn_ptr (within below) input ≡ Some (found, after) = rw start at read in
         (type_fn_ptr-unbound (within below)).of input after found pointer bare tail
 
-pub type-for : (input after : Input) (found : Ty) → any_type input ≡ Some (found, after) → (tail : Trees) → AfterType true after.rest tail → begins_with_binder found ≡ false → sees word.For (type_tokens found ++ tail) ≡ false
+pub type-for : (input after : Input) (found : Ty) → any_type input ≡ Some (found, after) → (tail : Trees) → AfterType true after.rest tail → begins_with_binder found ≡ false → peek word.For (type_tokens found ++ tail) ≡ false
 type-for input after found e tail follows bare = within-for max_depth input after found e tail follows bare

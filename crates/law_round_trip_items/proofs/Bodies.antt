@@ -14,7 +14,7 @@ use Rattle.syn_grammar.specs.declared.word.Word.TheVariants as word
 use Rattle.syn_grammar.specs.Grammar.{within, max_depth}
 use Rattle.syn_grammar.specs.Input.{Parser, ◌>>=◌, ◌>>◌, ◌<$>◌, pure, expect, here, inside, is_end, test, upto}
 use Rattle.syn_grammar.specs.Token.{Layer, ident_of, is_group, is_less, is_semicolon, mark_of}
-use Rattle.syn_grammar.specs.Words.{next_word, sees}
+use Rattle.syn_grammar.specs.Words.{next_word, peek}
 use Rattle.syn_items.specs.declared.look.ItemStart.{ItemStart}
 use Rattle.syn_items.specs.declared.look.ItemStart.TheVariants as begin
 use Rattle.syn_items.specs.Fields.{fields_named, fields_unnamed, variants}
@@ -22,10 +22,10 @@ use Rattle.syn_items.specs.Generics.{ends_where, maybe_where}
 use Rattle.syn_items.specs.Items.{body_of, data_by, enum_body, is_tuple_struct, other_struct, tuple_struct, union_body}
 use Rattle.print_core.specs.Items.{body_with, body_word, maybe_where as where_printed}
 use Rattle.print_core.specs.Marks.{Trees, mark, word as printed_word}
-use Rattle.law_spans_items.specs.Bare.{bare_data, bare_where}
-use Rattle.law_prefix.specs.Alike.{Relation, Any}
-use Rattle.law_round_trip.specs.Parts.{AllBacks}
-use Rattle.law_round_trip.specs.Printed.{Back}
+use Rattle.law_spans_items.specs.Erased.{erased_data, erased_where}
+use Rattle.law_prefix.specs.SameLookahead.{Relation, Any}
+use Rattle.law_round_trip.specs.Parts.{AllRoundTrip}
+use Rattle.law_round_trip.specs.Printed.{RoundTrips}
 use Rattle.law_round_trip.proofs.Marks.{is_group-mark, mark-length, mark_of-mark}
 use Rattle.law_round_trip.proofs.Steps.{Free, Rest, close-rest, here-rest, hole, pure-rest, shown-rest, sure-rest, test-rest, then-rest, whole}
 use Rattle.law_round_trip.proofs.Takes.{expect-rest}
@@ -39,8 +39,8 @@ use Rattle.law_round_trip_items.proofs.Wheres.{maybe_where-back}
 abbrev pub Body : Type 0
 Body = Option WhereClause × «Data»
 
-abbrev pub bare_body : Body → Body
-bare_body it = (option_map bare_where it.0, bare_data it.1)
+abbrev pub erased_body : Body → Body
+erased_body it = (option_map erased_where it.0, erased_data it.1)
 
 abbrev pub body_tokens : Body → Trees
 body_tokens it = body_with it.0 it.1
@@ -117,7 +117,7 @@ brace-ends trees h = rw (h, or-true (is_semicolon trees)) (or-true (is_end trees
 abbrev Unopened : Trees → Type 0
 Unopened trees = (is_group delimiter.Parenthesis trees ≡ false) × (is_less trees ≡ false)
 
-where-seen : (trees : Trees) → (sees word.Where trees || ends_where trees) ≡ true → Unopened trees
+where-seen : (trees : Trees) → (peek word.Where trees || ends_where trees) ≡ true → Unopened trees
 unfolding is_group mark_of next_word ident_of
 where-seen [] h = (refl, refl)
 where-seen (tree ∷ trees) h = by (out-TokenTree tree) refl
@@ -147,8 +147,8 @@ group-unopened (tree ∷ trees) h = by (out-TokenTree tree) refl
 abbrev pub BeginsBody : Relation
 BeginsBody rest tail = is_less tail ≡ false
 
-module _ (parts : AllBacks (within max_depth)) where
-  tuple_struct-back : Back bare_body body_tokens (Grouped delimiter.Parenthesis) Any tuple_struct
+module _ (parts : AllRoundTrip (within max_depth)) where
+  tuple_struct-back : RoundTrips erased_body body_tokens (Grouped delimiter.Parenthesis) Any tuple_struct
   unfolding tuple_struct
   tuple_struct-back = whole (here-rest (λ start.
       then-rest {Second = BeginsWhere} (λ place. fields_unnamed-back parts) (λ unnamed.
@@ -172,28 +172,28 @@ module _ (parts : AllBacks (within max_depth)) where
   abbrev braced_struct : Span → Bool → Parser «Data»
   braced_struct span braced = if braced then (λ named. body.Struct (record { fields = made.Named named; span = span })) <$> fields_named else expect 1 is_semicolon >> pure (body.Struct (record { fields = made.Unit; span = span }))
 
-  braced-rest : (span : Span) (braced : Bool) → Rest {P = Span} {Q = Unit {0} × Span} (λ q. Unit {0}) bare_data (body_with None) hole (Braced braced) Any (braced_struct span braced) (λ q. braced_struct q.1 braced)
+  braced-rest : (span : Span) (braced : Bool) → Rest {P = Span} {Q = Unit {0} × Span} (λ q. Unit {0}) erased_data (body_with None) hole (Braced braced) Any (braced_struct span braced) (λ q. braced_struct q.1 braced)
   braced-rest span true = then-rest {Second = Any} (λ place. fields_named-back parts) (λ it. pure-rest span (body.Struct (record { fields = made.Named it; span = span })) (λ q. body.Struct (record { fields = made.Named q.1; span = q.0.1 })) (rw append-nil refl) (λ q ok. rw (ok.1) refl))
       (λ rest tail f. tt) (λ rest tail f. f)
   braced-rest span false = expect-rest {Second = Any} 1 is_semicolon (λ place. mark (codes ";") place) (mark-length (codes ";")) (λ place tail. semicolon-mark tail place)
       (pure-rest span (body.Struct (record { fields = made.Unit; span = span })) (λ q. body.Struct (record { fields = made.Unit; span = q.1 })) (rw append-nil refl) (λ q ok. refl))
       (λ input tail place seen f. (is_group-mark 59 [] place tail delimiter.Brace, semicolon-ends tail place))
 
-  other_struct-back : Back bare_data (body_with None) AfterWhere Any other_struct
+  other_struct-back : RoundTrips erased_data (body_with None) AfterWhere Any other_struct
   unfolding other_struct
   other_struct-back = whole (here-rest (λ span. test-rest {by = Braced} (is_group delimiter.Brace) (braced-rest span) braced-seen))
 
-  enum_body-back : Back bare_data (body_with None) AfterWhere Any enum_body
+  enum_body-back : RoundTrips erased_data (body_with None) AfterWhere Any enum_body
   unfolding enum_body
   enum_body-back = whole (here-rest (λ span. then-rest {Second = Any} (λ (place : Unit {0}). variants-back parts span)
       (λ found. pure-rest tt (body.Enum (record { variants = found; span = span })) (λ q. body.Enum (record { variants = q.1; span = q.0.1 })) (rw append-nil refl) (λ q ok. rw (ok.1) refl)) (λ rest tail f. tt) (λ rest tail f. brace-ends tail f.0)))
 
-  union_body-back : Back bare_data (body_with None) AfterWhere Any union_body
+  union_body-back : RoundTrips erased_data (body_with None) AfterWhere Any union_body
   unfolding union_body
   union_body-back = whole (here-rest (λ span. then-rest {Second = Any} (λ (place : Unit {0}). fields_named-back parts)
       (λ named. pure-rest tt (body.Union (record { fields = named; span = span })) (λ q. body.Union (record { fields = q.1; span = q.0.1 })) (rw append-nil refl) (λ q ok. rw (ok.1) refl)) (λ rest tail f. tt) (λ rest tail f. brace-ends tail f.0)))
 
-  data_by-back : (begins : ItemStart) → Back bare_data (body_with None) AfterWhere Any (data_by begins)
+  data_by-back : (begins : ItemStart) → RoundTrips erased_data (body_with None) AfterWhere Any (data_by begins)
   data_by-back begin.Struct = other_struct-back
   data_by-back begin.Enum = enum_body-back
   data_by-back begin.Union = union_body-back
@@ -214,13 +214,13 @@ module _ (parts : AllBacks (within max_depth)) where
   opened-seen begin.Nothing true rest tail is f = absurd cc
   opened-seen begin.Nothing false rest tail is f = (refl, (where-seen tail f).1)
 
-  opened-rest : (begins : ItemStart) (unnamed : Bool) → Rest {P = Unit {0}} {Q = Unit {0}} Free bare_body body_tokens hole (Opened unnamed) Any (if unnamed then tuple_struct else other_body begins) (λ q. if unnamed then tuple_struct else other_body begins)
+  opened-rest : (begins : ItemStart) (unnamed : Bool) → Rest {P = Unit {0}} {Q = Unit {0}} Free erased_body body_tokens hole (Opened unnamed) Any (if unnamed then tuple_struct else other_body begins) (λ q. if unnamed then tuple_struct else other_body begins)
   opened-rest begins true = shown-rest tt (λ it. refl) tuple_struct-back
   opened-rest begins false = then-rest {Second = AfterWhere} (λ place. maybe_where-back parts) (λ clause.
       sure-rest {Second = Any} {V = Kind begins} (λ place. data_by-back begins) (data-kind begins).of (λ it known. pure-rest tt (clause, it) (λ q. (q.0.1, q.1)) (rw append-nil (known.behind clause)) (λ q ok. rw (ok.0.1, ok.1) refl))
       (λ rest tail f. tt) (λ rest tail f. f))
       (λ rest tail f. f) (λ rest tail f. f)
 
-  pub body_of-back : (begins : ItemStart) → Back bare_body body_tokens BeginsBody Any (body_of begins)
+  pub body_of-back : (begins : ItemStart) → RoundTrips erased_body body_tokens BeginsBody Any (body_of begins)
   unfolding body_of
   body_of-back begins = whole (test-rest {by = Opened} (is_tuple_struct begins) (opened-rest begins) (opened-seen begins))

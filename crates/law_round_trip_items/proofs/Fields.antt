@@ -17,20 +17,21 @@ use Rattle.syn_grammar.specs.Grammar.{within, max_depth}
 use Rattle.syn_grammar.specs.Input.{Input, Outcome, Parser, finished, inside, is_end, next, start_of}
 use Rattle.syn_grammar.specs.Look.{type_start, type_word}
 use Rattle.syn_grammar.specs.Paths.{list}
-use Rattle.syn_grammar.specs.Token.{Layer, contents_of, ident_of, is_colon, is_group, is_joint, is_mark, is_pair, mark_of, same_delimiter}
-use Rattle.syn_grammar.specs.Words.{is_word, name_of, next_word, sees, word_of}
+use Rattle.syn_grammar.specs.Token.{Layer, contents_of, ident_of, is_colon, is_group, is_joint, is_mark, is_pair, mark_of}
+use Rattle.tok_types.specs.Delimiter.{same_delimiter}
+use Rattle.syn_grammar.specs.Words.{is_word, name_of, next_word, peek, word_of}
 use Rattle.syn_items.specs.Fields.{fields, fields_by, fields_named, fields_unnamed, named_field, unnamed_field}
 use Rattle.syn_items.specs.Generics.{any_type}
 use Rattle.syn_items.specs.Visibility.{restriction_in}
 use Rattle.print_core.specs.Items.{field_tokens, fields_tokens, named_tokens, unnamed_tokens}
 use Rattle.print_core.specs.Marks.{Trees, comma, group, joined, mark}
 use Rattle.print_core.specs.Nodes.{type_tokens}
-use Rattle.law_spans.specs.Bare.{bare_type}
-use Rattle.law_spans_items.specs.Bare.{bare_field, bare_fields, bare_fields_named, bare_fields_unnamed}
-use Rattle.law_prefix.specs.Alike.{Relation, Any}
+use Rattle.law_spans.specs.Erased.{erased_type}
+use Rattle.law_spans_items.specs.Erased.{erased_field, erased_fields, erased_fields_named, erased_fields_unnamed}
+use Rattle.law_prefix.specs.SameLookahead.{Relation, Any}
 use Rattle.law_round_trip.specs.Follow.{AfterType, BeginsType, Keep, NotEnded, is_type}
-use Rattle.law_round_trip.specs.Parts.{AllBacks}
-use Rattle.law_round_trip.specs.Printed.{Back, Printed}
+use Rattle.law_round_trip.specs.Parts.{AllRoundTrip}
+use Rattle.law_round_trip.specs.Printed.{RoundTrips, Printed}
 use Rattle.law_round_trip.proofs.Arguments.{group-printed}
 use Rattle.law_round_trip.proofs.Follows.{keep-false, never, type-end, type-seen, type_before-mark}
 use Rattle.law_round_trip.proofs.Functions.{colon-mark}
@@ -60,7 +61,7 @@ mark-some ch [] none seen = absurd (both_ways _ none seen)
 mark-some ch (tree ∷ tail) none seen = refl
 
 -- `pub` is some token, and no mark
-pub pub-plain : (rest tail : Trees) → sees word.Pub tail ≡ true → Plain rest tail
+pub pub-plain : (rest tail : Trees) → peek word.Pub tail ≡ true → Plain rest tail
 unfolding mark_of next_word ident_of
 pub-plain rest [] seen = absurd cc
 pub-plain rest (tree ∷ tail) seen = (refl, by (out-TokenTree tree) refl)
@@ -80,7 +81,7 @@ no-restriction trees none = rw none refl
 pub name-visible : (it : Ident) (source rest tail : Trees) → name_of source ≡ Some it → AfterVisibility Plain rest (tree.Ident it ∷ tail)
 unfolding mark_of is_group
 name-visible it source rest tail is = (
-  never (sees word.Pub) rest (tree.Ident it ∷ tail) (rw (next_word-Ident it tail, name-word source it is) refl),
+  never (peek word.Pub) rest (tree.Ident it ∷ tail) (rw (next_word-Ident it tail, name-word source it is) refl),
   (never restricts rest (tree.Ident it ∷ tail) (no-restriction (tree.Ident it ∷ tail) (rw (out-Ident it) refl)), (refl, rw (out-Ident it) refl)),
 )
 
@@ -99,7 +100,7 @@ sure-printed h more = record {
 
 -- no type is a visibility or an attribute
 abbrev TypePlain : Trees → Type 0
-TypePlain trees = (is_mark 35 trees ≡ false) × (sees word.Pub trees ≡ false)
+TypePlain trees = (is_mark 35 trees ≡ false) × (peek word.Pub trees ≡ false)
 
 no-hash : (ch : ℕ) (joint second : Bool)
     → is_type (if ch == 33 then ty.Never else (if ch == 38 then ty.Reference else (if ch == 42 then ty.Pointer else (if ch == 60 then ty.Qualified else (if joint && (ch == 58 && second) then ty.Path else ty.Nothing))))) ≡ true → (ch == 35) ≡ false
@@ -127,7 +128,7 @@ type-plain (tree ∷ trees) h = by (out-TokenTree tree) refl
     by (TokenTree-F.Punct punct) is = (rw is (no-hash punct.ch punct.joint (mark_of trees == 58) (rw is at h)), rw is refl)
 
 unnamed-visible : (rest tail : Trees) → BeginsUnnamed rest tail → AfterVisibility Plain rest tail
-unnamed-visible rest tail f = let seen = type-plain tail f.0.0 in (never (sees word.Pub) rest tail seen.1, (f.1, ((type-seen tail f.0.0).some, seen.0)))
+unnamed-visible rest tail f = let seen = type-plain tail f.0.0 in (never (peek word.Pub) rest tail seen.1, (f.1, ((type-seen tail f.0.0).some, seen.0)))
 
 -- ---- groups
 
@@ -143,8 +144,8 @@ inside-sees {A} between parser input after found e = by (is_group between input.
     by false is e = absurd cc
 
 -- a list of parts in a group, of which nothing but commas follows each
-pub block-printed : {A C : Type 0} {bare : A → C} {print : A → Trees} {item : Parser A} {G F : Relation} (between : Delimiter) → Back bare print G F item → ((rest tail : Trees) → G rest tail → is_end tail ≡ false) → ((rest : Trees) → F rest []) → ((rest tail : Trees) (span : Span) → F rest (comma span ++ tail))
-    → (span : Span) → Back (map bare) (λ items. group between (joined (comma span) (map print items)) span) (Grouped between) Any (inside between (list item))
+pub block-printed : {A C : Type 0} {bare : A → C} {print : A → Trees} {item : Parser A} {G F : Relation} (between : Delimiter) → RoundTrips bare print G F item → ((rest tail : Trees) → G rest tail → is_end tail ≡ false) → ((rest : Trees) → F rest []) → ((rest tail : Trees) (span : Span) → F rest (comma span ++ tail))
+    → (span : Span) → RoundTrips (map bare) (λ items. group between (joined (comma span) (map print items)) span) (Grouped between) Any (inside between (list item))
 block-printed {item = item} between rule starts ends commas span = sure-printed (group-printed between rule starts ends commas span (λ rest inner tail own. is_group-group between inner tail own)) (λ input after found e tail f. inside-sees between (list item) input after found e)
 
 group-apart : (one other : Delimiter) → ((between : Delimiter) → same_delimiter between one ≡ true → same_delimiter between other ≡ false) → (trees : Trees) → is_group one trees ≡ true → is_group other trees ≡ false
@@ -183,12 +184,12 @@ AfterFields rest tail = Keep (is_group delimiter.Brace) rest tail × Keep (is_gr
 
 -- ---- fields
 
-module _ (parts : AllBacks (within max_depth)) where
+module _ (parts : AllRoundTrip (within max_depth)) where
   -- the type behind a visibility, which it does not become a part of
-  unnamed_type-back : Back bare_type type_tokens BeginsUnnamed (AfterType true) any_type
+  unnamed_type-back : RoundTrips erased_type type_tokens BeginsUnnamed (AfterType true) any_type
   unnamed_type-back = sure-printed (parts.ty true) type-restricts
 
-  pub named_field-back : Back bare_field field_tokens NotEnded (AfterType true) named_field
+  pub named_field-back : RoundTrips erased_field field_tokens NotEnded (AfterType true) named_field
   unfolding named_field
   named_field-back = whole (here-rest (λ start.
       then-rest {Second = Plain} (λ place. attributes-back parts NotEnded (λ rest tail seen. mark-some 35 tail refl seen)) (λ attrs.
@@ -203,7 +204,7 @@ module _ (parts : AllBacks (within max_depth)) where
       (λ rest tail f. f) (λ rest tail f. f))
       (λ rest tail f. plain-attributes rest tail f) (λ rest tail f. f)))
 
-  pub unnamed_field-back : Back bare_field field_tokens NotEnded (AfterType true) unnamed_field
+  pub unnamed_field-back : RoundTrips erased_field field_tokens NotEnded (AfterType true) unnamed_field
   unfolding unnamed_field
   unnamed_field-back = whole (here-rest (λ start.
       then-rest {Second = Plain} (λ place. attributes-back parts NotEnded (λ rest tail seen. mark-some 35 tail refl seen)) (λ attrs.
@@ -214,14 +215,14 @@ module _ (parts : AllBacks (within max_depth)) where
       (λ rest tail f. unnamed-visible rest tail f) (λ rest tail f. f))
       (λ rest tail f. plain-attributes rest tail f) (λ rest tail f. f)))
 
-  pub fields_named-back : Back bare_fields_named named_tokens (Grouped delimiter.Brace) Any fields_named
+  pub fields_named-back : RoundTrips erased_fields_named named_tokens (Grouped delimiter.Brace) Any fields_named
   unfolding fields_named
   fields_named-back = whole (here-rest (λ start.
       then-rest {Middle = Any} {Second = Any} (λ (place : Unit {0}). block-printed delimiter.Brace named_field-back (λ rest tail f. f) (type-end true) (λ rest tail span. type_before-mark 44 refl refl refl refl span rest tail true) start) (λ found.
       pure-rest tt (record { named = found; span = start }) (λ q. record { named = q.1; span = q.0.1 }) (rw append-nil refl) (λ q ok. rw (ok.1) refl))
       (λ rest tail f. tt) (λ rest tail f. f)))
 
-  pub fields_unnamed-back : Back bare_fields_unnamed unnamed_tokens (Grouped delimiter.Parenthesis) Any fields_unnamed
+  pub fields_unnamed-back : RoundTrips erased_fields_unnamed unnamed_tokens (Grouped delimiter.Parenthesis) Any fields_unnamed
   unfolding fields_unnamed
   fields_unnamed-back = whole (here-rest (λ start.
       then-rest {Middle = Any} {Second = Any} (λ (place : Unit {0}). block-printed delimiter.Parenthesis unnamed_field-back (λ rest tail f. f) (type-end true) (λ rest tail span. type_before-mark 44 refl refl refl refl span rest tail true) start) (λ found.
@@ -240,7 +241,7 @@ module _ (parts : AllBacks (within max_depth)) where
   FieldsBegin false true = Grouped delimiter.Parenthesis
   FieldsBegin false false = AfterFields
 
-  fields_by-rest : (named unnamed : Bool) → Rest {P = Unit {0}} {Q = Unit {0}} Free bare_fields fields_tokens hole (FieldsBegin named unnamed) AfterFields (fields_by named unnamed) (λ q. fields_by named unnamed)
+  fields_by-rest : (named unnamed : Bool) → Rest {P = Unit {0}} {Q = Unit {0}} Free erased_fields fields_tokens hole (FieldsBegin named unnamed) AfterFields (fields_by named unnamed) (λ q. fields_by named unnamed)
   fields_by-rest true unnamed = made-rest made.Named (λ it. refl) (λ one other same. ap made.Named same) (weak-rest (λ rest tail f. tt) (λ rest tail f. f) (part fields_named-back))
   fields_by-rest false true = made-rest made.Unnamed (λ it. refl) (λ one other same. ap made.Unnamed same) (weak-rest (λ rest tail f. tt) (λ rest tail f. f) (part fields_unnamed-back))
   fields_by-rest false false = pure-rest tt made.Unit (λ q. made.Unit) refl (λ q ok. refl)
@@ -254,6 +255,6 @@ module _ (parts : AllBacks (within max_depth)) where
   braced-seen true rest tail is f = (f.0, tt)
   braced-seen false rest tail is f = (keep-false (is_group delimiter.Brace) rest tail is f, tt)
 
-  pub fields-back : Back bare_fields fields_tokens Any AfterFields fields
+  pub fields-back : RoundTrips erased_fields fields_tokens Any AfterFields fields
   unfolding fields
   fields-back = whole (test-rest {by = Braced} (is_group delimiter.Brace) (λ named. test-rest {by = FieldsBegin named} (is_group delimiter.Parenthesis) (fields_by-rest named) (fields-seen named)) braced-seen)

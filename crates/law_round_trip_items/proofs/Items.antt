@@ -9,7 +9,7 @@ use Rattle.syn_grammar.specs.declared.word.Word.TheVariants as word
 use Rattle.syn_grammar.specs.Grammar.{within, max_depth}
 use Rattle.syn_grammar.specs.Input.{Parser, ◌>>=◌, pure, skip, take_as, upto}
 use Rattle.syn_grammar.specs.Token.{ident_of, is_group}
-use Rattle.syn_grammar.specs.Words.{name_of, named_words, next_word, other_keywords, sees, word_of}
+use Rattle.syn_grammar.specs.Words.{name_of, named_words, next_word, other_keywords, peek, word_of}
 use Rattle.syn_items.specs.declared.look.ItemStart.{ItemStart}
 use Rattle.syn_items.specs.declared.look.ItemStart.TheVariants as begin
 use Rattle.syn_items.specs.declared.lists.While.TheVariants as while
@@ -18,11 +18,11 @@ use Rattle.syn_items.specs.Items.{body_of, item, item_start, items}
 use Rattle.syn_items.specs.Lists.{goes_on}
 use Rattle.print_core.specs.Items.{attributes_tokens, derive_input_tokens, visibility_tokens}
 use Rattle.print_core.specs.Marks.{Trees, word as printed_word}
-use Rattle.law_spans_items.specs.Bare.{bare_attribute, bare_derive_input, bare_visibility}
-use Rattle.law_prefix.specs.Alike.{Relation, Any}
+use Rattle.law_spans_items.specs.Erased.{erased_attribute, erased_derive_input, erased_visibility}
+use Rattle.law_prefix.specs.SameLookahead.{Relation, Any}
 use Rattle.law_round_trip.specs.Follow.{NotEnded}
-use Rattle.law_round_trip.specs.Parts.{AllBacks}
-use Rattle.law_round_trip.specs.Printed.{Back}
+use Rattle.law_round_trip.specs.Parts.{AllRoundTrip}
+use Rattle.law_round_trip.specs.Printed.{RoundTrips}
 use Rattle.law_round_trip.proofs.Follows.{never}
 use Rattle.law_round_trip.proofs.Marks.{mark_of-word, name_of-Ident, out-Ident, word-length}
 use Rattle.law_round_trip.proofs.Steps.{Rest, close-rest, here-rest, sure-rest, test-rest, then-rest, whole}
@@ -41,10 +41,10 @@ abbrev pub Begun : ItemStart → Relation
 Begun begins rest tail = (item_start tail ≡ begins) × AfterVisibility Plain rest tail
 
 -- a word that is no `pub`
-word-visible : (text : List ℕ) (rest tail : Trees) (span : Span) → sees word.Pub (printed_word text span ++ tail) ≡ false → AfterVisibility Plain rest (printed_word text span ++ tail)
+word-visible : (text : List ℕ) (rest tail : Trees) (span : Span) → peek word.Pub (printed_word text span ++ tail) ≡ false → AfterVisibility Plain rest (printed_word text span ++ tail)
 unfolding printed_word is_group
 word-visible text rest tail span none = (
-  never (sees word.Pub) rest (printed_word text span ++ tail) none,
+  never (peek word.Pub) rest (printed_word text span ++ tail) none,
   (never restricts rest (printed_word text span ++ tail) (no-restriction (printed_word text span ++ tail) (rw (out-Ident (record { text = text; raw = false; span = span })) refl)), (refl, rw (mark_of-word text span tail) refl)),
 )
 
@@ -74,7 +74,7 @@ enum-word = record { one = word-length (codes "enum"); begun = enum-begun }
 union-word : OneWord begin.Union
 union-word = record { one = word-length (codes "union"); begun = union-begun }
 
-module _ (parts : AllBacks (within max_depth)) where
+module _ (parts : AllRoundTrip (within max_depth)) where
   -- what comes behind the visibility
   abbrev item_rest : Span → List Attribute → Visibility → ItemStart → Parser DeriveInput
   item_rest start attrs vis begins = skip >>= (λ keyword. take_as name_of >>= (λ ident. params >>= (λ generics. body_of begins >>= (λ found. upto start >>= (λ span. pure (record {
@@ -90,11 +90,11 @@ module _ (parts : AllBacks (within max_depth)) where
   Env = ((Unit {0} × Span) × List Attribute) × Visibility
 
   abbrev Bound : List Attribute → Visibility → Env → Type 0
-  Bound attrs vis q = (Unit {0} × (map bare_attribute q.0.1 ≡ map bare_attribute attrs)) × (bare_visibility q.1 ≡ bare_visibility vis)
+  Bound attrs vis q = (Unit {0} × (map erased_attribute q.0.1 ≡ map erased_attribute attrs)) × (erased_visibility q.1 ≡ erased_visibility vis)
 
   module _ (start : Span) (attrs : List Attribute) (vis : Visibility) where
     abbrev ItemRest : ItemStart → Type 0
-    ItemRest begins = Rest {P = Span} {Q = Env} (Bound attrs vis) bare_derive_input derive_input_tokens (λ place tokens. attributes_tokens attrs ++ (visibility_tokens vis ++ tokens)) (Begun begins) Any (item_rest start attrs vis begins) (λ q. item_rest q.0.0.1 q.0.1 q.1 begins)
+    ItemRest begins = Rest {P = Span} {Q = Env} (Bound attrs vis) erased_derive_input derive_input_tokens (λ place tokens. attributes_tokens attrs ++ (visibility_tokens vis ++ tokens)) (Begun begins) Any (item_rest start attrs vis begins) (λ q. item_rest q.0.0.1 q.0.1 q.1 begins)
 
     item-rest : (begins : ItemStart) → OneWord begins → ItemRest begins
     item-rest begins keyword = skip-rest {Second = Any} (λ place. start_word begins place) keyword.one
@@ -130,7 +130,7 @@ module _ (parts : AllBacks (within max_depth)) where
     item_by begin.Union = item-rest begin.Union union-word
     item_by begin.Nothing = none-rest
 
-  pub item-back : Back bare_derive_input derive_input_tokens NotEnded Any item
+  pub item-back : RoundTrips erased_derive_input derive_input_tokens NotEnded Any item
   unfolding item
   item-back = whole (here-rest (λ start.
       then-rest {Second = Plain} (λ place. attributes-back parts NotEnded (λ rest tail seen. mark-some 35 tail refl seen)) (λ attrs.
@@ -139,5 +139,5 @@ module _ (parts : AllBacks (within max_depth)) where
       (λ rest tail f. f) (λ rest tail f. f))
       (λ rest tail f. plain-attributes rest tail f) (λ rest tail f. f)))
 
-  pub items-back : Back (map bare_derive_input) (flat_map derive_input_tokens) Any (AfterWhile (goes_on while.Token) Any) items
-  items-back = while-printed bare_derive_input derive_input_tokens (goes_on while.Token) refl item item item-back (λ rest tail f. (f, rw f refl)) (λ rest tail. tt) Any (λ rest tail seen. tt)
+  pub items-back : RoundTrips (map erased_derive_input) (flat_map derive_input_tokens) Any (AfterWhile (goes_on while.Token) Any) items
+  items-back = while-printed erased_derive_input derive_input_tokens (goes_on while.Token) refl item item item-back (λ rest tail f. (f, rw f refl)) (λ rest tail. tt) Any (λ rest tail seen. tt)

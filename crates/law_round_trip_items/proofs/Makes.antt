@@ -4,8 +4,8 @@ use Rattle.std.proofs.lemmas.Option.{some_pair_parts}
 use Rattle.tok_types.specs.declared.span.Span.{Span}
 use Rattle.syn_grammar.specs.Input.{Input, Outcome, Parser, ◌<$>◌, pure, is_end, start_of, finished, inside, next}
 use Rattle.print_core.specs.Marks.{Trees, comma, joined, mark}
-use Rattle.law_prefix.specs.Alike.{Relation}
-use Rattle.law_prefix.specs.Front.{at}
+use Rattle.law_prefix.specs.SameLookahead.{Relation}
+use Rattle.law_prefix.specs.ReadsByPrefix.{at}
 use Rattle.law_round_trip.proofs.Steps.{Rest, bind-at, Gives}
 use Rattle.print_core.specs.Paths.{angled}
 use Rattle.syn_grammar.specs.Grammar.{kept}

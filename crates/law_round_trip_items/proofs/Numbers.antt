@@ -15,9 +15,9 @@ use Rattle.syn_grammar.specs.Literals.{lit_of}
 use Rattle.syn_grammar.specs.Look.{is_there}
 use Rattle.syn_grammar.specs.Token.{is_mark, literal_of}
 use Rattle.syn_items.specs.Attributes.{negative, number_in, signed}
-use Rattle.law_spans.specs.Bare.{bare_expr, bare_lit}
+use Rattle.law_spans.specs.Erased.{erased_expr, erased_lit}
 use Rattle.law_spans.proofs.Made.{bare_expr-Lit, bare_expr-Unary, bare_expr-Path, bare_expr-Array, bare_expr-Repeat, bare_expr-Tuple, bare_expr-Paren, bare_expr-Group, bare_expr-Reference, bare_expr-Binary, bare_expr-Call, bare_expr-MethodCall, bare_expr-Field, bare_expr-Index, bare_expr-Try, bare_expr-Range, bare_expr-Closure, bare_expr-Block, bare_expr-Infer, bare_expr-Verbatim}
-use Rattle.law_prefix.specs.Front.{at}
+use Rattle.law_prefix.specs.ReadsByPrefix.{at}
 use Rattle.law_round_trip.proofs.Steps.{bind-at}
 use Rattle.law_round_trip.proofs.Wholes.{all-parts}
 use Rattle.law_round_trip_items.proofs.Others.{is_other, other_by}
@@ -48,7 +48,7 @@ signed_by _ = false
 abbrev pub signed_number : Expr → Bool
 signed_number it = signed_by (out-Expr it)
 
-lit-bare : (it : Lit) → is_number (bare_lit it) ≡ is_number it
+lit-bare : (it : Lit) → is_number (erased_lit it) ≡ is_number it
 lit-bare (lit.Int it) = refl
 lit-bare (lit.Float it) = refl
 lit-bare _ = refl
@@ -56,7 +56,7 @@ lit-bare _ = refl
 rolled : (it : Expr) → roll-Expr (out-Expr it) ≡ it
 rolled it = search the_lemmas
 
-other-bared : (layer : ExprLayer) → is_other (bare_expr (roll-Expr layer)) ≡ other_by layer
+other-bared : (layer : ExprLayer) → is_other (erased_expr (roll-Expr layer)) ≡ other_by layer
 other-bared (Expr-F.Lit it) = rw (expr.rolls-Lit it, bare_expr-Lit it, expr.outs-Lit) refl
 other-bared (Expr-F.Expr::Path it) = rw (expr.rolls-Path it, bare_expr-Path it, expr.outs-Path) refl
 other-bared (Expr-F.Expr::Array it) = rw (expr.rolls-Array it, bare_expr-Array it.elems it.span, expr.outs-Array) refl
@@ -78,8 +78,8 @@ other-bared (Expr-F.Block stmts last span) = rw (expr.rolls-Block stmts last spa
 other-bared (Expr-F.Expr::Infer span) = rw (expr.rolls-Infer span, bare_expr-Infer span, expr.outs-Infer) refl
 other-bared (Expr-F.Verbatim it) = rw (expr.rolls-Verbatim it, bare_expr-Verbatim it, expr.outs-Verbatim) refl
 
-other-bare : (it : Expr) → is_other (bare_expr it) ≡ is_other it
-other-bare it = ap (λ it. is_other (bare_expr it)) (sym (rolled it)) ∙ other-bared (out-Expr it)
+other-bare : (it : Expr) → is_other (erased_expr it) ≡ is_other it
+other-bare it = ap (λ it. is_other (erased_expr it)) (sym (rolled it)) ∙ other-bared (out-Expr it)
 
 pub other-unsigned : (it : Expr) → is_other it ≡ true → (number it ≡ false) × (signed_number it ≡ false)
 other-unsigned it h = by (out-Expr it) h
@@ -89,22 +89,22 @@ other-unsigned it h = by (out-Expr it) h
     by (Expr-F.Unary op it span) h = absurd cc
     by _ h = (refl, refl)
 
-number-bared : (layer : ExprLayer) → number (bare_expr (roll-Expr layer)) ≡ number_by layer
+number-bared : (layer : ExprLayer) → number (erased_expr (roll-Expr layer)) ≡ number_by layer
 number-bared (Expr-F.Lit it) = rw (expr.rolls-Lit it, bare_expr-Lit it, expr.outs-Lit) (lit-bare it)
 number-bared (Expr-F.Unary op it span) = rw (expr.rolls-Unary op it span, bare_expr-Unary op it span, expr.outs-Unary) refl
-number-bared layer = (other-unsigned (bare_expr (roll-Expr layer)) (other-bared layer)).0
+number-bared layer = (other-unsigned (erased_expr (roll-Expr layer)) (other-bared layer)).0
 
-number-bare : (it : Expr) → number (bare_expr it) ≡ number it
-number-bare it = ap (λ it. number (bare_expr it)) (sym (rolled it)) ∙ number-bared (out-Expr it)
+number-bare : (it : Expr) → number (erased_expr it) ≡ number it
+number-bare it = ap (λ it. number (erased_expr it)) (sym (rolled it)) ∙ number-bared (out-Expr it)
 
-signed-bared : (layer : ExprLayer) → signed_number (bare_expr (roll-Expr layer)) ≡ signed_by layer
+signed-bared : (layer : ExprLayer) → signed_number (erased_expr (roll-Expr layer)) ≡ signed_by layer
 signed-bared (Expr-F.Unary op.Neg it span) = rw (expr.rolls-Unary op.Neg it span, bare_expr-Unary op.Neg it span, expr.outs-Unary) (number-bare it)
 signed-bared (Expr-F.Unary op it span) = rw (expr.rolls-Unary op it span, bare_expr-Unary op it span, expr.outs-Unary) refl
 signed-bared (Expr-F.Lit it) = rw (expr.rolls-Lit it, bare_expr-Lit it, expr.outs-Lit) refl
-signed-bared layer = (other-unsigned (bare_expr (roll-Expr layer)) (other-bared layer)).1
+signed-bared layer = (other-unsigned (erased_expr (roll-Expr layer)) (other-bared layer)).1
 
-pub signed-bare : (it : Expr) → signed_number (bare_expr it) ≡ signed_number it
-signed-bare it = ap (λ it. signed_number (bare_expr it)) (sym (rolled it)) ∙ signed-bared (out-Expr it)
+pub signed-bare : (it : Expr) → signed_number (erased_expr it) ≡ signed_number it
+signed-bare it = ap (λ it. signed_number (erased_expr it)) (sym (rolled it)) ∙ signed-bared (out-Expr it)
 
 -- ---- tokens that are a number with a sign
 

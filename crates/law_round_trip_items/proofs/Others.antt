@@ -22,14 +22,14 @@ use Rattle.node_expr.specs.declared.expr.Member.TheVariants as made
 use Rattle.syn_grammar.specs.Token.{contents_of, is_dots, is_group, is_bar, is_comma, is_semicolon, is_turbofish}
 use Rattle.law_round_trip.proofs.Steps.{bind-at}
 use Rattle.std.specs.Prelude.{length}
-use Rattle.syn_grammar.specs.Words.{name_of, sees}
+use Rattle.syn_grammar.specs.Words.{name_of, peek}
 use Rattle.syn_grammar.specs.Paths.{angle_list, generic_argument, path, qualified}
 use Rattle.syn_grammar.specs.Literals.{index_of}
 use Rattle.syn_grammar.specs.declared.word.Word.TheVariants as word
 use Rattle.tok_types.specs.declared.tree.Delimiter.TheVariants as delimiter
 use Rattle.law_round_trip_items.proofs.Always.{Always, then-always, pure-always, if-always, refuse-always}
 use Rattle.law_round_trip_items.proofs.Makes.{inside-parts}
-use Rattle.law_prefix.specs.Front.{at}
+use Rattle.law_prefix.specs.ReadsByPrefix.{at}
 
 abbrev pub other_by : ExprLayer → Bool
 other_by (Expr-F.Lit it) = false
@@ -54,7 +54,7 @@ module _ (readers : Readers) where
 
   closure-others : Others (closure readers)
   unfolding closure
-  closure-others = then-always state (λ before. then-always here (λ start. then-always (eat 1 (sees word.Move)) (λ moved. then-always (expect 1 is_bar) (λ opened. then-always (closure_params readers) (λ params. then-always (closure_body readers) (λ level. then-always (read_since before.rest) (λ kept. then-always (readers.expr level) (λ body. then-always (upto start) (λ span. pure-always (make.expr_closure kept body span) (search the_lemmas))))))))))
+  closure-others = then-always state (λ before. then-always here (λ start. then-always (eat 1 (peek word.Move)) (λ moved. then-always (expect 1 is_bar) (λ opened. then-always (closure_params readers) (λ params. then-always (closure_body readers) (λ level. then-always (read_since before.rest) (λ kept. then-always (readers.expr level) (λ body. then-always (upto start) (λ span. pure-always (make.expr_closure kept body span) (search the_lemmas))))))))))
 
   range_from-others : (start : Span) (left : Option Expr) → Others (range_from readers start left)
   unfolding range_from
@@ -64,7 +64,7 @@ module _ (readers : Readers) where
 
   pub reference-others : Others (reference readers)
   unfolding reference
-  reference-others = then-always here (λ start. then-always skip (λ mark. then-always (eat 1 (sees word.Mut)) (λ mutable. then-always (readers.expr operand_level) (λ operand. then-always (upto start) (λ span. pure-always (expr.Reference mutable operand span) (search the_lemmas))))))
+  reference-others = then-always here (λ start. then-always skip (λ mark. then-always (eat 1 (peek word.Mut)) (λ mutable. then-always (readers.expr operand_level) (λ operand. then-always (upto start) (λ span. pure-always (expr.Reference mutable operand span) (search the_lemmas))))))
 
   -- ---- atoms that are no literals
 

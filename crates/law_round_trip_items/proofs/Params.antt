@@ -23,20 +23,20 @@ use Rattle.syn_grammar.specs.Look.{begins_constant, is_there}
 use Rattle.syn_grammar.specs.Paths.{joined_bounds, one_bound}
 use Rattle.syn_grammar.specs.Readers.{constant_level}
 use Rattle.syn_grammar.specs.Token.{is_colon, is_equals, is_less, is_mark, is_plus, lifetime_of, literal_of, is_colons, is_arrow, ident_of, is_group, is_pair, Layer, ident_in, lifetime_in, mark_of}
-use Rattle.syn_grammar.specs.Words.{name_of, next_word, sees, is_word, name_at, word_at}
+use Rattle.syn_grammar.specs.Words.{name_of, next_word, peek, is_word, name_at, word_at}
 use Rattle.syn_items.specs.Generics.{behind, bounded, bounds, const_default, const_param, const_value, expr_at, expr_of_name, generic_param, lifetime_param, lifetimes, one_type_param, outlived, param_by, params, params_in_angles, type_default, type_param}
 use Rattle.syn_items.specs.Visibility.{path_of_word}
 use Rattle.print_core.specs.Items.{attributes_tokens, maybe_bounds, maybe_equal, param_tokens, type_param_tokens}
 use Rattle.print_core.specs.Marks.{Trees, comma, joined, lifetime, mark, optional, plus, unless_empty, word as printed_word}
 use Rattle.print_core.specs.Nodes.{bound_tokens, expr_tokens, type_tokens}
 use Rattle.print_core.specs.Paths.{angled, sum_of}
-use Rattle.law_spans.specs.Bare.{bare_bound, bare_expr, bare_lifetime, bare_type}
-use Rattle.law_spans_items.specs.Bare.{bare_attribute, bare_generic_param, bare_type_param}
-use Rattle.law_prefix.specs.Alike.{Relation, Any}
-use Rattle.law_prefix.specs.Front.{at}
+use Rattle.law_spans.specs.Erased.{erased_bound, erased_expr, erased_lifetime, erased_type}
+use Rattle.law_spans_items.specs.Erased.{erased_attribute, erased_generic_param, erased_type_param}
+use Rattle.law_prefix.specs.SameLookahead.{Relation, Any}
+use Rattle.law_prefix.specs.ReadsByPrefix.{at}
 use Rattle.law_round_trip.specs.Follow.{AfterPath, AfterType, BeginsType, Keep, Open, NotEnded}
-use Rattle.law_round_trip.specs.Parts.{AllBacks}
-use Rattle.law_round_trip.specs.Printed.{Again, Reads, Printed, Back}
+use Rattle.law_round_trip.specs.Parts.{AllRoundTrip}
+use Rattle.law_round_trip.specs.Printed.{Again, Reads, Printed, RoundTrips}
 use Rattle.law_round_trip.proofs.Bounds.{bounds-back}
 use Rattle.law_round_trip.proofs.Follows.{keep-false, never, type_before-mark}
 use Rattle.law_round_trip.proofs.Functions.{colon-mark}
@@ -59,8 +59,8 @@ pub behind-printed : {A C : Type 0} {bare : A → C} {print inner : A → Trees}
     → ((input after : Input) (x : A) → parser input ≡ Some (x, after) → print x ≡ mark (ch ∷ []) span ++ inner x) → Printed bare inner G F parser other
     → ((rest tail : Trees) → announces rest ≡ true → Start rest (mark (ch ∷ []) span ++ tail)) → ((rest tail : Trees) → announces rest ≡ false → F rest tail → (announces tail ≡ false) × Start rest tail)
     → Printed bare print Start F (behind announces none parser) (behind announces none other)
-behind-printed {A} {C} {bare} {print} {inner} {G} {F} {Start} {parser} {other} announces ch span none sees empty shows rule starts stays =
-    whole {P = Unit {0}} (eat_or-rest {Yes = G} {No = F} 1 announces (λ place. mark (ch ∷ []) span) (λ place. mark-length (ch ∷ []) span) (λ place tail. sees tail)
+behind-printed {A} {C} {bare} {print} {inner} {G} {F} {Start} {parser} {other} announces ch span none peek empty shows rule starts stays =
+    whole {P = Unit {0}} (eat_or-rest {Yes = G} {No = F} 1 announces (λ place. mark (ch ∷ []) span) (λ place. mark-length (ch ∷ []) span) (λ place tail. peek tail)
     (record {
       of = λ input after found e.
           let one = rule.of input after found e in
@@ -90,9 +90,9 @@ default-printed {A} {C} {bare} {print} {G} {F} {Start} {parser} {other} span rul
 
 -- a mark behind a type, which goes on with it only where the source had it
 module _ (ch : ℕ) (less : (ch == 60) ≡ false) (plus : (ch == 43) ≡ false) (span : Span) (rest tail : Trees) (equals : Keep is_equals rest (mark (ch ∷ []) span ++ tail)) (colon : Keep is_colon rest (mark (ch ∷ []) span ++ tail)) where
-  type_before-kept : (many : Bool) → AfterType many rest (mark (ch ∷ []) span ++ tail)
+  type_before-kept : (allow_plus : Bool) → AfterType allow_plus rest (mark (ch ∷ []) span ++ tail)
   unfolding is_pair
-  type_before-kept many = by many
+  type_before-kept allow_plus = by allow_plus
     where
       path : AfterPath true rest (mark (ch ∷ []) span ++ tail)
       path = (
@@ -106,31 +106,31 @@ module _ (ch : ℕ) (less : (ch == 60) ≡ false) (plus : (ch == 43) ≡ false) 
         },
       )
 
-      by : (many : Bool) → AfterType many rest (mark (ch ∷ []) span ++ tail)
+      by : (allow_plus : Bool) → AfterType allow_plus rest (mark (ch ∷ []) span ++ tail)
       by true = (path, never is_plus rest (mark (ch ∷ []) span ++ tail) (rw (mark_of-mark ch [] span tail) plus))
       by false = (path, tt)
 
-pub type_before-equals : (many : Bool) (rest tail : Trees) (span : Span) → is_equals rest ≡ true → AfterType many rest (mark (codes "=") span ++ tail)
-type_before-equals many rest tail span is = type_before-kept 61 refl refl span rest tail (λ h. is) (never is_colon rest (mark (codes "=") span ++ tail) (rw (mark_of-mark 61 [] span tail) refl)) many
+pub type_before-equals : (allow_plus : Bool) (rest tail : Trees) (span : Span) → is_equals rest ≡ true → AfterType allow_plus rest (mark (codes "=") span ++ tail)
+type_before-equals allow_plus rest tail span is = type_before-kept 61 refl refl span rest tail (λ h. is) (never is_colon rest (mark (codes "=") span ++ tail) (rw (mark_of-mark 61 [] span tail) refl)) allow_plus
 
-pub type_before-colon : (many : Bool) (rest tail : Trees) (span : Span) → is_colon rest ≡ true → AfterType many rest (mark (codes ":") span ++ tail)
-type_before-colon many rest tail span is = type_before-kept 58 refl refl span rest tail (never is_equals rest (mark (codes ":") span ++ tail) (rw (mark_of-mark 58 [] span tail) refl)) (λ h. is) many
+pub type_before-colon : (allow_plus : Bool) (rest tail : Trees) (span : Span) → is_colon rest ≡ true → AfterType allow_plus rest (mark (codes ":") span ++ tail)
+type_before-colon allow_plus rest tail span is = type_before-kept 58 refl refl span rest tail (never is_equals rest (mark (codes ":") span ++ tail) (rw (mark_of-mark 58 [] span tail) refl)) (λ h. is) allow_plus
 
 -- ---- lifetimes
 
-pub lifetime-back : Back bare_lifetime lifetime Open Any (take_as lifetime_of)
+pub lifetime-back : RoundTrips erased_lifetime lifetime Open Any (take_as lifetime_of)
 lifetime-back = record {
   of = λ input after found e.
       let one = exact.of input after found e in
-      record { again = λ tail last f. let more = one.again tail last f in record { value = more.value; new = more.new; is = more.is; same = ap bare_lifetime more.same }; first = one.first };
+      record { again = λ tail last f. let more = one.again tail last f in record { value = more.value; new = more.new; is = more.is; same = ap erased_lifetime more.same }; first = one.first };
 }
   where
     exact : Printed (λ (it : Lifetime). it) (λ it. tree.Lifetime it ∷ []) Open Any (take_as lifetime_of) (take_as lifetime_of)
     exact = take_as-printed lifetime_of tree.Lifetime (λ rest tail it is. lifetime_of-Lifetime it tail) (λ input tail it is f. (refl, rw (mark_of-Lifetime it tail) refl))
 
 -- `'a + 'b`
-pub lifetimes-back : (span : Span) → Back (map bare_lifetime) (λ found. sum_of (map lifetime found) span) Open (AfterType true) lifetimes
-lifetimes-back span = joined-printed bare_lifetime lifetime 1 is_plus (plus span) (mark-length (codes "+") span) (λ tail. rw (mark_of-mark 43 [] span tail) refl) (take_as lifetime_of) (take_as lifetime_of) (AfterType true)
+pub lifetimes-back : (span : Span) → RoundTrips (map erased_lifetime) (λ found. sum_of (map lifetime found) span) Open (AfterType true) lifetimes
+lifetimes-back span = joined-printed erased_lifetime lifetime 1 is_plus (plus span) (mark-length (codes "+") span) (λ tail. rw (mark_of-mark 43 [] span tail) refl) (take_as lifetime_of) (take_as lifetime_of) (AfterType true)
     lifetime-back (λ rest tail f. f.0) (λ rest. tt) (λ rest next tail seen f. tt) (λ rest tail seen f. (keep-false is_plus rest tail seen f.1, tt))
 
 some-bounds : {A : Type 0} (print : A → Trees) (found : List A) (span : Span) → 1 ≤ length found → maybe_bounds (map print found) span ≡ mark (codes ":") span ++ sum_of (map print found) span
@@ -140,7 +140,7 @@ some-bounds print (it ∷ found) span h = refl
 no-colon : (rest tail : Trees) → is_colon rest ≡ false → AfterType true rest tail → (is_colon tail ≡ false) × Any rest tail
 no-colon rest tail is f = (keep-false is_colon rest tail is f.0.1.colon, tt)
 
-outlived-back : (span : Span) → Back (map bare_lifetime) (λ found. maybe_bounds (map lifetime found) span) Any (AfterType true) outlived
+outlived-back : (span : Span) → RoundTrips (map erased_lifetime) (λ found. maybe_bounds (map lifetime found) span) Any (AfterType true) outlived
 outlived-back span = behind-printed is_colon 58 span [] (λ tail. colon-mark tail span) refl
     (λ input after found e. some-bounds lifetime found span (joined-some (eat 1 is_plus) (take_as lifetime_of) (length input.rest) [] input after found e)) (lifetimes-back span)
     (λ rest tail is. tt) no-colon
@@ -211,7 +211,7 @@ name-param rest tail it is = record {
   some = refl;
 }
 
-const-param : (rest tail : Trees) (span : Span) → sees word.Const rest ≡ true → BeginsParam rest (printed_word (codes "const") span ++ tail)
+const-param : (rest tail : Trees) (span : Span) → peek word.Const rest ≡ true → BeginsParam rest (printed_word (codes "const") span ++ tail)
 unfolding printed_word
 const-param rest tail span is = record {
   lifetime = rw (lifetime_of-word (codes "const") span tail, word-lifetime rest is) refl;
@@ -230,15 +230,15 @@ hash-open rest (tree ∷ trees) is = (refl, rw (eqb-true (mark_of (tree ∷ tree
 abbrev pub Params : Type 0
 Params = List GenericParam × Span
 
-abbrev pub bare_params : Params → List GenericParam
-bare_params found = map bare_generic_param found.0
+abbrev pub erased_params : Params → List GenericParam
+erased_params found = map erased_generic_param found.0
 
 abbrev pub params_tokens : Params → Trees
 params_tokens found = unless_empty found.0 (angled (map param_tokens found.0) found.1)
 
-module _ (parts : AllBacks (within max_depth)) where
+module _ (parts : AllRoundTrip (within max_depth)) where
   -- `A + 'b`
-  pub bounds_here-back : (span : Span) → Back (map bare_bound) (λ found. sum_of (map bound_tokens found) span) NotEnded (AfterType true) bounds
+  pub bounds_here-back : (span : Span) → RoundTrips (map erased_bound) (λ found. sum_of (map bound_tokens found) span) NotEnded (AfterType true) bounds
   unfolding Rattle.syn_grammar.specs.Paths.bounds
   bounds_here-back span = bounds-back (within max_depth) parts true span
 
@@ -246,14 +246,14 @@ module _ (parts : AllBacks (within max_depth)) where
   unfolding joined_bounds
   bounds-some input after found e = joined-some (eat 1 is_plus) (one_bound (within max_depth)) (length input.rest) [] input after found e
 
-  bounded-back : (span : Span) → Back (map bare_bound) (λ found. maybe_bounds (map bound_tokens found) span) Any (AfterType true) bounded
+  bounded-back : (span : Span) → RoundTrips (map erased_bound) (λ found. maybe_bounds (map bound_tokens found) span) Any (AfterType true) bounded
   bounded-back span = behind-printed is_colon 58 span [] (λ tail. colon-mark tail span) refl (λ input after found e. some-bounds bound_tokens found span (bounds-some input after found e)) (bounds_here-back span)
       (λ rest tail is. tt) no-colon
 
   no-equals : (rest tail : Trees) → is_equals rest ≡ false → AfterType true rest tail → (is_equals tail ≡ false) × AfterType true rest tail
   no-equals rest tail is f = (keep-false is_equals rest tail is f.0.1.equals, f)
 
-  type_default-back : (span : Span) → Back (option_map bare_type) (λ found. maybe_equal (option_map type_tokens found) span) (AfterType true) (AfterType true) type_default
+  type_default-back : (span : Span) → RoundTrips (option_map erased_type) (λ found. maybe_equal (option_map type_tokens found) span) (AfterType true) (AfterType true) type_default
   type_default-back span = default-printed span (parts.ty true) (λ rest tail is. type_before-equals true rest tail span is) no-equals
 
   -- ---- constants
@@ -265,16 +265,16 @@ module _ (parts : AllBacks (within max_depth)) where
   print-name : (it : Ident) → expr_tokens (expr_of_name it) ≡ tree.Ident it ∷ []
   print-name it = print-expr_path (path_of_word it) it.span ∙ print-word it Turbofish
 
-  constant_by : (constant : Bool) → Rest {P = Unit {0}} {Q = Unit {0}} Free bare_expr expr_tokens hole (λ rest tail. begins_constant tail ≡ constant) (AfterType true) (if constant then expr_at constant_level else expr_of_name <$> take_as name_of) (λ q. if constant then expr_at constant_level else expr_of_name <$> take_as name_of)
+  constant_by : (constant : Bool) → Rest {P = Unit {0}} {Q = Unit {0}} Free erased_expr expr_tokens hole (λ rest tail. begins_constant tail ≡ constant) (AfterType true) (if constant then expr_at constant_level else expr_of_name <$> take_as name_of) (λ q. if constant then expr_at constant_level else expr_of_name <$> take_as name_of)
   constant_by true = shown-rest tt (λ it. refl) (weak-printed (λ rest tail f other. absurd cc) (λ rest tail f. f.begins) (parts.expr constant_level))
   constant_by false = take_as-rest {Second = AfterType true} name_of tree.Ident (λ rest tail it is. name_of-Ident rest tail it is) (λ it. pure-rest tt (expr_of_name it) (λ q. expr_of_name it) (print-name it) (λ q ok. refl))
       (λ input tail it is f. name-no-constant input.rest tail it is)
 
-  const_value-back : Back bare_expr expr_tokens Any (AfterType true) const_value
+  const_value-back : RoundTrips erased_expr expr_tokens Any (AfterType true) const_value
   unfolding const_value
   const_value-back = whole (test-rest {by = λ constant rest tail. begins_constant tail ≡ constant} begins_constant constant_by (λ constant rest tail is f. (f, tt)))
 
-  const_default-back : (span : Span) → Back (option_map bare_expr) (λ found. maybe_equal (option_map expr_tokens found) span) (AfterType true) (AfterType true) const_default
+  const_default-back : (span : Span) → RoundTrips (option_map erased_expr) (λ found. maybe_equal (option_map expr_tokens found) span) (AfterType true) (AfterType true) const_default
   const_default-back span = default-printed span const_value-back (λ rest tail is. type_before-equals true rest tail span is) no-equals
 
   -- ---- one parameter
@@ -285,10 +285,10 @@ module _ (parts : AllBacks (within max_depth)) where
 
   module _ (start : Span) (attrs : List Attribute) where
     abbrev Bound : Env → Type 0
-    Bound q = Unit {0} × (map bare_attribute q.1 ≡ map bare_attribute attrs)
+    Bound q = Unit {0} × (map erased_attribute q.1 ≡ map erased_attribute attrs)
 
     abbrev ParamRest : Parser GenericParam → (Env → Parser GenericParam) → Type 0
-    ParamRest parser others = Rest {P = Span} {Q = Env} Bound bare_generic_param param_tokens (λ place tokens. attributes_tokens attrs ++ tokens) BeginsParam AfterParam parser others
+    ParamRest parser others = Rest {P = Span} {Q = Env} Bound erased_generic_param param_tokens (λ place tokens. attributes_tokens attrs ++ tokens) BeginsParam AfterParam parser others
 
     lifetime_param-rest : ParamRest (lifetime_param start attrs) (λ q. lifetime_param q.0.1 q.1)
     unfolding lifetime_param
@@ -299,7 +299,7 @@ module _ (parts : AllBacks (within max_depth)) where
         (λ rest tail f. f) (λ rest tail f. tt))
         (λ input tail it is f. lifetime-param input.rest tail it is)
 
-    type_param-rest : Rest {P = Span} {Q = Env} Bound bare_type_param type_param_tokens (λ place tokens. attributes_tokens attrs ++ tokens) BeginsParam AfterParam (type_param start attrs) (λ q. type_param q.0.1 q.1)
+    type_param-rest : Rest {P = Span} {Q = Env} Bound erased_type_param type_param_tokens (λ place tokens. attributes_tokens attrs ++ tokens) BeginsParam AfterParam (type_param start attrs) (λ q. type_param q.0.1 q.1)
     unfolding type_param
     type_param-rest = take_as-rest {Second = Any} name_of tree.Ident (λ rest tail it is. name_of-Ident rest tail it is) (λ it.
         then-rest {Second = AfterType true} (λ place. bounded-back place) (λ found.
@@ -312,7 +312,7 @@ module _ (parts : AllBacks (within max_depth)) where
 
     const_param-rest : ParamRest (const_param start attrs) (λ q. const_param q.0.1 q.1)
     unfolding const_param
-    const_param-rest = expect-rest {Second = Any} 1 (sees word.Const) (λ place. printed_word (codes "const") place) (word-length (codes "const")) (λ place tail. rw (sees-const place tail) refl)
+    const_param-rest = expect-rest {Second = Any} 1 (peek word.Const) (λ place. printed_word (codes "const") place) (word-length (codes "const")) (λ place tail. rw (sees-const place tail) refl)
         (take_as-rest {Second = Any} name_of tree.Ident (λ rest tail it is. name_of-Ident rest tail it is) (λ it.
         expect-rest {Second = BeginsType} 1 is_colon (λ place. mark (codes ":") place) (mark-length (codes ":")) (λ place tail. colon-mark tail place)
         (then-rest {Second = AfterType true} (λ place. parts.ty true) (λ ty.
@@ -330,14 +330,14 @@ module _ (parts : AllBacks (within max_depth)) where
     param_by-rest false true = const_param-rest
     param_by-rest false false = made-rest param.Ty (λ it. refl) (λ one other same. ap param.Ty same) type_param-rest
 
-  pub generic_param-back : Back bare_generic_param param_tokens Open AfterParam generic_param
+  pub generic_param-back : RoundTrips erased_generic_param param_tokens Open AfterParam generic_param
   unfolding generic_param
   generic_param-back = whole (here-rest (λ start. then-rest {Second = BeginsParam} (λ (place : Span). attributes-back parts Open hash-open) (λ attrs.
-      test-rest {by = λ lifetime. BeginsParam} (λ trees. is_there (lifetime_of trees)) (λ lifetime. test-rest {by = λ constant. BeginsParam} (sees word.Const) (λ constant. param_by-rest start attrs lifetime constant)
+      test-rest {by = λ lifetime. BeginsParam} (λ trees. is_there (lifetime_of trees)) (λ lifetime. test-rest {by = λ constant. BeginsParam} (peek word.Const) (λ constant. param_by-rest start attrs lifetime constant)
       (λ constant rest tail is f. (f.constant ∙ is, f))) (λ lifetime rest tail is f. (f.lifetime ∙ is, f)))
       (λ rest tail f. (never (is_mark 35) rest tail f.hash, (f.some, f.greater))) (λ rest tail f. f)))
 
-  pub one_type_param-back : Back bare_type_param type_param_tokens Open AfterParam one_type_param
+  pub one_type_param-back : RoundTrips erased_type_param type_param_tokens Open AfterParam one_type_param
   unfolding one_type_param
   one_type_param-back = whole (here-rest (λ start. then-rest {Second = BeginsParam} (λ (place : Span). attributes-back parts Open hash-open) (λ attrs. type_param-rest start attrs)
       (λ rest tail f. (never (is_mark 35) rest tail f.hash, (f.some, f.greater))) (λ rest tail f. f)))
@@ -347,24 +347,24 @@ module _ (parts : AllBacks (within max_depth)) where
   abbrev inner_tokens : Span → List GenericParam → Trees
   inner_tokens span found = joined (comma span) (map param_tokens found) ++ mark (codes ">") span
 
-  inner-back : (span : Span) → Back (map bare_generic_param) (inner_tokens span) Any Any params_in_angles
-  inner-back span = until-printed bare_generic_param param_tokens 62 refl generic_param generic_param generic_param-back (λ rest tail f. f)
+  inner-back : (span : Span) → RoundTrips (map erased_generic_param) (inner_tokens span) Any Any params_in_angles
+  inner-back span = until-printed erased_generic_param param_tokens 62 refl generic_param generic_param generic_param-back (λ rest tail f. f)
       (λ rest tail span. type_before-mark 44 refl refl refl refl span rest tail true) (λ rest tail span. type_before-mark 62 refl refl refl refl span rest tail true) span
 
   -- nothing is printed where there are none
-  none-read : (span : Span) → Reads bare_params (λ tail. Unit {0}) (λ tail. is_less tail ≡ false) params [] ([], span)
+  none-read : (span : Span) → Reads erased_params (λ tail. Unit {0}) (λ tail. is_less tail ≡ false) params [] ([], span)
   unfolding params after_eat
   none-read span = record { again = λ tail last f. record { value = ([], CallSite); new = last; is = rw f refl; same = refl }; first = λ tail f. tt }
 
-  some-read : (it : GenericParam) (found : List GenericParam) (span : Span) → Reads (map bare_generic_param) (λ tail. Unit {0}) (λ tail. Unit {0}) params_in_angles (inner_tokens span (it ∷ found)) (it ∷ found)
-      → Reads bare_params (λ tail. Unit {0}) (λ tail. is_less tail ≡ false) params (params_tokens (it ∷ found, span)) (it ∷ found, span)
+  some-read : (it : GenericParam) (found : List GenericParam) (span : Span) → Reads (map erased_generic_param) (λ tail. Unit {0}) (λ tail. Unit {0}) params_in_angles (inner_tokens span (it ∷ found)) (it ∷ found)
+      → Reads erased_params (λ tail. Unit {0}) (λ tail. is_less tail ≡ false) params (params_tokens (it ∷ found, span)) (it ∷ found, span)
   unfolding params after_eat
   some-read it found span one = record { again = λ tail last f. read tail last; first = λ tail f. tt }
     where
       flat : (tail : Trees) → params_tokens (it ∷ found, span) ++ tail ≡ mark (codes "<") span ++ (inner_tokens span (it ∷ found) ++ tail)
       flat tail = angled-flat (map param_tokens (it ∷ found)) span tail
 
-      read : (tail : Trees) (last : Span) → Again bare_params params (at (params_tokens (it ∷ found, span) ++ tail) last) tail (it ∷ found, span)
+      read : (tail : Trees) (last : Span) → Again erased_params params (at (params_tokens (it ∷ found, span) ++ tail) last) tail (it ∷ found, span)
       read tail last =
           let less = skipped-over 1 (mark (codes "<") span) (inner_tokens span (it ∷ found) ++ tail) last (mark-length (codes "<") span) in
           let more = one.again tail less.0 tt in
@@ -375,18 +375,18 @@ module _ (parts : AllBacks (within max_depth)) where
             same = more.same;
           }
 
-  pub params-back : Back bare_params params_tokens Any AfterParams params
+  pub params-back : RoundTrips erased_params params_tokens Any AfterParams params
   unfolding params after_eat
   params-back = record { of = λ input after found e. by input after found (is_less input.rest) e }
     where
-      listed : (items : List GenericParam) (span : Span) → Reads (map bare_generic_param) (λ tail. Unit {0}) (λ tail. Unit {0}) params_in_angles (inner_tokens span items) items
-          → Reads bare_params (λ tail. Unit {0}) (λ tail. is_less tail ≡ false) params (params_tokens (items, span)) (items, span)
+      listed : (items : List GenericParam) (span : Span) → Reads (map erased_generic_param) (λ tail. Unit {0}) (λ tail. Unit {0}) params_in_angles (inner_tokens span items) items
+          → Reads erased_params (λ tail. Unit {0}) (λ tail. is_less tail ≡ false) params (params_tokens (items, span)) (items, span)
       listed [] span one = none-read span
       listed (it ∷ items) span one = some-read it items span one
 
       by : (input after : Input) (found : Params) (opened : Bool)
           → (if opened then params_in_angles >>= (λ items. upto (first_span input.rest) >>= (λ span. pure (items, span))) else pure ([], CallSite)) (after_eat 1 opened input) ≡ Some (found, after)
-          → Reads bare_params (λ tail. Unit {0}) (λ tail. is_less tail ≡ false) params (params_tokens found) found
+          → Reads erased_params (λ tail. Unit {0}) (λ tail. is_less tail ≡ false) params (params_tokens found) found
       by input after found true e =
           let inside = bind-at (params_in_angles (skipped 1 input)) (λ items. upto (first_span input.rest) >>= (λ span. pure (items, span))) found after e in
           let span = joined_spans (first_span input.rest) inside.1.last in

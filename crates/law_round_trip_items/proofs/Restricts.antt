@@ -23,16 +23,17 @@ use Rattle.syn_grammar.specs.Paths.{path}
 use Rattle.syn_grammar.specs.Token.{Layer, contents_of, ident_of, is_comma, is_group, is_joint, is_pair, mark_of}
 use Rattle.syn_grammar.specs.Trees.{all}
 use Rattle.syn_grammar.specs.Types.{type_group, type_in_parentheses, type_path, type_step}
-use Rattle.syn_grammar.specs.Words.{begins_segment, is_word, named_words, next_word, other_keywords, same_text, sees, segment_at, segment_word, word_of}
+use Rattle.syn_grammar.specs.Words.{begins_segment, is_word, named_words, next_word, other_keywords, peek, segment_at, segment_word, word_of}
+use Rattle.std.specs.Str.{bytes_eq}
 use Rattle.syn_items.specs.Generics.{any_type}
 use Rattle.syn_items.specs.Visibility.{is_scope, path_of_word, restriction, restriction_in, scope_in, scope_word}
 use Rattle.print_core.specs.declared.path.PathStyle.TheVariants.{Plain}
 use Rattle.print_core.specs.Marks.{Trees, comma, tuple}
 use Rattle.print_core.specs.Nodes.{path_tokens, type_tokens}
-use Rattle.law_spans.specs.Bare.{bare_type}
+use Rattle.law_spans.specs.Erased.{erased_type}
 use Rattle.law_round_trip.specs.Follow.{AfterType, BeginsType, Keep, is_type}
-use Rattle.law_round_trip.specs.Printed.{Back}
-use Rattle.law_prefix.specs.Front.{at}
+use Rattle.law_round_trip.specs.Printed.{RoundTrips}
+use Rattle.law_prefix.specs.ReadsByPrefix.{at}
 use Rattle.law_round_trip.proofs.Follows.{type-end, type-seen, type_before-mark}
 use Rattle.law_round_trip.proofs.Groups.{tuple-long, tuple-single}
 use Rattle.law_round_trip.proofs.Lists.{ItemsMore, items_from-more, some-length, comma-length}
@@ -47,7 +48,7 @@ use Rattle.law_round_trip_items.proofs.Makes.{inside-parts, kept-read}
 use Rattle.law_round_trip_items.proofs.Singles.{path-single}
 use Rattle.node_expr.specs.declared.path.Path.{Path}
 use Rattle.syn_grammar.specs.Readers.{Readers}
-use Rattle.law_round_trip.specs.Parts.{AllBacks}
+use Rattle.law_round_trip.specs.Parts.{AllRoundTrip}
 
 -- ---- restrictions
 
@@ -77,7 +78,7 @@ record Alone (trees : Trees) : Type 0 where
 abbrev single : Option Ident → Input → Parser (Bool × Path)
 single found behind = (λ it. (false, it)) <$> (path_of_word <$> (λ input. taken found behind))
 
-restricting-alone : (trees : Trees) → sees word.In trees ≡ false → restricting trees ≡ true → Alone trees
+restricting-alone : (trees : Trees) → peek word.In trees ≡ false → restricting trees ≡ true → Alone trees
 unfolding restriction after_eat
 restricting-alone trees plain h = by (scope_word trees) refl (next (start_of trees)) refl (rw plain at h)
   where
@@ -89,7 +90,7 @@ restricting-alone trees plain h = by (scope_word trees) refl (next (start_of tre
         ended [] none h = record { it = it; word = is; ends = ap (λ (input : Input). input.rest) same ∙ none }
         ended (tree ∷ rest) some h = absurd cc
 
-alone-restricting : (trees : Trees) → sees word.In trees ≡ false → Alone trees → restricting trees ≡ true
+alone-restricting : (trees : Trees) → peek word.In trees ≡ false → Alone trees → restricting trees ≡ true
 unfolding restriction after_eat
 alone-restricting trees plain one = rw (plain, one.word, one.ends) refl
 
@@ -102,9 +103,9 @@ alone-length (tree ∷ trees) one = ap (λ trees. suc (length trees)) one.ends
 
 scope-word : (it : Ident) → it.raw ≡ false → is_scope it.text ≡ true → word_of it ≡ word.PathStart
 unfolding word_of named_words other_keywords
-scope-word it raw h = by (same_text it.text (codes "crate")) (same_text it.text (codes "self")) (same_text it.text (codes "super")) refl refl refl h
+scope-word it raw h = by (bytes_eq it.text (codes "crate")) (bytes_eq it.text (codes "self")) (bytes_eq it.text (codes "super")) refl refl refl h
   where
-    by : (crate self super : Bool) → same_text it.text (codes "crate") ≡ crate → same_text it.text (codes "self") ≡ self → same_text it.text (codes "super") ≡ super → (crate || (self || (super || false))) ≡ true → word_of it ≡ word.PathStart
+    by : (crate self super : Bool) → bytes_eq it.text (codes "crate") ≡ crate → bytes_eq it.text (codes "self") ≡ self → bytes_eq it.text (codes "super") ≡ super → (crate || (self || (super || false))) ≡ true → word_of it ≡ word.PathStart
     by true self super is one other h = rw (raw, equal_texts it.text (codes "crate") (sym is)) refl
     by false true super is one other h = rw (raw, equal_texts it.text (codes "self") (sym one)) refl
     by false false true is one other h = rw (raw, equal_texts it.text (codes "super") (sym other)) refl
@@ -149,7 +150,7 @@ segment-in word.In h = absurd cc
 segment-in _ h = refl
 
 -- no type begins with `in`
-type-in : (trees : Trees) → is_type (type_start trees) ≡ true → sees word.In trees ≡ false
+type-in : (trees : Trees) → is_type (type_start trees) ≡ true → peek word.In trees ≡ false
 unfolding type_start is_group mark_of is_pair is_joint next_word ident_of
 type-in [] h = absurd cc
 type-in (tree ∷ trees) h = by (out-TokenTree tree) refl
@@ -158,7 +159,7 @@ type-in (tree ∷ trees) h = by (out-TokenTree tree) refl
     starts word.In h = absurd cc
     starts _ h = refl
 
-    by : (layer : Layer) → out-TokenTree tree ≡ layer → sees word.In (tree ∷ trees) ≡ false
+    by : (layer : Layer) → out-TokenTree tree ≡ layer → peek word.In (tree ∷ trees) ≡ false
     by (TokenTree-F.Ident other) same = rw same (starts (word_of other) (rw same at h))
     by (TokenTree-F.Lifetime other) same = rw same refl
     by (TokenTree-F.Punct other) same = rw same refl
@@ -178,20 +179,20 @@ unfolding scope_word ident_of
 scope_word-one it tail = rw (out-Ident it) refl
 
 -- it is no `in`
-alone-in : (trees : Trees) → Alone trees → sees word.In trees ≡ false
+alone-in : (trees : Trees) → Alone trees → peek word.In trees ≡ false
 unfolding scope_word next_word
 alone-in trees one =
     let name = scope_in-word (ident_of trees) one.it one.word in
     rw (name.1, name.2) refl
 
-in-none : sees word.In [] ≡ false
+in-none : peek word.In [] ≡ false
 unfolding next_word ident_of
 in-none = refl
 
 -- ---- types in parentheses
 
 -- a type begins as the source's did
-starts : (depth : ℕ) → Back bare_type type_tokens (λ rest tail. type_start tail ≡ type_start rest) (AfterType true) (type_step (within depth) true)
+starts : (depth : ℕ) → RoundTrips erased_type type_tokens (λ rest tail. type_start tail ≡ type_start rest) (AfterType true) (type_step (within depth) true)
 starts depth = type_start-back (within depth) (within-backs depth) true
 
 -- what all tokens are printed as
@@ -225,12 +226,12 @@ type-alone (suc below) trees found last e one = by (rw start at read)
         word name is prints = scope_word-ident trees name (segment-ident trees name is) ∙ (sym (scope_word-one name []) ∙ ap scope_word (sym prints) ∙ one.word)
 
 -- a list of a type and more is no word alone
-tuple-first : (readers : Readers) → AllBacks readers → (turns : ℕ) (span : Span) (first : Ty) (input after : Input) (found : List Ty) → items_from (readers.ty true) turns (first ∷ []) input ≡ Some (found, after)
+tuple-first : (readers : Readers) → AllRoundTrip readers → (turns : ℕ) (span : Span) (first : Ty) (input after : Input) (found : List Ty) → items_from (readers.ty true) turns (first ∷ []) input ≡ Some (found, after)
     → (more : Trees) × (tuple (map type_tokens found) span ≡ type_tokens first ++ (comma span ++ more))
 tuple-first readers parts turns span first input after found e =
-    by (items_from-more bare_type type_tokens (readers.ty true) (readers.ty true) (parts.ty true) (λ rest tail f. (type-seen tail f.0).some) (type-end true) (λ rest tail span. type_before-mark 44 refl refl refl refl span rest tail true) span turns (first ∷ []) input after found e)
+    by (items_from-more erased_type type_tokens (readers.ty true) (readers.ty true) (parts.ty true) (λ rest tail f. (type-seen tail f.0).some) (type-end true) (λ rest tail span. type_before-mark 44 refl refl refl refl span rest tail true) span turns (first ∷ []) input after found e)
   where
-    by : (found ≡ first ∷ []) ⊎ ItemsMore bare_type type_tokens (readers.ty true) (readers.ty true) (parts.ty true) (λ rest tail f. (type-seen tail f.0).some) (type-end true) (λ rest tail span. type_before-mark 44 refl refl refl refl span rest tail true) span (first ∷ []) found
+    by : (found ≡ first ∷ []) ⊎ ItemsMore erased_type type_tokens (readers.ty true) (readers.ty true) (parts.ty true) (λ rest tail f. (type-seen tail f.0).some) (type-end true) (λ rest tail span. type_before-mark 44 refl refl refl refl span rest tail true) span (first ∷ []) found
         → (more : Trees) × (tuple (map type_tokens found) span ≡ type_tokens first ++ (comma span ++ more))
     by (inl same) = ([], rw same (tuple-single (type_tokens first) span ∙ ap (λ tokens. type_tokens first ++ tokens) (sym (append-nil (comma span)))))
     by (inr more) = (more.tokens, tuple-long (map type_tokens found) span (rw (length-map found type_tokens) (more.longer)) ∙ more.is ∙ flat more.tokens)

@@ -30,9 +30,9 @@ use Rattle.syn_grammar.specs.Words.{next_word}
 use Rattle.syn_items.specs.Attributes.{expr_in, number_in}
 use Rattle.print_core.specs.Marks.{Trees}
 use Rattle.print_core.specs.Nodes.{expr_tokens}
-use Rattle.law_prefix.specs.Front.{at}
+use Rattle.law_prefix.specs.ReadsByPrefix.{at}
 use Rattle.law_round_trip.proofs.Follows.{looser-end}
-use Rattle.law_round_trip.specs.Parts.{AllBacks}
+use Rattle.law_round_trip.specs.Parts.{AllRoundTrip}
 use Rattle.law_round_trip.proofs.Steps.{bind-at}
 use Rattle.law_round_trip.proofs.Wholes.{all-again, all-parts}
 use Rattle.law_round_trip_items.proofs.Makes.{kept-read}
@@ -277,7 +277,7 @@ pub number-expr : (trees : Trees) (found : Lit) → number_in trees ≡ Some fou
 number-expr trees found is = let it = number-parts trees found is in (minus_of trees it, minus-expr trees it)
 
 -- an expression that is no number with a sign does not print as one
-pub unsigned : AllBacks (within max_depth) → (trees : Trees) (found : Expr) → expr_in trees ≡ Some found → number_in trees ≡ None → number_in (expr_tokens found) ≡ None
+pub unsigned : AllRoundTrip (within max_depth) → (trees : Trees) (found : Expr) → expr_in trees ≡ Some found → number_in trees ≡ None → number_in (expr_tokens found) ≡ None
 unsigned parts trees found e none = by (number_in (expr_tokens found)) refl
   where
     numbered : Number (expr_tokens found) → signed_number found ≡ true

@@ -18,13 +18,13 @@ use Rattle.syn_grammar.specs.Token.{is_mark, literal_of}
 use Rattle.print_core.specs.Literals.{lit_tokens}
 use Rattle.print_core.specs.Marks.{Trees, contents, mark}
 use Rattle.print_core.specs.Nodes.{expr_tokens}
-use Rattle.law_spans.specs.Bare.{bare_expr, bare_lit}
+use Rattle.law_spans.specs.Erased.{erased_expr, erased_lit}
 use Rattle.law_spans.proofs.Made.{bare_expr-Lit}
-use Rattle.law_prefix.specs.Alike.{Any}
+use Rattle.law_prefix.specs.SameLookahead.{Any}
 use Rattle.syn_items.specs.Attributes.{expr_in, negative, number_in, signed, stream, value_by, value_of}
 use Rattle.law_round_trip.specs.Follow.{NotEnded}
-use Rattle.law_round_trip.specs.Parts.{AllBacks}
-use Rattle.law_round_trip.specs.Printed.{Back}
+use Rattle.law_round_trip.specs.Parts.{AllRoundTrip}
+use Rattle.law_round_trip.specs.Printed.{RoundTrips}
 use Rattle.law_round_trip.proofs.Streams.{contents-stream}
 use Rattle.law_round_trip.proofs.AtomStarts.{expr-some, literal_of-Literal}
 use Rattle.law_round_trip.proofs.Follows.{looser-end}
@@ -38,7 +38,7 @@ use Rattle.law_round_trip.proofs.Exprs.{print-Lit}
 -- ---- numbers with a minus
 
 negative-rest : {Q : Type 0} (Ok : Q → Type 0) (found : Option Value) (token : Literal) (span : Span)
-    → Rest {P = Span} {Q = Q × Span} (λ q. Ok q.0) bare_lit lit_tokens (λ place more. mark (codes "-") place ++ (tree.Literal token ∷ more)) Any Any (taken (negative span (literals.lit_by token found))) (λ q. taken (negative q.1 (literals.lit_by token found)))
+    → Rest {P = Span} {Q = Q × Span} (λ q. Ok q.0) erased_lit lit_tokens (λ place more. mark (codes "-") place ++ (tree.Literal token ∷ more)) Any Any (taken (negative span (literals.lit_by token found))) (λ q. taken (negative q.1 (literals.lit_by token found)))
 negative-rest Ok (Some (value.Int digits)) token span =
     pure-rest span (lit.Int (record { negative = true; digits = digits; token = token; span = span })) (λ q. lit.Int (record { negative = true; digits = digits; token = token; span = q.1 })) refl (λ q ok. refl)
 negative-rest Ok (Some value.Float) token span =
@@ -53,7 +53,7 @@ minus-some : (rest tail : Trees) (span : Span) → NotEnded rest (mark (codes "-
 unfolding mark
 minus-some rest tail span = refl
 
-pub signed-back : Back bare_lit lit_tokens NotEnded Any signed
+pub signed-back : RoundTrips erased_lit lit_tokens NotEnded Any signed
 unfolding signed literals.lit_of
 signed-back = whole (here-rest (λ start. expect-rest {Second = Any} 1 (is_mark 45) (λ place. mark (codes "-") place) (mark-length (codes "-")) (λ place tail. rw (mark_of-mark 45 [] place tail) refl)
     (take_as-rest {Second = Any} literal_of tree.Literal (λ rest tail it is. literal_of-Literal it tail) (λ token.
@@ -72,9 +72,9 @@ print-Verbatim trees = verbatim ∙ contents-stream trees
 -- the printing of the value that the tokens are is no empty list, and is the same value
 pub record ValueAgain (found : Expr) : Type 0 where
   pub some : is_end (expr_tokens found) ≡ false
-  pub same : bare_expr (value_of (expr_tokens found)) ≡ bare_expr found
+  pub same : erased_expr (value_of (expr_tokens found)) ≡ erased_expr found
 
-module _ (parts : AllBacks (within max_depth)) where
+module _ (parts : AllRoundTrip (within max_depth)) where
   pub value-again : (trees : Trees) → is_end trees ≡ false → ValueAgain (value_of trees)
   unfolding value_of
   value-again trees some = by (number_in trees) (expr_in trees) refl refl

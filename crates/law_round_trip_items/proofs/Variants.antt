@@ -13,12 +13,12 @@ use Rattle.syn_items.specs.Fields.{discriminant_of, variant, variants}
 use Rattle.print_core.specs.Items.{maybe_equal, variant_tokens}
 use Rattle.print_core.specs.Marks.{Trees, comma, group, joined, mark}
 use Rattle.print_core.specs.Nodes.{expr_tokens}
-use Rattle.law_spans.specs.Bare.{bare_expr}
-use Rattle.law_spans_items.specs.Bare.{bare_variant}
-use Rattle.law_prefix.specs.Alike.{Any}
+use Rattle.law_spans.specs.Erased.{erased_expr}
+use Rattle.law_spans_items.specs.Erased.{erased_variant}
+use Rattle.law_prefix.specs.SameLookahead.{Any}
 use Rattle.law_round_trip.specs.Follow.{AfterExpr, Keep, NotEnded}
-use Rattle.law_round_trip.specs.Parts.{AllBacks}
-use Rattle.law_round_trip.specs.Printed.{Back}
+use Rattle.law_round_trip.specs.Parts.{AllRoundTrip}
+use Rattle.law_round_trip.specs.Printed.{RoundTrips}
 use Rattle.law_round_trip.proofs.Follows.{keep-false, never}
 use Rattle.law_round_trip.proofs.Infix.{expr-end, expr_before-comma}
 use Rattle.law_round_trip.proofs.Marks.{is_group-mark, mark_of-mark, name_of-Ident, out-Ident}
@@ -72,12 +72,12 @@ name-plain : (it : Ident) (rest tail : Trees) → Plain rest (tree.Ident it ∷ 
 unfolding mark_of
 name-plain it rest tail = (refl, rw (out-Ident it) refl)
 
-module _ (parts : AllBacks (within max_depth)) where
-  discriminant-back : (span : Span) → Back (option_map bare_expr) (λ found. maybe_equal (option_map expr_tokens found) span) AfterFields AfterVariant discriminant_of
+module _ (parts : AllRoundTrip (within max_depth)) where
+  discriminant-back : (span : Span) → RoundTrips (option_map erased_expr) (λ found. maybe_equal (option_map expr_tokens found) span) AfterFields AfterVariant discriminant_of
   discriminant-back span = default-printed span (weak-printed (λ rest tail f. f.expr) (λ rest tail f. f) (parts.expr any_level))
       (λ rest tail seen. fields_before-mark 61 rest tail span) (λ rest tail seen f. (keep-false is_equals rest tail seen f.equals, f.fields))
 
-  pub variant-back : Back bare_variant variant_tokens NotEnded AfterVariant variant
+  pub variant-back : RoundTrips erased_variant variant_tokens NotEnded AfterVariant variant
   unfolding variant
   variant-back = whole (here-rest (λ start.
       then-rest {Second = Plain} (λ place. attributes-back parts NotEnded (λ rest tail seen. mark-some 35 tail refl seen)) (λ attrs.
@@ -91,5 +91,5 @@ module _ (parts : AllBacks (within max_depth)) where
       (λ rest tail f. plain-attributes rest tail f) (λ rest tail f. f)))
 
   -- all variants, in braces
-  pub variants-back : (span : Span) → Back (map bare_variant) (λ items. group delimiter.Brace (joined (comma span) (map variant_tokens items)) span) (Grouped delimiter.Brace) Any (inside delimiter.Brace variants)
+  pub variants-back : (span : Span) → RoundTrips (map erased_variant) (λ items. group delimiter.Brace (joined (comma span) (map variant_tokens items)) span) (Grouped delimiter.Brace) Any (inside delimiter.Brace variants)
   variants-back span = block-printed delimiter.Brace variant-back (λ rest tail f. f) variant-end variant_before-comma span

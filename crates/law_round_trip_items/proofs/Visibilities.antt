@@ -17,17 +17,17 @@ use Rattle.syn_grammar.specs.Input.{Input, Parser, ◌>>=◌, next, start_of, te
 use Rattle.syn_grammar.specs.Look.{is_there}
 use Rattle.syn_grammar.specs.Token.{contents_of, ident_of, is_group}
 use Rattle.syn_grammar.specs.Trees.{all}
-use Rattle.syn_grammar.specs.Words.{next_word, sees, word_of, other_keywords, named_words}
+use Rattle.syn_grammar.specs.Words.{next_word, peek, word_of, other_keywords, named_words}
 use Rattle.syn_items.specs.Visibility.{is_scope, path_of_word, public_by, restriction, restriction_in, scope, scope_in, scope_word, visibility}
 use Rattle.print_core.specs.declared.path.PathStyle.TheVariants.{Plain}
 use Rattle.print_core.specs.Items.{visibility_tokens}
 use Rattle.print_core.specs.Marks.{Trees, group, word as printed_word}
 use Rattle.print_core.specs.Nodes.{path_tokens}
-use Rattle.law_spans.specs.Bare.{bare_path}
-use Rattle.law_spans_items.specs.Bare.{bare_visibility}
-use Rattle.law_prefix.specs.Alike.{Relation, Any}
-use Rattle.law_round_trip.specs.Parts.{AllBacks}
-use Rattle.law_round_trip.specs.Printed.{Back}
+use Rattle.law_spans.specs.Erased.{erased_path}
+use Rattle.law_spans_items.specs.Erased.{erased_visibility}
+use Rattle.law_prefix.specs.SameLookahead.{Relation, Any}
+use Rattle.law_round_trip.specs.Parts.{AllRoundTrip}
+use Rattle.law_round_trip.specs.Printed.{RoundTrips}
 use Rattle.law_round_trip.proofs.Follows.{keep-false, type-end}
 use Rattle.law_round_trip.proofs.Marks.{next_word-Ident, out-Ident, word-length}
 use Rattle.law_round_trip.proofs.Paths.{path-back}
@@ -67,27 +67,27 @@ unfolding scope_word ident_of
 scope_word-Ident rest tail it is = rw (out-Ident it) (scope-same (ident_of rest) it is).1
 
 -- the same word comes
-scope-seen : (rest tail : Trees) (it : Ident) → scope_word rest ≡ Some it → sees word.In (tree.Ident it ∷ tail) ≡ sees word.In rest
+scope-seen : (rest tail : Trees) (it : Ident) → scope_word rest ≡ Some it → peek word.In (tree.Ident it ∷ tail) ≡ peek word.In rest
 unfolding scope_word next_word
 scope-seen rest tail it is = rw (next_word-Ident it tail, (scope-same (ident_of rest) it is).0) refl
 
-scope-back : Back bare_path (path_tokens Plain) (λ rest tail. sees word.In tail ≡ sees word.In rest) AtEnd scope
+scope-back : RoundTrips erased_path (path_tokens Plain) (λ rest tail. peek word.In tail ≡ peek word.In rest) AtEnd scope
 scope-back = whole {P = Unit {0}} (take_as-rest {Second = AtEnd} scope_word tree.Ident (λ rest tail it is. scope_word-Ident rest tail it is)
     (λ it. pure-rest tt (path_of_word it) (λ q. path_of_word it) (print-word it Plain) (λ q ok. refl)) (λ input tail it is f. scope-seen input.rest tail it is))
 
 abbrev pub Restriction : Type 0
 Restriction = Bool × Path
 
-abbrev pub bare_restriction : Restriction → Restriction
-bare_restriction it = (it.0, bare_path it.1)
+abbrev pub erased_restriction : Restriction → Restriction
+erased_restriction it = (it.0, erased_path it.1)
 
 abbrev restriction_tokens : Span → Restriction → Trees
 restriction_tokens span it = (if it.0 then printed_word (codes "in") span else []) ++ path_tokens Plain it.1
 
-module _ (parts : AllBacks (within max_depth)) where
-  restriction-back : (span : Span) → Back bare_restriction (restriction_tokens span) Any AtEnd restriction
+module _ (parts : AllRoundTrip (within max_depth)) where
+  restriction-back : (span : Span) → RoundTrips erased_restriction (restriction_tokens span) Any AtEnd restriction
   unfolding restriction
-  restriction-back span = whole {P = Unit {0}} (eat_or-rest {Yes = Any} {No = λ rest tail. sees word.In tail ≡ sees word.In rest} 1 (sees word.In) (λ place. printed_word (codes "in") span) (λ place. word-length (codes "in") span) (λ place tail. rw (sees-in span tail) refl)
+  restriction-back span = whole {P = Unit {0}} (eat_or-rest {Yes = Any} {No = λ rest tail. peek word.In tail ≡ peek word.In rest} 1 (peek word.In) (λ place. printed_word (codes "in") span) (λ place. word-length (codes "in") span) (λ place tail. rw (sees-in span tail) refl)
       (then-rest {Second = AtEnd} (λ place. path-back (within max_depth) parts true) (λ it. pure-rest tt (true, it) (λ q. (true, q.1)) (rw append-nil refl) (λ q ok. rw (ok.1) refl))
       (λ rest tail f. rw f ((type-end false rest).0)) (λ rest tail f. tt))
       (made-rest (λ found. (false, found)) (λ it. refl) (λ one other same. rw same refl) (part scope-back))
@@ -95,12 +95,12 @@ module _ (parts : AllBacks (within max_depth)) where
 
   -- a restriction is read from its printing
   restriction_in-group : (rest tail : Trees) (span : Span) (found : Restriction) → restriction_in rest ≡ Some found
-      → (again : Restriction) × (restriction_in (group delimiter.Parenthesis (restriction_tokens span found) span ++ tail) ≡ Some again) × (bare_restriction again ≡ bare_restriction found)
+      → (again : Restriction) × (restriction_in (group delimiter.Parenthesis (restriction_tokens span found) span ++ tail) ≡ Some again) × (erased_restriction again ≡ erased_restriction found)
   unfolding restriction_in
   restriction_in-group rest tail span found e = by (is_group delimiter.Parenthesis rest) e
     where
       by : (b : Bool) → (if b then all (restriction (start_of (contents_of rest))) else None) ≡ Some found
-          → (again : Restriction) × (restriction_in (group delimiter.Parenthesis (restriction_tokens span found) span ++ tail) ≡ Some again) × (bare_restriction again ≡ bare_restriction found)
+          → (again : Restriction) × (restriction_in (group delimiter.Parenthesis (restriction_tokens span found) span ++ tail) ≡ Some again) × (erased_restriction again ≡ erased_restriction found)
       by true e =
           let again = all-again (restriction-back span) refl (contents_of rest) found e in
           (again.0, rw (is_group-group delimiter.Parenthesis (restriction_tokens span found) tail span, contents_of-group delimiter.Parenthesis (restriction_tokens span found) tail span) again.1, again.2)
@@ -112,12 +112,12 @@ module _ (parts : AllBacks (within max_depth)) where
   public start = test restriction_in >>= public_by start
 
   -- what stands behind `pub`
-  public-rest : (Sight : Relation) (start : Span) → Rest {P = Span} {Q = Unit {0} × Span} (λ q. Unit {0}) bare_visibility visibility_tokens (λ place tokens. printed_word (codes "pub") place ++ tokens) Any (AfterVisibility Sight) (public start) (λ q. public q.1)
+  public-rest : (Sight : Relation) (start : Span) → Rest {P = Span} {Q = Unit {0} × Span} (λ q. Unit {0}) erased_visibility visibility_tokens (λ place tokens. printed_word (codes "pub") place ++ tokens) Any (AfterVisibility Sight) (public start) (λ q. public q.1)
   unfolding skipped
   public-rest Sight start = record { of = λ input after found e. by input after found (restriction_in input.rest) refl e }
     where
       PublicGives : Trees → Visibility → Type 0
-      PublicGives rest found = Gives {P = Span} {Q = Unit {0} × Span} (λ q. Unit {0}) bare_visibility visibility_tokens (λ place tokens. printed_word (codes "pub") place ++ tokens) (λ tail. Unit {0}) (AfterVisibility Sight rest) (λ q. public q.1) found
+      PublicGives rest found = Gives {P = Span} {Q = Unit {0} × Span} (λ q. Unit {0}) erased_visibility visibility_tokens (λ place tokens. printed_word (codes "pub") place ++ tokens) (λ tail. Unit {0}) (AfterVisibility Sight rest) (λ q. public q.1) found
 
       unrestricted : (found : Option Restriction) → is_there found ≡ false → found ≡ None
       unrestricted None h = refl
@@ -160,10 +160,10 @@ module _ (parts : AllBacks (within max_depth)) where
           }
 
   -- what follows is seen in the place of the visibility, where nothing is written
-  pub visibility-back : (Sight : Relation) → ((rest tail : Trees) → sees word.Pub tail ≡ true → Sight rest tail) → Back bare_visibility visibility_tokens Sight (AfterVisibility Sight) visibility
+  pub visibility-back : (Sight : Relation) → ((rest tail : Trees) → peek word.Pub tail ≡ true → Sight rest tail) → RoundTrips erased_visibility visibility_tokens Sight (AfterVisibility Sight) visibility
   unfolding visibility
-  visibility-back Sight seen = whole (here-rest (λ start. eat_or-rest {Yes = Any} {No = AfterVisibility Sight} 1 (sees word.Pub) (λ place. printed_word (codes "pub") place) (word-length (codes "pub")) (λ place tail. rw (sees-pub place tail) refl)
+  visibility-back Sight seen = whole (here-rest (λ start. eat_or-rest {Yes = Any} {No = AfterVisibility Sight} 1 (peek word.Pub) (λ place. printed_word (codes "pub") place) (word-length (codes "pub")) (λ place tail. rw (sees-pub place tail) refl)
       (public-rest Sight start)
       (pure-rest start made.Inherited (λ q. made.Inherited) refl (λ q ok. refl))
       (λ input tail place is f. seen input.rest (printed_word (codes "pub") place ++ tail) (rw (sees-pub place tail) refl))
-      (λ rest tail is f. (keep-false (sees word.Pub) rest tail is f.0, f.1.1))))
+      (λ rest tail is f. (keep-false (peek word.Pub) rest tail is f.0, f.1.1))))

@@ -17,20 +17,21 @@ use Rattle.syn_grammar.specs.Grammar.{within, max_depth}
 use Rattle.syn_grammar.specs.Input.{Input, Outcome, Parser, ◌>>=◌, ◌>>◌, ◌<$>◌, pure, after_eat, eat, expect, is_end, skipped, take_as, upto, first_span, and_then, until_from}
 use Rattle.syn_grammar.specs.Look.{begins_constant, is_there, type_start, is_bool}
 use Rattle.syn_grammar.specs.Paths.{angle_list, binder}
-use Rattle.syn_grammar.specs.Token.{Layer, is_colon, is_comma, is_group, is_less, is_mark, is_semicolon, lifetime_of, mark_of, is_colons, is_arrow, is_equals, is_plus, is_pair, is_joint, same_delimiter, ident_of, literal_of}
-use Rattle.syn_grammar.specs.Words.{next_word, sees, named_words, other_keywords, word_of}
+use Rattle.syn_grammar.specs.Token.{Layer, is_colon, is_comma, is_group, is_less, is_mark, is_semicolon, lifetime_of, mark_of, is_colons, is_arrow, is_equals, is_plus, is_pair, is_joint, ident_of, literal_of}
+use Rattle.tok_types.specs.Delimiter.{same_delimiter}
+use Rattle.syn_grammar.specs.Words.{next_word, peek, named_words, other_keywords, word_of}
 use Rattle.syn_items.specs.Generics.{any_type, colon_bounds, ends_where, lifetime_predicate, lifetimes, maybe_where, predicates, predicates_from, type_predicate, where_clause, where_predicate}
 use Rattle.print_core.specs.Items.{begins_with_binder, maybe_where as printed_where, predicate_binder, predicate_tokens, where_tokens}
 use Rattle.print_core.specs.Marks.{Trees, comma, joined, ended, lifetime, mark, word as printed_word}
 use Rattle.print_core.specs.Nodes.{bound_tokens, type_tokens}
 use Rattle.print_core.specs.Paths.{angled, sum_of}
-use Rattle.law_spans.specs.Bare.{bare_bound, bare_lifetime, bare_type}
-use Rattle.law_spans_items.specs.Bare.{bare_predicate, bare_where}
-use Rattle.law_prefix.specs.Alike.{Relation, Any}
-use Rattle.law_prefix.specs.Front.{at}
+use Rattle.law_spans.specs.Erased.{erased_bound, erased_lifetime, erased_type}
+use Rattle.law_spans_items.specs.Erased.{erased_predicate, erased_where}
+use Rattle.law_prefix.specs.SameLookahead.{Relation, Any}
+use Rattle.law_prefix.specs.ReadsByPrefix.{at}
 use Rattle.law_round_trip.specs.Follow.{AfterType, BeginsType, NotEnded, Open, is_type}
-use Rattle.law_round_trip.specs.Parts.{AllBacks}
-use Rattle.law_round_trip.specs.Printed.{Again, Reads, Back}
+use Rattle.law_round_trip.specs.Parts.{AllRoundTrip}
+use Rattle.law_round_trip.specs.Printed.{Again, Reads, RoundTrips}
 use Rattle.law_round_trip.proofs.Follows.{never, type_before-mark, type-end, type-seen}
 use Rattle.law_round_trip.proofs.Functions.{colon-mark}
 use Rattle.law_round_trip.proofs.Lists.{More, comma-length, ended-push, joined-push, same-push, some-length, until-printed}
@@ -104,12 +105,12 @@ sees-where : (span : Span) (tail : Trees) → next_word (printed_word (codes "wh
 unfolding printed_word next_word ident_of word_of named_words other_keywords
 sees-where span tail = rw (out-Ident (record { text = codes "where"; raw = false; span = span })) refl
 
-end-where : (tail : Trees) → ends_where tail ≡ true → sees word.Where tail ≡ false
+end-where : (tail : Trees) → ends_where tail ≡ true → peek word.Where tail ≡ false
 unfolding is_group mark_of next_word ident_of
 end-where [] is = refl
 end-where (tree ∷ trees) is = by (out-TokenTree tree) refl
   where
-    by : (layer : Layer) → out-TokenTree tree ≡ layer → sees word.Where (tree ∷ trees) ≡ false
+    by : (layer : Layer) → out-TokenTree tree ≡ layer → peek word.Where (tree ∷ trees) ≡ false
     by (TokenTree-F.Ident other) same = let none = rw same at is in absurd cc
     by (TokenTree-F.Lifetime other) same = rw same refl
     by (TokenTree-F.Literal other) same = rw same refl
@@ -173,8 +174,8 @@ for_tokens found span = printed_word (codes "for") span ++ angled (map lifetime 
 abbrev inner_tokens : List Lifetime → Span → Trees
 inner_tokens found span = joined (comma span) (map lifetime found) ++ mark (codes ">") span
 
-inner-back : (span : Span) → Back (map bare_lifetime) (λ found. inner_tokens found span) Any Any (angle_list (take_as lifetime_of))
-inner-back span = until-printed bare_lifetime lifetime 62 refl (take_as lifetime_of) (take_as lifetime_of) lifetime-back (λ rest tail f. f) (λ rest tail span. tt) (λ rest tail span. tt) span
+inner-back : (span : Span) → RoundTrips (map erased_lifetime) (λ found. inner_tokens found span) Any Any (angle_list (take_as lifetime_of))
+inner-back span = until-printed erased_lifetime lifetime 62 refl (take_as lifetime_of) (take_as lifetime_of) lifetime-back (λ rest tail f. f) (λ rest tail span. tt) (λ rest tail span. tt) span
 
 -- no lifetimes, from `>`
 inner-none : (span : Span) → (after : Input) × (angle_list (take_as lifetime_of) (at (mark (codes ">") span) CallSite) ≡ Some ([], after))
@@ -184,8 +185,8 @@ inner-none span = by (is_mark 62 (mark (codes ">") span)) (rw append-nil at (mar
     by : (b : Bool) → mark_of (mark (codes ">") span) ≡ 62 → (after : Input) × (angle_list (take_as lifetime_of) (at (mark (codes ">") span) CallSite) ≡ Some ([], after))
     by b is = (skipped 1 (at (mark (codes ">") span) CallSite), rw is refl)
 
-for-again : (found : List Lifetime) (span : Span) → Reads (map bare_lifetime) (λ tail. Unit {0}) (λ tail. Unit {0}) (angle_list (take_as lifetime_of)) (inner_tokens found span) found
-    → (tail : Trees) (last : Span) → Again (map bare_lifetime) binder (at (for_tokens found span ++ tail) last) tail found
+for-again : (found : List Lifetime) (span : Span) → Reads (map erased_lifetime) (λ tail. Unit {0}) (λ tail. Unit {0}) (angle_list (take_as lifetime_of)) (inner_tokens found span) found
+    → (tail : Trees) (last : Span) → Again (map erased_lifetime) binder (at (for_tokens found span ++ tail) last) tail found
 unfolding binder after_eat for_tokens
 for-again found span one tail last =
     let for = skipped-over 1 (printed_word (codes "for") span) (mark (codes "<") span ++ (inner_tokens found span ++ tail)) last (word-length (codes "for") span) in
@@ -206,18 +207,18 @@ for-again found span one tail last =
     }
 
 -- the lifetimes of a predicate are read again, where no type with a binder of its own is left bare
-bound-again : (input between : Input) (found : List Lifetime) → binder input ≡ Some (found, between) → (ty : Ty) (span : Span) (tail : Trees) (last : Span) → (begins_with_binder ty ≡ false → sees word.For tail ≡ false)
-    → Again (map bare_lifetime) binder (at (predicate_binder found ty span ++ tail) last) tail found
+bound-again : (input between : Input) (found : List Lifetime) → binder input ≡ Some (found, between) → (ty : Ty) (span : Span) (tail : Trees) (last : Span) → (begins_with_binder ty ≡ false → peek word.For tail ≡ false)
+    → Again (map erased_lifetime) binder (at (predicate_binder found ty span ++ tail) last) tail found
 unfolding binder after_eat for_tokens
 bound-again input between [] e ty span tail last bare = none (begins_with_binder ty) refl
   where
-    none : (b : Bool) → begins_with_binder ty ≡ b → Again (map bare_lifetime) binder (at ((if b then for_tokens [] span else []) ++ tail) last) tail []
+    none : (b : Bool) → begins_with_binder ty ≡ b → Again (map erased_lifetime) binder (at ((if b then for_tokens [] span else []) ++ tail) last) tail []
     none true is = let empty = inner-none span in for-again [] span ((inner-back span).of (at (mark (codes ">") span) CallSite) empty.0 [] empty.1) tail last
     none false is = record { value = []; new = last; is = rw (bare is) refl; same = refl }
-bound-again input between (it ∷ found) e ty span tail last bare = for-again (it ∷ found) span (bound (sees word.For input.rest) e) tail last
+bound-again input between (it ∷ found) e ty span tail last bare = for-again (it ∷ found) span (bound (peek word.For input.rest) e) tail last
   where
     ItRead : Type 0
-    ItRead = Reads (map bare_lifetime) (λ tail. Unit {0}) (λ tail. Unit {0}) (angle_list (take_as lifetime_of)) (inner_tokens (it ∷ found) span) (it ∷ found)
+    ItRead = Reads (map erased_lifetime) (λ tail. Unit {0}) (λ tail. Unit {0}) (angle_list (take_as lifetime_of)) (inner_tokens (it ∷ found) span) (it ∷ found)
 
     opened : (b : Bool) (one two : Input) → and_then (if b then Some (tt {0}, one) else None) (λ _. angle_list (take_as lifetime_of)) ≡ Some (it ∷ found, between) → ItRead
     opened true one two e = (inner-back span).of one between (it ∷ found) e
@@ -239,8 +240,8 @@ bound-first (it ∷ found) ty span rest source tail f =
 
 -- ---- predicates
 
-module _ (parts : AllBacks (within max_depth)) where
-  lifetime_predicate-back : Back bare_predicate predicate_tokens (Living true) (AfterType true) lifetime_predicate
+module _ (parts : AllRoundTrip (within max_depth)) where
+  lifetime_predicate-back : RoundTrips erased_predicate predicate_tokens (Living true) (AfterType true) lifetime_predicate
   unfolding lifetime_predicate
   lifetime_predicate-back = whole (here-rest (λ start. take_as-rest {Second = Any} lifetime_of tree.Lifetime (λ rest tail it is. lifetime_of-Lifetime it tail) (λ it.
       expect-rest {Second = Open} 1 is_colon (λ place. mark (codes ":") place) (mark-length (codes ":")) (λ place tail. colon-mark tail place)
@@ -251,7 +252,7 @@ module _ (parts : AllBacks (within max_depth)) where
       (λ input tail it is f. lifetime-living it input.rest tail)))
 
   -- `: A + B`
-  colon_bounds-back : (span : Span) → Back (map bare_bound) (λ found. mark (codes ":") span ++ sum_of (map bound_tokens found) span) (AfterType true) (AfterType true) colon_bounds
+  colon_bounds-back : (span : Span) → RoundTrips (map erased_bound) (λ found. mark (codes ":") span ++ sum_of (map bound_tokens found) span) (AfterType true) (AfterType true) colon_bounds
   colon_bounds-back span = whole {P = Unit {0}} (expect-rest {Second = NotEnded} 1 is_colon (λ place. mark (codes ":") span) (λ place. mark-length (codes ":") span) (λ place tail. colon-mark tail span)
       (shown-rest tt (λ it. refl) (bounds_here-back parts span))
       (λ input tail place seen f. type_before-colon true input.rest tail span seen))
@@ -265,20 +266,20 @@ module _ (parts : AllBacks (within max_depth)) where
 
   module _ (start : Span) (lifetimes : List Lifetime) (ty : Ty) where
     abbrev Bound : Env → Type 0
-    Bound q = (map bare_lifetime q.0.1 ≡ map bare_lifetime lifetimes) × (bare_type q.1 ≡ bare_type ty)
+    Bound q = (map erased_lifetime q.0.1 ≡ map erased_lifetime lifetimes) × (erased_type q.1 ≡ erased_type ty)
 
-    bounded_type-rest : Rest {P = Span} {Q = Env} Bound bare_predicate predicate_tokens (λ place tokens. predicate_binder lifetimes ty place ++ (type_tokens ty ++ tokens)) (AfterType true) (AfterType true) (bounded_type start lifetimes ty) (λ q. bounded_type q.0.0 q.0.1 q.1)
+    bounded_type-rest : Rest {P = Span} {Q = Env} Bound erased_predicate predicate_tokens (λ place tokens. predicate_binder lifetimes ty place ++ (type_tokens ty ++ tokens)) (AfterType true) (AfterType true) (bounded_type start lifetimes ty) (λ q. bounded_type q.0.0 q.0.1 q.1)
     bounded_type-rest = then-rest {Second = AfterType true} (λ place. colon_bounds-back place) (λ found. close-rest start (λ q. q.0.0.0) (λ span. predicate.Ty lifetimes ty found span) (λ q span. predicate.Ty q.0.0.1 q.0.1 q.1 span)
         (λ span. rw (append-nil, append_assoc, append_assoc) refl) (λ span other q ok. rw (ok.0.0, ok.0.1, ok.1) refl))
         (λ rest tail f. f) (λ rest tail f. f)
 
   -- lifetimes, a type and its bounds, behind each other
   type_predicate-read : (input between behind after : Input) (lifetimes : List Lifetime) (ty : Ty) (found : WherePredicate) → binder input ≡ Some (lifetimes, between) → any_type between ≡ Some (ty, behind)
-      → Gives {P = Span} {Q = Env} (Bound (first_span input.rest) lifetimes ty) bare_predicate predicate_tokens (λ place tokens. predicate_binder lifetimes ty place ++ (type_tokens ty ++ tokens)) (AfterType true behind.rest) (AfterType true after.rest) (λ q. bounded_type q.0.0 q.0.1 q.1) found
-      → Reads bare_predicate (Living false input.rest) (AfterType true after.rest) type_predicate (predicate_tokens found) found
+      → Gives {P = Span} {Q = Env} (Bound (first_span input.rest) lifetimes ty) erased_predicate predicate_tokens (λ place tokens. predicate_binder lifetimes ty place ++ (type_tokens ty ++ tokens)) (AfterType true behind.rest) (AfterType true after.rest) (λ q. bounded_type q.0.0 q.0.1 q.1) found
+      → Reads erased_predicate (Living false input.rest) (AfterType true after.rest) type_predicate (predicate_tokens found) found
   unfolding type_predicate
   type_predicate-read input between behind after lifetimes ty found bound typed rest =
-      subst (λ tokens. Reads bare_predicate (Living false input.rest) (AfterType true after.rest) type_predicate tokens found) (sym rest.is) (record {
+      subst (λ tokens. Reads erased_predicate (Living false input.rest) (AfterType true after.rest) type_predicate tokens found) (sym rest.is) (record {
         again = λ tail last f.
             let follows = rest.first tail f in
             let before = bound-again input between lifetimes bound ty rest.place (type_tokens ty ++ (rest.tokens ++ tail)) last (λ bare. type-for between behind ty typed (rest.tokens ++ tail) follows bare) in
@@ -292,7 +293,7 @@ module _ (parts : AllBacks (within max_depth)) where
       flat : (tail : Trees) → (predicate_binder lifetimes ty rest.place ++ (type_tokens ty ++ rest.tokens)) ++ tail ≡ predicate_binder lifetimes ty rest.place ++ (type_tokens ty ++ (rest.tokens ++ tail))
       flat tail = rw (append_assoc (predicate_binder lifetimes ty rest.place) (type_tokens ty ++ rest.tokens) tail, append_assoc (type_tokens ty) rest.tokens tail) refl
 
-  type_predicate-back : Back bare_predicate predicate_tokens (Living false) (AfterType true) type_predicate
+  type_predicate-back : RoundTrips erased_predicate predicate_tokens (Living false) (AfterType true) type_predicate
   unfolding type_predicate
   type_predicate-back = record {
     of = λ input after found e.
@@ -301,11 +302,11 @@ module _ (parts : AllBacks (within max_depth)) where
         type_predicate-read input bound.1 typed.1 after bound.0 typed.0 found bound.2 typed.2 ((bounded_type-rest (first_span input.rest) bound.0 typed.0).of typed.1 after found typed.3);
   }
 
-  predicate_by : (lifetime : Bool) → Rest {P = Unit {0}} {Q = Unit {0}} Free bare_predicate predicate_tokens hole (Living lifetime) (AfterType true) (if lifetime then lifetime_predicate else type_predicate) (λ q. if lifetime then lifetime_predicate else type_predicate)
+  predicate_by : (lifetime : Bool) → Rest {P = Unit {0}} {Q = Unit {0}} Free erased_predicate predicate_tokens hole (Living lifetime) (AfterType true) (if lifetime then lifetime_predicate else type_predicate) (λ q. if lifetime then lifetime_predicate else type_predicate)
   predicate_by true = shown-rest tt (λ it. refl) lifetime_predicate-back
   predicate_by false = shown-rest tt (λ it. refl) type_predicate-back
 
-  pub where_predicate-back : Back bare_predicate predicate_tokens BeginsPredicate (AfterType true) where_predicate
+  pub where_predicate-back : RoundTrips erased_predicate predicate_tokens BeginsPredicate (AfterType true) where_predicate
   unfolding where_predicate
   where_predicate-back = whole (test-rest {by = Living} (λ trees. is_there (lifetime_of trees)) predicate_by (λ lifetime rest tail is f. f))
 
@@ -313,10 +314,10 @@ module _ (parts : AllBacks (within max_depth)) where
 
   module _ (span : Span) where
     abbrev PredicatesMore : List WherePredicate → List WherePredicate → Type 0
-    PredicatesMore found items = More bare_predicate (ended (comma span) (map predicate_tokens found)) predicates_from (λ tail. ends_where tail ≡ true) (joined (comma span) (map predicate_tokens items)) found items
+    PredicatesMore found items = More erased_predicate (ended (comma span) (map predicate_tokens found)) predicates_from (λ tail. ends_where tail ≡ true) (joined (comma span) (map predicate_tokens items)) found items
 
     abbrev OneReads : Trees → Trees → WherePredicate → Type 0
-    OneReads source rest x = Reads bare_predicate (BeginsPredicate source) (AfterType true rest) where_predicate (predicate_tokens x) x
+    OneReads source rest x = Reads erased_predicate (BeginsPredicate source) (AfterType true rest) where_predicate (predicate_tokens x) x
 
     -- a predicate is some tokens
     predicate-some : (source rest : Trees) (x : WherePredicate) → OneReads source rest x → is_end (predicate_tokens x ++ []) ≡ false
@@ -336,13 +337,13 @@ module _ (parts : AllBacks (within max_depth)) where
       again = go;
     }
       where
-        go : (turns : ℕ) (others : List WherePredicate) → map bare_predicate others ≡ map bare_predicate found → (tail : Trees) (last : Span) → length (predicate_tokens x) ≤ turns → ends_where tail ≡ true
-            → Again (map bare_predicate) (predicates_from turns others) (at (predicate_tokens x ++ tail) last) tail (found ++ x ∷ [])
+        go : (turns : ℕ) (others : List WherePredicate) → map erased_predicate others ≡ map erased_predicate found → (tail : Trees) (last : Span) → length (predicate_tokens x) ≤ turns → ends_where tail ≡ true
+            → Again (map erased_predicate) (predicates_from turns others) (at (predicate_tokens x ++ tail) last) tail (found ++ x ∷ [])
         go zero others same tail last fits f = absurd (omega (arith, some-length (predicate_tokens x) (predicate-some input.rest after.rest x one), fits))
         go (suc turns) others same tail last fits f =
             let seen = end-seen after.rest tail f in
             let more = one.again tail last seen.type in
-            record { value = others ++ more.value ∷ []; new = more.new; is = rw (one.first tail seen.type, more.is, seen.comma) refl; same = same-push bare_predicate others found more.value x same more.same }
+            record { value = others ++ more.value ∷ []; new = more.new; is = rw (one.first tail seen.type, more.is, seen.comma) refl; same = same-push erased_predicate others found more.value x same more.same }
 
     predicates-more : (found items : List WherePredicate) (input after : Input) (x : WherePredicate) → OneReads input.rest after.rest x → PredicatesMore (found ++ x ∷ []) items → PredicatesMore found items
     unfolding predicates_from after_eat
@@ -358,14 +359,14 @@ module _ (parts : AllBacks (within max_depth)) where
         still-some [] more h = absurd cc
         still-some (tree ∷ trees) more h = refl
 
-        go : (turns : ℕ) (others : List WherePredicate) → map bare_predicate others ≡ map bare_predicate found → (tail : Trees) (last : Span) → length (predicate_tokens x ++ (comma span ++ two.tokens)) ≤ turns → ends_where tail ≡ true
-            → Again (map bare_predicate) (predicates_from turns others) (at ((predicate_tokens x ++ (comma span ++ two.tokens)) ++ tail) last) tail items
+        go : (turns : ℕ) (others : List WherePredicate) → map erased_predicate others ≡ map erased_predicate found → (tail : Trees) (last : Span) → length (predicate_tokens x ++ (comma span ++ two.tokens)) ≤ turns → ends_where tail ≡ true
+            → Again (map erased_predicate) (predicates_from turns others) (at ((predicate_tokens x ++ (comma span ++ two.tokens)) ++ tail) last) tail items
         go zero others same tail last fits f = absurd (omega (arith, some-length (predicate_tokens x) (predicate-some input.rest after.rest x one), length-append (predicate_tokens x) (comma span ++ two.tokens), fits))
         go (suc turns) others same tail last fits f =
             let behind = type_before-mark 44 refl refl refl refl span after.rest (two.tokens ++ tail) true in
             let more = one.again (comma span ++ (two.tokens ++ tail)) last behind in
             let stands = skipped-over 1 (comma span) (two.tokens ++ tail) more.new (comma-length span) in
-            let rest = two.again turns (others ++ more.value ∷ []) (same-push bare_predicate others found more.value x same more.same) tail stands.0
+            let rest = two.again turns (others ++ more.value ∷ []) (same-push erased_predicate others found more.value x same more.same) tail stands.0
             (omega (arith, some-length (predicate_tokens x) (predicate-some input.rest after.rest x one), length-append (predicate_tokens x) (comma span ++ two.tokens), length-append (comma span) two.tokens, fits)) f in
             record {
               value = rest.value;
@@ -414,10 +415,10 @@ module _ (parts : AllBacks (within max_depth)) where
     predicates-none zero tail last h = rw h refl
     predicates-none (suc turns) tail last h = rw h refl
 
-    predicates-back : Back (map bare_predicate) (λ items. joined (comma span) (map predicate_tokens items)) Any AfterWhere predicates
+    predicates-back : RoundTrips (map erased_predicate) (λ items. joined (comma span) (map predicate_tokens items)) Any AfterWhere predicates
     predicates-back = record { of = λ input after items e. made input after items (predicates_from-more (length input.rest) [] input after items e) }
       where
-        made : (input after : Input) (items : List WherePredicate) → (items ≡ []) ⊎ PredicatesMore [] items → Reads (map bare_predicate) (λ tail. Unit {0}) (λ tail. ends_where tail ≡ true) predicates (joined (comma span) (map predicate_tokens items)) items
+        made : (input after : Input) (items : List WherePredicate) → (items ≡ []) ⊎ PredicatesMore [] items → Reads (map erased_predicate) (λ tail. Unit {0}) (λ tail. ends_where tail ≡ true) predicates (joined (comma span) (map predicate_tokens items)) items
         made input after items (inl none) = rw none (record { again = λ tail last f. record { value = []; new = last; is = predicates-none (length tail) tail last f; same = refl }; first = λ tail f. tt })
         made input after items (inr more) = record {
           again = λ tail last f.
@@ -428,9 +429,9 @@ module _ (parts : AllBacks (within max_depth)) where
 
   -- ---- clauses
 
-  pub where_clause-back : Back bare_where where_tokens (λ rest tail. sees word.Where tail ≡ true) AfterWhere where_clause
+  pub where_clause-back : RoundTrips erased_where where_tokens (λ rest tail. peek word.Where tail ≡ true) AfterWhere where_clause
   unfolding where_clause
-  where_clause-back = whole (here-rest (λ start. expect-rest {Second = Any} 1 (sees word.Where) (λ place. printed_word (codes "where") place) (word-length (codes "where")) (λ place tail. rw (sees-where place tail) refl)
+  where_clause-back = whole (here-rest (λ start. expect-rest {Second = Any} 1 (peek word.Where) (λ place. printed_word (codes "where") place) (word-length (codes "where")) (λ place tail. rw (sees-where place tail) refl)
       (then-rest {Second = AfterWhere} (λ place. predicates-back place) (λ found. close-rest start (λ q. q.0.1) (λ span. record { predicates = found; span = span }) (λ q span. record { predicates = q.1; span = span })
       (λ span. rw append-nil refl) (λ span other q ok. rw (ok.1) refl))
       (λ rest tail f. f) (λ rest tail f. f))
@@ -438,12 +439,12 @@ module _ (parts : AllBacks (within max_depth)) where
 
   -- a clause comes, or none
   abbrev Clause : Bool → Relation
-  Clause there rest tail = (sees word.Where tail ≡ there) × BeginsWhere rest tail
+  Clause there rest tail = (peek word.Where tail ≡ there) × BeginsWhere rest tail
 
-  clause_by : (there : Bool) → Rest {P = Unit {0}} {Q = Unit {0}} Free (option_map bare_where) printed_where hole (Clause there) AfterWhere (if there then Some <$> where_clause else pure None) (λ q. if there then Some <$> where_clause else pure None)
+  clause_by : (there : Bool) → Rest {P = Unit {0}} {Q = Unit {0}} Free (option_map erased_where) printed_where hole (Clause there) AfterWhere (if there then Some <$> where_clause else pure None) (λ q. if there then Some <$> where_clause else pure None)
   clause_by true = weak-rest (λ rest tail f. f) (λ rest tail f. (f, rw f refl)) (made-rest Some (λ it. refl) (λ one other same. ap Some same) (part where_clause-back))
   clause_by false = weak-rest (λ rest tail f. f) (λ rest tail f. (end-where tail f, rw (end-where tail f, f) refl)) (pure-rest tt None (λ q. None) refl (λ q ok. refl))
 
-  pub maybe_where-back : Back (option_map bare_where) printed_where BeginsWhere AfterWhere maybe_where
+  pub maybe_where-back : RoundTrips (option_map erased_where) printed_where BeginsWhere AfterWhere maybe_where
   unfolding maybe_where
-  maybe_where-back = whole (test-rest {by = Clause} (sees word.Where) clause_by (λ there rest tail is f. f))
+  maybe_where-back = whole (test-rest {by = Clause} (peek word.Where) clause_by (λ there rest tail is f. f))

@@ -5,8 +5,8 @@ use Rattle.tok_types.specs.declared.span.Span.{Span}
 use Rattle.syn_grammar.specs.Input.{Input, Parser, ◌>>=◌, pure, is_end}
 use Rattle.syn_items.specs.Lists.{each_while, while_from}
 use Rattle.print_core.specs.Marks.{Trees}
-use Rattle.law_prefix.specs.Alike.{Relation}
-use Rattle.law_prefix.specs.Front.{at}
+use Rattle.law_prefix.specs.SameLookahead.{Relation}
+use Rattle.law_prefix.specs.ReadsByPrefix.{at}
 use Rattle.law_round_trip.specs.Printed.{Again, Reads, Printed}
 use Rattle.law_round_trip.proofs.Follows.{keep-false}
 use Rattle.law_round_trip.proofs.Lists.{same-push, some-length}

@@ -4,9 +4,9 @@ use Rattle.syn_grammar.specs.declared.word.Word.TheVariants as word
 use Rattle.syn_grammar.specs.Input.{is_end}
 use Rattle.syn_grammar.specs.Look.{is_bool, is_there}
 use Rattle.syn_grammar.specs.Token.{is_less, is_mark, lifetime_of, literal_of}
-use Rattle.syn_grammar.specs.Words.{next_word, sees}
+use Rattle.syn_grammar.specs.Words.{next_word, peek}
 use Rattle.print_core.specs.Marks.{Trees}
-use Rattle.law_prefix.specs.Alike.{Relation}
+use Rattle.law_prefix.specs.SameLookahead.{Relation}
 use Rattle.law_round_trip.specs.Follow.{AfterType, Keep}
 use Rattle.syn_items.specs.Generics.{ends_where}
 use Rattle.syn_items.specs.Visibility.{restriction_in}
@@ -32,12 +32,12 @@ restricts trees = is_there (restriction_in trees)
 
 -- behind nothing no `pub` comes, and behind `pub` no restriction; what follows is seen in its place, where nothing is written
 abbrev pub AfterVisibility : Relation → Relation
-AfterVisibility Sight rest tail = Keep (sees word.Pub) rest tail × (Keep restricts rest tail × Sight rest tail)
+AfterVisibility Sight rest tail = Keep (peek word.Pub) rest tail × (Keep restricts rest tail × Sight rest tail)
 
 -- what a parameter begins with: the same kind of token, no `#` (35), no `>` (62), and not nothing
 pub record BeginsParam (rest tail : Trees) : Type 0 where
   pub lifetime : is_there (lifetime_of tail) ≡ is_there (lifetime_of rest)
-  pub constant : sees word.Const tail ≡ sees word.Const rest
+  pub constant : peek word.Const tail ≡ peek word.Const rest
   pub hash : is_mark 35 tail ≡ false
   pub greater : is_mark 62 tail ≡ false
   pub some : is_end tail ≡ false
@@ -55,7 +55,7 @@ AfterWhere rest tail = ends_where tail ≡ true
 
 -- a clause, or what stands behind one
 abbrev pub BeginsWhere : Relation
-BeginsWhere rest tail = (sees word.Where tail || ends_where tail) ≡ true
+BeginsWhere rest tail = (peek word.Where tail || ends_where tail) ≡ true
 
 -- a predicate begins, where no clause ends
 abbrev pub BeginsPredicate : Relation

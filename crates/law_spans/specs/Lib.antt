@@ -1,2 +1,2 @@
-pub mod Bare
-pub mod Blind
+pub mod Erased
+pub mod IgnoresSpans

@@ -1,8 +1,8 @@
 //! What nodes and their reading promise of places. These functions do nothing: their clauses are the
 //! laws.
 
-ghost use Rattle.law_spans.specs.Bare.{bare_bound, bare_expr, bare_fn_arg, bare_ident, bare_path, bare_stream, bare_type};
-ghost use Rattle.law_spans.specs.Blind.{Blind};
+ghost use Rattle.law_spans.specs.Erased.{erased_bound, erased_expr, erased_fn_arg, erased_ident, erased_path, erased_stream, erased_type};
+ghost use Rattle.law_spans.specs.IgnoresSpans.{IgnoresSpans};
 ghost use Rattle.syn_grammar.specs.Depth.{bound_depth, expr_depth, path_depth, type_depth};
 ghost use Rattle.node_expr.specs.declared.expr.Expr.{Expr};
 ghost use Rattle.node_expr.specs.declared.generics.TypeParamBound.{TypeParamBound};
@@ -18,29 +18,29 @@ ghost use Rattle.tok_types.specs.declared.tree.TokenStream.{TokenStream};
 /// left, and as none exactly where the tokens with their places are: types, expressions, bounds and
 /// paths, at every depth.
 pub fn reading_sees_no_spans()
-    ensures ty { (depth : ℕ) (many : Bool) → Blind bare_type ((within depth).ty many) ((within depth).ty many) }
-    ensures expr { (depth level : ℕ) → Blind bare_expr ((within depth).expr level) ((within depth).expr level) }
-    ensures bounds { (depth : ℕ) → Blind (map bare_bound) ((within depth).bounds) ((within depth).bounds) }
-    ensures path { (depth : ℕ) (in_type : Bool) → Blind bare_path (path (within depth) in_type) (path (within depth) in_type) }
+    ensures ty { (depth : ℕ) (allow_plus : Bool) → IgnoresSpans erased_type ((within depth).ty allow_plus) ((within depth).ty allow_plus) }
+    ensures expr { (depth level : ℕ) → IgnoresSpans erased_expr ((within depth).expr level) ((within depth).expr level) }
+    ensures bounds { (depth : ℕ) → IgnoresSpans (map erased_bound) ((within depth).bounds) ((within depth).bounds) }
+    ensures path { (depth : ℕ) (in_type : Bool) → IgnoresSpans erased_path (path (within depth) in_type) (path (within depth) in_type) }
 {}
 
 /// All of the tokens without their places are read as the same tree without its places, and as none
 /// exactly where the tokens with their places are.
 pub fn trees_see_no_spans()
-    ensures type_of { (tokens : TokenStream) → type_of (bare_stream tokens) ≡ option_map bare_type (type_of tokens) }
-    ensures expr_of { (tokens : TokenStream) → expr_of (bare_stream tokens) ≡ option_map bare_expr (expr_of tokens) }
-    ensures path_of { (tokens : TokenStream) → path_of (bare_stream tokens) ≡ option_map bare_path (path_of tokens) }
-    ensures ident_of { (tokens : TokenStream) → ident_of (bare_stream tokens) ≡ option_map bare_ident (ident_of tokens) }
-    ensures exprs_of { (tokens : TokenStream) → exprs_of (bare_stream tokens) ≡ option_map (map bare_expr) (exprs_of tokens) }
-    ensures idents_of { (tokens : TokenStream) → idents_of (bare_stream tokens) ≡ option_map (map bare_ident) (idents_of tokens) }
-    ensures paths_of { (tokens : TokenStream) → paths_of (bare_stream tokens) ≡ option_map (map bare_path) (paths_of tokens) }
-    ensures fn_args_of { (tokens : TokenStream) → fn_args_of (bare_stream tokens) ≡ option_map (map bare_fn_arg) (fn_args_of tokens) }
+    ensures type_of { (tokens : TokenStream) → type_of (erased_stream tokens) ≡ option_map erased_type (type_of tokens) }
+    ensures expr_of { (tokens : TokenStream) → expr_of (erased_stream tokens) ≡ option_map erased_expr (expr_of tokens) }
+    ensures path_of { (tokens : TokenStream) → path_of (erased_stream tokens) ≡ option_map erased_path (path_of tokens) }
+    ensures ident_of { (tokens : TokenStream) → ident_of (erased_stream tokens) ≡ option_map erased_ident (ident_of tokens) }
+    ensures exprs_of { (tokens : TokenStream) → exprs_of (erased_stream tokens) ≡ option_map (map erased_expr) (exprs_of tokens) }
+    ensures idents_of { (tokens : TokenStream) → idents_of (erased_stream tokens) ≡ option_map (map erased_ident) (idents_of tokens) }
+    ensures paths_of { (tokens : TokenStream) → paths_of (erased_stream tokens) ≡ option_map (map erased_path) (paths_of tokens) }
+    ensures fn_args_of { (tokens : TokenStream) → fn_args_of (erased_stream tokens) ≡ option_map (map erased_fn_arg) (fn_args_of tokens) }
 {}
 
 /// A node without its places is as deep as it was.
 pub fn depth_sees_no_spans()
-    ensures ty { (node : Ty) → type_depth (bare_type node) ≡ type_depth node }
-    ensures expr { (node : Expr) → expr_depth (bare_expr node) ≡ expr_depth node }
-    ensures bound { (node : TypeParamBound) → bound_depth (bare_bound node) ≡ bound_depth node }
-    ensures path { (node : Path) → path_depth (bare_path node) ≡ path_depth node }
+    ensures ty { (node : Ty) → type_depth (erased_type node) ≡ type_depth node }
+    ensures expr { (node : Expr) → expr_depth (erased_expr node) ≡ expr_depth node }
+    ensures bound { (node : TypeParamBound) → bound_depth (erased_bound node) ≡ bound_depth node }
+    ensures path { (node : Path) → path_depth (erased_path node) ≡ path_depth node }
 {}

@@ -1,1 +1,1 @@
-pub mod Bare
+pub mod Erased

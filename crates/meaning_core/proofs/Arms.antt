@@ -12,7 +12,8 @@ use Rattle.error_fault.specs.Kind.{set_of}
 use Rattle.error_fault.specs.Fault.{at_span}
 use Rattle.meaning_core.specs.declared.receiver.Receiver.{Receiver}
 use Rattle.meaning_core.specs.declared.walk.Slot.{Slot as Held}
-use Rattle.meaning_core.specs.Node.{meta_name, meta_span}
+use Rattle.meaning_core.specs.Node.{meta_name}
+use Rattle.node_span.specs.Spanned.{meta_span}
 use Rattle.meaning_core.specs.Decl.{has_flat, names}
 use Rattle.meaning_core.specs.Host.{no_host}
 use Rattle.meaning_core.specs.Owners.{owner_named, field_at}

@@ -1,7 +1,6 @@
 pub mod Filters
 pub mod Clean
 pub mod Direct
-pub mod Nodes
 pub mod SlotLemmas
 pub mod Arms
 pub mod Finish

@@ -14,7 +14,7 @@ use Rattle.meaning_core.specs.declared.value.Value.TheVariants as value
 use Rattle.meaning_core.specs.declared.walk.Slot.{Slot as Held}
 use Rattle.meaning_core.specs.declared.walk.Slot.TheVariants.{Unseen, Failed, Read}
 use Rattle.meaning_core.specs.Value.{no_value}
-use Rattle.meaning_core.specs.Node.{meta_span}
+use Rattle.node_span.specs.Spanned.{meta_span}
 use Rattle.meaning_core.specs.Decl.{TextType}
 use Rattle.meaning_core.specs.Host.{no_host}
 use Rattle.meaning_core.specs.EntryFaults.{read_at}

@@ -6,7 +6,7 @@ use Rattle.node_expr.specs.declared.expr.Expr.{Expr}
 use Rattle.node_expr.specs.declared.expr.Expr.TheFolds.{fold-Expr}
 use Rattle.node_expr.specs.declared.expr.Expr.TheOpen.{Expr-F, ExprPath-F}
 use Rattle.node_expr.specs.declared.lit.Lit.{Lit}
-use Rattle.meaning_core.specs.Node.{tokens_span}
+use Rattle.node_span.specs.Spanned.{stream_span}
 
 -- a literal, or the name of another kind and where it stands
 pub data Bare : Type 0 where
@@ -37,7 +37,7 @@ bare_layer (Expr-F.Range it) = Other (codes "range") it.span
 bare_layer (Expr-F.Closure it) = Other (codes "closure") it.span
 bare_layer (Expr-F.Block stmts last span) = Other (codes "block") span
 bare_layer (Expr-F.«Expr::Infer» span) = Other (codes "infer") span
-bare_layer (Expr-F.Verbatim tokens) = Other (codes "verbatim") (tokens_span tokens)
+bare_layer (Expr-F.Verbatim tokens) = Other (codes "verbatim") (stream_span tokens)
 
 -- the expression itself, or what stands in the invisible groups
 abbrev pub bare : Expr → Bare

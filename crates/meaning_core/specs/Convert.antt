@@ -19,7 +19,8 @@ use Rattle.meaning_core.specs.declared.value.Value.{Value as Datum}
 use Rattle.meaning_core.specs.declared.value.Value.TheVariants as value
 use Rattle.meaning_core.specs.Decl.{FieldType, TextType, ListType, DeclaredType}
 use Rattle.meaning_core.specs.Host.{Host}
-use Rattle.meaning_core.specs.Node.{lit_kind, lit_span, meta_span, tokens_span}
+use Rattle.meaning_core.specs.Node.{lit_kind}
+use Rattle.node_span.specs.Spanned.{lit_span, meta_span, stream_span}
 use Rattle.meaning_core.specs.Bare.{Bare, Literal, Other, bare}
 use Rattle.meaning_core.specs.Value.{no_value}
 
@@ -41,7 +42,7 @@ no_cells = record { word = None; list = None; lit = None; none = None; meta = No
 
 -- the fault of a list whose tokens are no nested items
 abbrev pub list_fault : TokenStream → Fault
-list_fault tokens = at_span (Custom (codes "expected a meta list")) (tokens_span tokens)
+list_fault tokens = at_span (Custom (codes "expected a meta list")) (stream_span tokens)
 
 module _ (cells : Cells) where
   -- a list of items

@@ -11,7 +11,8 @@ use Rattle.run_first.specs.declared.nested.NestedMeta.{NestedMeta}
 use Rattle.error_fault.specs.declared.fault.Fault.{Fault}
 use Rattle.error_fault.specs.declared.kind.FaultKind.TheVariants.{Custom}
 use Rattle.error_fault.specs.Fault.{at_span}
-use Rattle.meaning_core.specs.Node.{meta_name, meta_path_text, meta_span}
+use Rattle.meaning_core.specs.Node.{meta_name, meta_path_text}
+use Rattle.node_span.specs.Spanned.{meta_span}
 use Rattle.meaning_core.specs.Convert.{list_fault}
 
 pub data Entry : Type 0 where

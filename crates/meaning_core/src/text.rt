@@ -12,9 +12,10 @@ ghost use Rattle.meaning_core.specs.Receiver.{no_earlier};
 ghost use Rattle.meaning_core.specs.Slots.{text_outcome};
 ghost use Rattle.run_first.specs.declared.nested.NestedMeta.TheVariants as nested;
 
-use crate::node::{lit_kind, lit_span, meta_span, tokens_span};
+use crate::node::lit_kind;
 use error_fault::{Fault, FaultKind};
 use node_core::{Expr, Lit, Mem, Meta, Span, Text, TokenStream, TryClone};
+use node_span::Spanned;
 use run_first::{NestedMeta, parse_meta_list};
 use std::alloc::Global;
 
@@ -22,7 +23,7 @@ use std::alloc::Global;
 pub(crate) fn list_fault(alloc: Global, tokens: &TokenStream) -> Mem<Fault>
     ensures { IfOk result (λ fault. fault ≡ list_fault tokens.now) }
 {
-    Fault::custom(alloc, "expected a meta list", tokens_span(tokens))
+    Fault::custom(alloc, "expected a meta list", tokens.spanned())
 }
 
 fn unexpected_type(alloc: Global, kind: &str, span: Span) -> Mem<Result<Text, Fault>>
@@ -38,7 +39,7 @@ fn read_lit(alloc: Global, lit: &Lit) -> Mem<Result<Text, Fault>>
 {
     match lit {
         Lit::Str(string) => Ok(Ok(string.value.try_clone(alloc)?)),
-        other => unexpected_type(alloc, lit_kind(other), lit_span(other)),
+        other => unexpected_type(alloc, lit_kind(other), other.spanned()),
     }
 }
 
@@ -67,7 +68,7 @@ fn read_expr(alloc: Global, expr: &Expr) -> Mem<Result<Text, Fault>>
         Expr::Closure(closure) => unexpected_type(alloc, "closure", closure.span),
         Expr::Block { span, .. } => unexpected_type(alloc, "block", *span),
         Expr::Infer { span } => unexpected_type(alloc, "infer", *span),
-        Expr::Verbatim(tokens) => unexpected_type(alloc, "verbatim", tokens_span(tokens)),
+        Expr::Verbatim(tokens) => unexpected_type(alloc, "verbatim", tokens.spanned()),
     }
 }
 

@@ -12,13 +12,14 @@ ghost use Rattle.meaning_core.specs.State.{arm, arm_slot, arms, entry_step, fill
 ghost use Rattle.meaning_core.specs.Node.{full_path_text};
 ghost use Rattle.meaning_core.specs.Walk.{closed};
 
-use crate::node::{lit_span, meta_path, meta_span};
+use crate::node::meta_path;
 use crate::outcome::Outcome;
 use crate::receiver::Receiver;
 use crate::text::{list_fault, read_text};
 use crate::value::{Style, Value};
 use error_fault::Fault;
 use node_core::{Attribute, Items, Mem, Meta, Path, Text, TryClone, path_to_string};
+use node_span::Spanned;
 use run_first::{NestedMeta, parse_meta_list};
 use std::alloc::Global;
 
@@ -112,7 +113,7 @@ impl Walk {
     {
         match item {
             NestedMeta::Lit(lit) => {
-                let fault = Fault::unexpected_format(alloc, "literal", lit_span(lit))?;
+                let fault = Fault::unexpected_format(alloc, "literal", lit.spanned())?;
                 self.faults.push(fault)
             }
             NestedMeta::Meta(meta) => {
@@ -125,7 +126,7 @@ impl Walk {
                             alloc,
                             name.as_str(),
                             fields.as_set(),
-                            meta_span(meta),
+                            meta.spanned(),
                         )?;
                         self.faults.push(fault)
                     }
@@ -145,7 +146,7 @@ impl Walk {
         match self.slots.as_slice()[at] {
             Slot::Unseen => self.read_first(alloc, at, name, meta),
             Slot::Failed | Slot::Read(_) => {
-                let fault = Fault::duplicate_field(alloc, name.as_str(), meta_span(meta))?;
+                let fault = Fault::duplicate_field(alloc, name.as_str(), meta.spanned())?;
                 self.faults.push(fault)
             }
         }
@@ -235,7 +236,7 @@ pub(crate) fn name_value_fault(alloc: Global, meta: &Meta) -> Mem<Fault>
     let mut message = Text::from_str(alloc, "Name-value arguments are not supported. Use #[")?;
     push_path(alloc, &mut message, meta_path(meta))?;
     message.push_str("(...)]")?;
-    Fault::custom(alloc, message.as_str(), meta_span(meta))
+    Fault::custom(alloc, message.as_str(), meta.spanned())
 }
 
 /// Writes a path behind `text`, with the `::` that it may begin with.

@@ -1,7 +1,7 @@
 -- The tokens up to the next comma, by a loop that counts them.
 use Rattle.std.proofs.Common.{◌≡◌, ℕ, zero, suc, ◌+◌, ◌<◌, true, false, List, [], ◌∷◌, ◌++◌, length, take, drop, refl, arith, ap, add-one}
 use Rattle.tok_types.specs.declared.tree.TokenTree.{TokenTree}
-use Rattle.law_prefix.specs.Alike.{stops}
+use Rattle.law_prefix.specs.SameLookahead.{stops}
 use Rattle.meta_nested.specs.Values.{before_comma}
 
 -- so many tokens, and those behind them

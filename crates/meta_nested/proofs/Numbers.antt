@@ -12,7 +12,7 @@ use Rattle.node_expr.specs.declared.lit.Lit.{Lit}
 use Rattle.syn_grammar.specs.Input.{Input, Outcome, Parser, ◌>>=◌, start_of, skipped, next, taken, expect, take_as, upto, first_span}
 use Rattle.syn_grammar.specs.Literals.{lit_of}
 use Rattle.syn_grammar.specs.Token.{Layer, mark_in, mark_of, literal_in, literal_of, is_mark}
-use Rattle.law_prefix.specs.Alike.{stops}
+use Rattle.law_prefix.specs.SameLookahead.{stops}
 use Rattle.law_prefix.proofs.Steps.{bind-at}
 use Rattle.syn_items.specs.Attributes.{negative, number_in, signed}
 use Rattle.meta_nested.specs.Values.{run_of}

@@ -7,8 +7,8 @@ use Rattle.tok_types.specs.declared.span.Span.TheVariants.{CallSite}
 use Rattle.tok_types.specs.declared.tree.TokenTree.{TokenTree}
 use Rattle.syn_grammar.specs.Input.{Input, Outcome, Parser, start_of, is_end}
 use Rattle.syn_grammar.specs.Trees.{all}
-use Rattle.law_prefix.specs.Alike.{Alike, stops}
-use Rattle.law_prefix.specs.Front.{at, Front}
+use Rattle.law_prefix.specs.SameLookahead.{SameLookahead, stops}
+use Rattle.law_prefix.specs.ReadsByPrefix.{at, ReadsByPrefix}
 use Rattle.law_prefix.proofs.Within.{front-alone, front-before}
 use Rattle.meta_nested.specs.Values.{run_of}
 
@@ -38,7 +38,7 @@ abbrev pub all_of : {A : Type 0} → Parser A → List TokenTree → Option A
 all_of parser trees = all (parser (start_of trees))
 
 -- What is read of a run is read of all of the tokens.
-pub run-read : {A : Type 0} {parser : Parser A} → Front Alike parser → (trees : List TokenTree) (count : ℕ) (found : A) → run_of (all_of parser) trees count ≡ Some found
+pub run-read : {A : Type 0} {parser : Parser A} → ReadsByPrefix SameLookahead parser → (trees : List TokenTree) (count : ℕ) (found : A) → run_of (all_of parser) trees count ≡ Some found
     → (last : Span) × (parser (start_of trees) ≡ Some (found, at (drop count trees) last)) × (stops (drop count trees) ≡ true)
 run-read {parser = parser} front trees count found e =
     let run = run-parts (all_of parser) trees count found e in
@@ -49,7 +49,7 @@ run-read {parser = parser} front trees count found e =
     )
 
 -- What is read of all of the tokens is a run, where it stops.
-pub read-run : {A : Type 0} {parser : Parser A} → Front Alike parser → (trees : List TokenTree) (after : Input) (found : A) → parser (start_of trees) ≡ Some (found, after) → stops after.rest ≡ true
+pub read-run : {A : Type 0} {parser : Parser A} → ReadsByPrefix SameLookahead parser → (trees : List TokenTree) (after : Input) (found : A) → parser (start_of trees) ≡ Some (found, after) → stops after.rest ≡ true
     → run_of (all_of parser) trees (length trees - length after.rest) ≡ Some found
 read-run {A} {parser} front trees after found e stop =
     let took = front.of (start_of trees) after found e in
@@ -59,11 +59,11 @@ read-run {A} {parser} front trees after found e stop =
     let stands : stops (drop (length trees - length after.rest) trees) ≡ true = ap stops behind ∙ stop in
     ap (λ b. if◌then◌else◌ {A = Option A} b (all_of parser (take (length trees - length after.rest) trees)) None) stands ∙ ap all alone
 
-pub read-shorter : {A : Type 0} {parser : Parser A} → Front Alike parser → (trees : List TokenTree) (after : Input) (found : A) → parser (start_of trees) ≡ Some (found, after) → length after.rest ≤ length trees
+pub read-shorter : {A : Type 0} {parser : Parser A} → ReadsByPrefix SameLookahead parser → (trees : List TokenTree) (after : Input) (found : A) → parser (start_of trees) ≡ Some (found, after) → length after.rest ≤ length trees
 read-shorter front trees after found e = let took = front.of (start_of trees) after found e in let sizes = ap length took.is ∙ length-append took.read after.rest in omega (arith, sizes)
 
 -- no run is shorter than what is read
-pub read-least : {A : Type 0} {parser : Parser A} → Front Alike parser → (trees : List TokenTree) (after : Input) (found : A) → parser (start_of trees) ≡ Some (found, after)
+pub read-least : {A : Type 0} {parser : Parser A} → ReadsByPrefix SameLookahead parser → (trees : List TokenTree) (after : Input) (found : A) → parser (start_of trees) ≡ Some (found, after)
     → (count : ℕ) → count < length trees - length after.rest → run_of (all_of parser) trees count ≡ None
 read-least {A} {parser} front trees after found e count shorter = by (run_of (all_of parser) trees count) refl
   where
@@ -76,7 +76,7 @@ read-least {A} {parser} front trees after found e count shorter = by (run_of (al
         absurd (omega (arith, sizes))
 
 -- no run is there where what is read goes on
-pub read-on : {A : Type 0} {parser : Parser A} → Front Alike parser → (trees : List TokenTree) (after : Input) (found : A) → parser (start_of trees) ≡ Some (found, after) → stops after.rest ≡ false
+pub read-on : {A : Type 0} {parser : Parser A} → ReadsByPrefix SameLookahead parser → (trees : List TokenTree) (after : Input) (found : A) → parser (start_of trees) ≡ Some (found, after) → stops after.rest ≡ false
     → (count : ℕ) → run_of (all_of parser) trees count ≡ None
 read-on {A} {parser} front trees after found e on count = by (run_of (all_of parser) trees count) refl
   where
@@ -89,7 +89,7 @@ read-on {A} {parser} front trees after found e on count = by (run_of (all_of par
         absurd cc
 
 -- nor where nothing is read
-pub read-none : {A : Type 0} {parser : Parser A} → Front Alike parser → (trees : List TokenTree) → parser (start_of trees) ≡ None → (count : ℕ) → run_of (all_of parser) trees count ≡ None
+pub read-none : {A : Type 0} {parser : Parser A} → ReadsByPrefix SameLookahead parser → (trees : List TokenTree) → parser (start_of trees) ≡ None → (count : ℕ) → run_of (all_of parser) trees count ≡ None
 read-none {A} {parser} front trees e count = by (run_of (all_of parser) trees count) refl
   where
     by : (run : Option A) → run_of (all_of parser) trees count ≡ run → run_of (all_of parser) trees count ≡ None

@@ -7,8 +7,8 @@ use Rattle.node_expr.specs.declared.lit.Lit.{Lit}
 use Rattle.syn_grammar.specs.Grammar.{within, max_depth}
 use Rattle.syn_grammar.specs.Input.{Input, Parser, start_of}
 use Rattle.syn_grammar.specs.Readers.{any_level}
-use Rattle.law_prefix.specs.Alike.{Alike, stops}
-use Rattle.law_prefix.specs.Front.{Front}
+use Rattle.law_prefix.specs.SameLookahead.{SameLookahead, stops}
+use Rattle.law_prefix.specs.ReadsByPrefix.{ReadsByPrefix}
 use Rattle.law_prefix.proofs.Within.{front-of, within-fronts}
 use Rattle.syn_items.specs.Attributes.{number_in, expr_in}
 use Rattle.meta_nested.specs.Values.{run_of, shortest_run, value_in}
@@ -19,7 +19,7 @@ use Rattle.meta_nested.proofs.Readings.{run-none, run-parts, read-run, read-shor
 abbrev an_expr : Parser Expr
 an_expr = (within max_depth).expr any_level
 
-front : Front Alike an_expr
+front : ReadsByPrefix SameLookahead an_expr
 front = front-of ((within-fronts max_depth).expr any_level)
 
 -- where no number is, a value is an expression

@@ -12,7 +12,7 @@ use Rattle.node_expr.specs.declared.path.Path.{Path}
 use Rattle.node_core.specs.declared.attr.Meta.TheVariants as meta
 use Rattle.error_fault.specs.declared.kind.FaultKind.TheVariants.{Custom}
 use Rattle.error_fault.specs.Fault.{at_span}
-use Rattle.error_core.specs.Told.{Told, One}
+use Rattle.error_core.specs.ErrorView.{ErrorView, One}
 use Rattle.syn_grammar.specs.declared.word.Word.{Word}
 use Rattle.syn_grammar.specs.declared.word.Word.TheVariants as word
 use Rattle.syn_grammar.specs.Input.{Parser, ◌>>=◌, ◌>>◌, ◌<$>◌, pure, test, here, upto, skip, take_as, items_after}
@@ -54,7 +54,7 @@ as_lit it = found.Item (nested.Lit it)
 -- ---- items that begin with a path
 
 -- the fault of a bad value, at its place
-abbrev pub expected_expression : Span → Told
+abbrev pub expected_expression : Span → ErrorView
 expected_expression place = One (at_span (Custom (codes "expected an expression")) place)
 
 -- the item with this value, from its path to its end
@@ -134,6 +134,11 @@ item = test item_start >>= item_by
 -- a list of items, with at most one comma at its end, as far as it goes without an attribute
 unfoldable pub found_of : TokenStream → Option (List Found)
 found_of = whole (items_after item [])
+
+-- what stands in a list, by the item, or by where the attribute stands
+abbrev pub found_as : Result NestedMeta Span → Found
+found_as (Ok it) = found.Item it
+found_as (Err place) = found.Attribute place
 
 -- the items, or where the attribute stands that is among them
 abbrev pub among : List Found → Result (List NestedMeta) Span

@@ -9,7 +9,7 @@ use Rattle.node_expr.specs.declared.expr.Expr.TheVariants as expr
 use Rattle.node_expr.specs.declared.lit.Lit.{Lit}
 use Rattle.syn_grammar.specs.Input.{Parser, ◌>>=◌, ◌>>◌, pure, test, skip_by}
 use Rattle.syn_grammar.specs.Token.{is_comma, span_of}
-use Rattle.law_prefix.specs.Alike.{stops}
+use Rattle.law_prefix.specs.SameLookahead.{stops}
 use Rattle.syn_items.specs.Attributes.{number_in, expr_in, stream}
 use Rattle.meta_nested.specs.declared.value.Value.{Value}
 use Rattle.meta_nested.specs.declared.value.Value.TheVariants as kind

@@ -4,25 +4,44 @@ ghost use Rattle.std.specs.Prelude.{◌≡◌, IfOk};
 ghost use Rattle.syn_items.specs.Lists.{Flat};
 ghost use Rattle.meta_nested.specs.Nested as spec;
 
-use crate::nested::{MetaNameValueInvalidExpr, NestedMeta};
-use crate::value::{Value, take_value};
+use crate::nested::NestedMeta;
+use crate::value::take_value;
 use base_core::Mem;
-use error_core::Error;
-use node_core::{Meta, MetaNameValue};
+use node_core::Meta;
 use node_expr::{Delimiter, Lit, LitBool, Path, Span, TokenTree};
 use std::alloc::Global;
 use syn_grammar::{
     Cursor, Word, after_one, is_equals, is_group, is_mark, lit_of, literal_of, next_word,
 };
 use syn_items::{delimiter_of, meta_list, meta_path, signed};
-use syn_rules::Front;
+use syn_rules::Parsed;
 
 /// What stands in a list.
-#[derive(Drop)]
 pub enum Found {
     Item(NestedMeta),
     /// The `#` of an attribute that takes the place of a value.
     Attribute(Span),
+}
+
+impl Found {
+    /// The item. `Err` is where the attribute stands.
+    pub(crate) fn into_item(self) -> Result<NestedMeta, Span>
+        ensures { self ≡ spec.found_as result }
+    {
+        match self {
+            Found::Item(item) => Ok(item),
+            Found::Attribute(place) => Err(place),
+        }
+    }
+}
+
+impl Drop for Found {
+    fn drop(self) {
+        match self {
+            Found::Item(_item) => {}
+            Found::Attribute(_) => {}
+        }
+    }
 }
 
 /// How an item begins.
@@ -46,7 +65,7 @@ fn bool_of(word: Word, span: Span) -> Lit
 }
 
 #[tactic(auto, unfolding(crate::specs::Nested::boolean))]
-fn boolean(tokens: &mut Cursor<'_>) -> Front<Lit>
+fn boolean(tokens: &mut Cursor<'_>) -> Parsed<Lit>
     ensures { Flat (spec.boolean tokens.old) result tokens.new }
 {
     let span = tokens.here();
@@ -56,39 +75,11 @@ fn boolean(tokens: &mut Cursor<'_>) -> Front<Lit>
 }
 
 #[tactic(auto, unfolding(crate::specs::Nested::literal))]
-fn literal(alloc: Global, tokens: &mut Cursor<'_>) -> Front<Lit>
+fn literal(alloc: Global, tokens: &mut Cursor<'_>) -> Parsed<Lit>
     ensures { Flat (spec.literal tokens.old) result tokens.new }
 {
     let token = tokens.take_literal(alloc)?;
     Ok((lit_of(alloc, token)?, 0))
-}
-
-fn expected_expression(alloc: Global, place: Span) -> Mem<Error>
-    ensures { IfOk result (λ error. error ≡ spec.expected_expression place) }
-{
-    Ok(Error::custom(alloc, "expected an expression")?.with_span_at(place))
-}
-
-fn with_value(alloc: Global, path: Path, eq_span: Span, span: Span, value: Value) -> Mem<NestedMeta>
-    ensures { IfOk result (λ item. item ≡ spec.with_value path eq_span span value) }
-{
-    match value {
-        Value::Expr(value) => Ok(NestedMeta::Meta(Meta::NameValue(MetaNameValue {
-            path,
-            eq_span,
-            value,
-            span,
-        }))),
-        Value::Bad(value, place) => {
-            let error = expected_expression(alloc, place)?;
-            Ok(NestedMeta::NameValueInvalidExpr(MetaNameValueInvalidExpr {
-                path,
-                eq_span,
-                value,
-                error,
-            }))
-        }
-    }
 }
 
 fn is_attribute(trees: &[TokenTree]) -> bool
@@ -98,7 +89,7 @@ fn is_attribute(trees: &[TokenTree]) -> bool
 }
 
 #[tactic(auto, unfolding(crate::specs::Nested::attribute_item))]
-fn attribute_item(tokens: &mut Cursor<'_>) -> Front<Found>
+fn attribute_item(tokens: &mut Cursor<'_>) -> Parsed<Found>
     ensures { Flat (spec.attribute_item tokens.old) result tokens.new }
 {
     let place = tokens.here();
@@ -113,18 +104,18 @@ fn value_item(
     start: Span,
     path: Path,
     eq_span: Span,
-) -> Front<Found>
+) -> Parsed<Found>
     ensures { Flat (spec.value_item start path eq_span tokens.old) result tokens.new }
 {
     let (value, _) = take_value(alloc, tokens, eq_span)?;
     let span = tokens.upto(start);
-    let item = with_value(alloc, path, eq_span, span, value)?;
+    let item = value.into_item(alloc, path, eq_span, span)?;
     Ok((Found::Item(item), 0))
 }
 
 /// `=` and what stands behind it.
 #[tactic(auto, unfolding(crate::specs::Nested::name_value))]
-fn name_value(alloc: Global, tokens: &mut Cursor<'_>, start: Span, path: Path) -> Front<Found>
+fn name_value(alloc: Global, tokens: &mut Cursor<'_>, start: Span, path: Path) -> Parsed<Found>
     ensures { Flat (spec.name_value start path tokens.old) result tokens.new }
 {
     let eq_span = tokens.here();
@@ -138,7 +129,7 @@ fn name_value(alloc: Global, tokens: &mut Cursor<'_>, start: Span, path: Path) -
 
 /// `path`, `path(tokens)`, `path = value`
 #[tactic(auto, unfolding(crate::specs::Nested::path_item))]
-fn path_item(alloc: Global, tokens: &mut Cursor<'_>) -> Front<Found>
+fn path_item(alloc: Global, tokens: &mut Cursor<'_>) -> Parsed<Found>
     ensures { Flat (spec.path_item tokens.old) result tokens.new }
 {
     let start = tokens.here();
@@ -180,7 +171,7 @@ fn item_start(trees: &[TokenTree]) -> ItemStart
 }
 
 #[tactic(auto, unfolding(crate::specs::Nested::item))]
-pub(crate) fn item(alloc: Global, tokens: &mut Cursor<'_>) -> Front<Found>
+pub(crate) fn item(alloc: Global, tokens: &mut Cursor<'_>) -> Parsed<Found>
     ensures { Flat (spec.item tokens.old) result tokens.new }
 {
     let (lit, _) = match item_start(tokens.rest()) {

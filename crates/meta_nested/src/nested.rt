@@ -15,7 +15,7 @@ use node_span::Spanned;
 use std::alloc::Global;
 use syn_core::{Parse, ParseFail};
 use syn_grammar::Cursor;
-use syn_rules::{Front, all_of, items_after};
+use syn_rules::{Parsed, all_of, items_after};
 
 /// One item of the list in an attribute.
 #[derive_where(PartialEq, Eq, Hash)]
@@ -61,7 +61,7 @@ impl NestedMeta {
     }
 }
 
-fn list(alloc: Global, tokens: &mut Cursor<'_>) -> Front<Items<Found>>
+fn list(alloc: Global, tokens: &mut Cursor<'_>) -> Parsed<Items<Found>>
     ensures { Flat (input.items_after spec.item [] tokens.old) result tokens.new }
 {
     let none = Items::new(alloc);
@@ -87,9 +87,9 @@ fn among(alloc: Global, found: Items<Found>) -> Mem<Result<Items<NestedMeta>, Sp
 {
     let mut items = Items::new(alloc);
     for it in found.into_vec() {
-        match it {
-            Found::Item(item) => items.push(item)?,
-            Found::Attribute(place) => return Ok(Err(place)),
+        match it.into_item() {
+            Ok(item) => items.push(item)?,
+            Err(place) => return Ok(Err(place)),
         }
     }
     Ok(Ok(items))

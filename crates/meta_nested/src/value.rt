@@ -1,23 +1,72 @@
 //! What stands behind the `=` of a nested item.
 
 ghost use Rattle.std.specs.Prelude.{◌≡◌, IfOk};
-ghost use Rattle.law_prefix.specs.Alike.{stops};
+ghost use Rattle.law_prefix.specs.SameLookahead.{stops};
 ghost use Rattle.syn_items.specs.Attributes.{number_in};
 ghost use Rattle.syn_items.specs.Lists.{Flat};
+ghost use Rattle.meta_nested.specs.Nested.{expected_expression, with_value};
 ghost use Rattle.meta_nested.specs.Values as spec;
 
+use crate::nested::{MetaNameValueInvalidExpr, NestedMeta};
 use base_core::Mem;
-use node_expr::{Expr, Lit, Span, TokenStream, TokenTree};
+use error_core::Error;
+use node_core::{Meta, MetaNameValue};
+use node_expr::{Expr, Lit, Path, Span, TokenStream, TokenTree};
 use std::alloc::{AllocError, Global};
 use syn_grammar::{Cursor, ReadFail, is_comma, span_of};
 use syn_items::{number_of, stream_of};
-use syn_rules::{ANY_LEVEL, Front, MAX_DEPTH, read_expr};
+use syn_rules::{ANY_LEVEL, MAX_DEPTH, Parsed, read_expr};
 
 /// A value, or tokens in its place and where the fault is.
-#[derive(Drop)]
 pub enum Value {
     Expr(Expr),
     Bad(TokenStream, Span),
+}
+
+impl Value {
+    /// The item of this value, which stands behind the path and the `=`.
+    pub(crate) fn into_item(
+        self,
+        alloc: Global,
+        path: Path,
+        eq_span: Span,
+        span: Span,
+    ) -> Mem<NestedMeta>
+        ensures { IfOk result (λ item. item ≡ with_value path eq_span span self) }
+    {
+        match self {
+            Value::Expr(value) => Ok(NestedMeta::Meta(Meta::NameValue(MetaNameValue {
+                path,
+                eq_span,
+                value,
+                span,
+            }))),
+            Value::Bad(value, place) => {
+                let error = expected_expression(alloc, place)?;
+                Ok(NestedMeta::NameValueInvalidExpr(MetaNameValueInvalidExpr {
+                    path,
+                    eq_span,
+                    value,
+                    error,
+                }))
+            }
+        }
+    }
+}
+
+impl Drop for Value {
+    fn drop(self) {
+        match self {
+            Value::Expr(_expr) => {}
+            Value::Bad(_tokens, _) => {}
+        }
+    }
+}
+
+fn expected_expression(alloc: Global, place: Span) -> Mem<Error>
+    ensures { IfOk result (λ error. error ≡ expected_expression place) }
+{
+    Ok(Error::custom(alloc, "expected an expression")?.with_span_at(place))
 }
 
 /// Whether a comma comes next, or nothing.
@@ -81,7 +130,7 @@ fn bad_place(eq_span: Span, trees: &[TokenTree]) -> Span
 }
 
 #[tactic(auto, unfolding(crate::specs::Values::bad_value))]
-fn bad_value(alloc: Global, tokens: &mut Cursor<'_>, eq_span: Span) -> Front<Value>
+fn bad_value(alloc: Global, tokens: &mut Cursor<'_>, eq_span: Span) -> Parsed<Value>
     ensures { Flat (spec.bad_value eq_span tokens.old) result tokens.new }
 {
     let trees = before_comma(tokens.rest());
@@ -92,7 +141,7 @@ fn bad_value(alloc: Global, tokens: &mut Cursor<'_>, eq_span: Span) -> Front<Val
 
 /// The value behind the `=` that stands at `eq_span`.
 #[tactic(auto, unfolding(crate::specs::Values::value))]
-pub(crate) fn take_value(alloc: Global, tokens: &mut Cursor<'_>, eq_span: Span) -> Front<Value>
+pub(crate) fn take_value(alloc: Global, tokens: &mut Cursor<'_>, eq_span: Span) -> Parsed<Value>
     ensures { Flat (spec.value eq_span tokens.old) result tokens.new }
 {
     match shortest_run(alloc, tokens.rest())? {

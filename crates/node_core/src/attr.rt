@@ -1,3 +1,5 @@
+//! Attributes and what they hold.
+
 use node_expr::{Expr, Path};
 use tok_types::{Delimiter, Span, TokenStream};
 

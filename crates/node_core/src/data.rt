@@ -1,3 +1,5 @@
+//! Visibilities, fields, variants and the bodies of items.
+
 use crate::attr::Attribute;
 use node_expr::{Expr, Path, Type};
 use tok_types::{Ident, Items, Span};

@@ -1,3 +1,5 @@
+//! A whole item: a struct, an enum or a union.
+
 use crate::attr::Attribute;
 use crate::data::{Data, Visibility};
 use crate::generics::Generics;

@@ -1,3 +1,5 @@
+//! Parameters of items and `where` clauses.
+
 use crate::attr::Attribute;
 use node_expr::{Expr, Type, TypeParamBound};
 use tok_types::{Ident, Items, Lifetime, Span};

@@ -1,3 +1,5 @@
+//! Equality of items, as laws.
+
 ghost use Rattle.std.specs.Prelude.{◌≡◌, true};
 ghost use Rattle.tok_types.specs.declared.span.Span.{Span};
 ghost use Rattle.node_core.specs.declared.derive.DeriveInput.{DeriveInput};

@@ -9,7 +9,6 @@ mod attr;
 mod clone;
 mod data;
 mod derive;
-mod error;
 mod generics;
 mod laws;
 mod punctuated;
@@ -20,11 +19,11 @@ pub use data::{
     Visibility,
 };
 pub use derive::DeriveInput;
-pub use error::SynError;
 pub use generics::{
     ConstParam, GenericParam, Generics, LifetimeParam, TypeParam, WhereClause, WherePredicate,
 };
 pub use laws::equality_of_items_ignores_their_span;
+pub use node_error::SynError;
 pub use node_expr::{
     BinOp, Boxed, Delimiter, Expr, ExprArray, ExprClosure, ExprPath, ExprRange, FnArg,
     GenericArgument, Group, Ident, Items, Lifetime, Lit, LitBool, LitByte, LitByteStr, LitChar,

@@ -1,3 +1,5 @@
+//! Lists whose items stand between marks.
+
 use std::marker::PhantomData;
 use tok_types::Items;
 

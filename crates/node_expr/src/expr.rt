@@ -1,3 +1,5 @@
+//! Expressions.
+
 ghost use Rattle.std.specs.Prelude.{◌≡◌};
 ghost use Rattle.node_expr.specs.declared.expr.Expr.{out-Expr};
 ghost use Rattle.node_expr.specs.Kinds.{array_in, path_in, range_in};

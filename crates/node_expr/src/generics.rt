@@ -1,3 +1,5 @@
+//! Bounds of types.
+
 use crate::path::Path;
 use tok_types::{Items, Lifetime, Span};
 

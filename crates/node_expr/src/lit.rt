@@ -1,3 +1,5 @@
+//! Literals by their kinds, with their values.
+
 ghost use Rattle.std.specs.Prelude.{◌≡◌};
 ghost use Rattle.node_expr.specs.Kinds.{string_in};
 

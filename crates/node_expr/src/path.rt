@@ -1,3 +1,5 @@
+//! Paths and the arguments in them.
+
 use crate::expr::Expr;
 use crate::generics::TypeParamBound;
 use crate::ty::{ReturnType, Type};

@@ -1,3 +1,5 @@
+//! The identifier that a path is.
+
 ghost use Rattle.std.specs.Prelude.{◌≡◌, ◌↔◌, IsTrue, option_map};
 ghost use Rattle.std.specs.Option.{option_copied};
 ghost use Rattle.tok_types.specs.Ident.{ident_text};

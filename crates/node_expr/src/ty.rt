@@ -1,3 +1,5 @@
+//! Types.
+
 use crate::expr::Expr;
 use crate::generics::TypeParamBound;
 use crate::path::{Path, QSelf};

@@ -1,3 +1,5 @@
+//! The spans of attributes, fields, variants and items.
+
 ghost use Rattle.node_span.specs.Spanned.{body_span, fields_span, meta_span, visibility_span};
 
 use crate::spanned::Spanned;

@@ -1,3 +1,5 @@
+//! The spans of expressions.
+
 ghost use Rattle.node_span.specs.Spanned.{expr_path_span, expr_span, member_span};
 
 use crate::spanned::Spanned;

@@ -1,3 +1,5 @@
+//! The spans of parameters and `where` clauses.
+
 ghost use Rattle.node_span.specs.Spanned.{bound_span, generics_span, param_span, predicate_span, trait_bound_span};
 
 use crate::spanned::Spanned;

@@ -1,3 +1,5 @@
+//! The spans of literals.
+
 ghost use Rattle.node_span.specs.Spanned.{lit_span};
 
 use crate::spanned::Spanned;

@@ -1,3 +1,5 @@
+//! The spans of paths and their arguments.
+
 ghost use Rattle.node_span.specs.Spanned.{argument_span, arguments_span, path_span, segment_span};
 
 use crate::spanned::Spanned;

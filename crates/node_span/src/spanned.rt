@@ -1,3 +1,5 @@
+//! What has a span: the trait, and lists and options of it.
+
 ghost use Rattle.std.specs.Prelude.{◌≡◌};
 ghost use Rattle.node_span.specs.Spanned.{list_span, option_span};
 

@@ -1,3 +1,5 @@
+//! The spans of tokens.
+
 ghost use Rattle.node_span.specs.Spanned.{group_span, lifetime_span, stream_span, tree_span};
 
 use crate::spanned::Spanned;

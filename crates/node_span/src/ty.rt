@@ -1,3 +1,5 @@
+//! The spans of types.
+
 ghost use Rattle.node_span.specs.Spanned.{return_span, type_array_span, type_path_span, type_span};
 
 use crate::spanned::Spanned;

@@ -6,3 +6,5 @@ pub mod Exprs
 pub mod Nodes
 pub mod Kinds
 pub mod Items
+pub use Rattle.node_core.specs.Nodes as NodeTypes
+pub use Rattle.tok_types.specs.Tokens

@@ -1,3 +1,5 @@
+//! The tokens of attributes.
+
 use crate::list::print_all;
 use crate::push::{push_group, push_mark};
 use crate::to_tokens::ToTokens;

@@ -1,3 +1,5 @@
+//! The tokens of bounds.
+
 ghost use Rattle.std.specs.Prelude.{◌≡◌, ◌++◌, codes, map, OnOk};
 ghost use Rattle.print_core.specs.Marks.{lifetime, word};
 ghost use Rattle.print_core.specs.Paths.{binder, angled, sum_of};

@@ -1,3 +1,5 @@
+//! The tokens of visibilities, fields, variants and bodies.
+
 ghost use Rattle.std.specs.Prelude.{◌≡◌, ◌++◌, None, OnOk};
 ghost use Rattle.print_core.specs.Items.{body_with, enum_tokens, field_tokens, fields_tokens, named_tokens, struct_with, unnamed_tokens, variant_tokens, visibility_tokens};
 

@@ -1,3 +1,5 @@
+//! The tokens of whole items and of a function's arguments.
+
 use crate::data::print_body;
 use crate::list::print_all;
 use crate::push::{push_mark, push_word};

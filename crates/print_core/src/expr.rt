@@ -1,3 +1,5 @@
+//! The tokens of expressions.
+
 ghost use Rattle.std.specs.Prelude.{◌≡◌, ◌++◌, codes, map, OnOk};
 ghost use Rattle.print_core.specs.Marks.{comma, mark, after, ended, group, joined, tuple};
 ghost use Rattle.print_core.specs.Exprs.{bin_op_tokens, called_with, turbofish, un_op_tokens};

@@ -1,3 +1,5 @@
+//! The tokens of parameters and `where` clauses.
+
 ghost use Rattle.std.specs.Prelude.{◌≡◌, ◌++◌, ◌↔◌, IsTrue, OnOk};
 ghost use Rattle.print_core.specs.Items.{begins_with_binder, const_param_tokens, generics_tokens, lifetime_param_tokens, param_tokens, predicate_binder, predicate_tokens, type_param_tokens, where_tokens};
 

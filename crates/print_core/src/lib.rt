@@ -19,5 +19,16 @@ mod to_tokens;
 mod token;
 mod ty;
 
+pub use node_core::{
+    Attribute, BinOp, Boxed, Comma, ConstParam, Data, DataEnum, DataStruct, DataUnion, Delimiter,
+    DeriveInput, Expr, ExprArray, ExprClosure, ExprPath, ExprRange, Field, Fields, FieldsNamed,
+    FieldsUnnamed, FnArg, GenericArgument, GenericParam, Generics, Group, Ident, Items, Lifetime,
+    LifetimeParam, Lit, LitBool, LitByte, LitByteStr, LitChar, LitFloat, LitInt, LitStr, Literal,
+    Mem, Member, Meta, MetaList, MetaNameValue, NamedArg, Path, PathArguments, PathSegment, Punct,
+    Punctuated, QSelf, ReturnType, Span, Text, TokenStream, TokenTree, TraitBound, TryClone, Type,
+    TypeArray, TypeFnPtr, TypeGroup, TypeImplTrait, TypeInfer, TypeNever, TypeParam,
+    TypeParamBound, TypeParen, TypePath, TypePtr, TypeReference, TypeSlice, TypeTraitObject,
+    TypeTuple, UnOp, Variant, Visibility, WhereClause, WherePredicate,
+};
 pub use path::PathStyle;
 pub use to_tokens::ToTokens;

@@ -1,3 +1,5 @@
+//! The tokens of literals.
+
 use crate::push::{push_mark, push_word};
 use crate::to_tokens::ToTokens;
 use node_core::{Lit, LitBool, LitByte, LitByteStr, LitChar, LitFloat, LitInt, LitStr, Member};

@@ -1,3 +1,5 @@
+//! The tokens of paths, as types and expressions write them.
+
 ghost use Rattle.std.specs.Prelude.{◌≡◌, ◌++◌, map, take, drop, codes, OnOk};
 ghost use Rattle.print_core.specs.Marks.{mark, comma, colons, plus, after, joined};
 ghost use Rattle.print_core.specs.Paths.{in_style, angled, sum_of, after_type};

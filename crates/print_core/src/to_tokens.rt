@@ -1,3 +1,5 @@
+//! What has tokens: the trait.
+
 use std::alloc::Global;
 use tok_types::{Items, Mem, TokenStream, TokenTree};
 

@@ -1,3 +1,5 @@
+//! The tokens of types.
+
 ghost use Rattle.std.specs.Prelude.{◌≡◌, ◌++◌, map, OnOk};
 ghost use Rattle.print_core.specs.Marks.{comma, after, group, joined, tuple, word};
 ghost use Rattle.print_core.specs.Paths.{return_of, sum_of};

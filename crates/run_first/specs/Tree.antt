@@ -1,10 +1,10 @@
 -- What one tree of tokens is.
 use Rattle.std.specs.Prelude.{ℕ, Bool, true, false, ◌==◌, ◌&&◌, not, if◌then◌else◌, List, codes, Option, Some, None, option_and_then}
-use Rattle.std.specs.Cmp.Lexicographic.{pointwise}
+use Rattle.std.specs.Str.{bytes_eq}
+use Rattle.tok_types.specs.Delimiter.{same_delimiter}
 use Rattle.tok_types.specs.declared.ident.Ident.{Ident}
 use Rattle.tok_types.specs.declared.span.Span.{Span}
 use Rattle.tok_types.specs.declared.tree.Delimiter.{Delimiter}
-use Rattle.tok_types.specs.declared.tree.Delimiter.TheVariants as delimiter
 use Rattle.tok_types.specs.declared.tree.Literal.{Literal}
 use Rattle.tok_types.specs.declared.tree.Group.{Group, out-Group}
 use Rattle.tok_types.specs.declared.tree.TokenStream.{TokenStream, out-TokenStream}
@@ -16,16 +16,12 @@ infixl 10 ◌>>=◌
 abbrev pub ◌>>=◌ : {A B : Type 0} → Option A → (A → Option B) → Option B
 value >>= next = option_and_then next value
 
--- whether two texts are one
-abbrev pub same_text : List ℕ → List ℕ → Bool
-same_text = pointwise ◌==◌
-
 -- the trees of a list of tokens
 abbrev pub trees_of : TokenStream → List TokenTree
 trees_of tokens = (out-TokenStream tokens).trees
 
 abbrev pub word_in : TokenTree-F TokenTree Group TokenStream → Option Ident
-word_in (TokenTree-F.Ident ident) = if same_text ident.text (codes "_") then None else Some ident
+word_in (TokenTree-F.Ident ident) = if bytes_eq ident.text (codes "_") then None else Some ident
 word_in _ = None
 
 -- a word: an identifier token other than `_`, a keyword too
@@ -34,7 +30,7 @@ word tree = word_in (out-TokenTree tree)
 
 -- the word that is this one, not written with `r#`
 unfoldable pub word_named : List ℕ → TokenTree → Option Ident
-word_named name tree = word tree >>= (λ ident. if same_text ident.text name && not ident.raw then Some ident else None)
+word_named name tree = word tree >>= (λ ident. if bytes_eq ident.text name && not ident.raw then Some ident else None)
 
 abbrev pub mark_in : ℕ → TokenTree-F TokenTree Group TokenStream → Option Span
 mark_in ch (TokenTree-F.Punct punct) = if punct.ch == ch then Some punct.span else None
@@ -51,13 +47,6 @@ literal_in _ = None
 -- a literal of any kind
 unfoldable pub literal : TokenTree → Option Literal
 literal tree = literal_in (out-TokenTree tree)
-
-abbrev pub same_delimiter : Delimiter → Delimiter → Bool
-same_delimiter delimiter.Parenthesis delimiter.Parenthesis = true
-same_delimiter delimiter.Bracket delimiter.Bracket = true
-same_delimiter delimiter.Brace delimiter.Brace = true
-same_delimiter delimiter.None delimiter.None = true
-same_delimiter _ _ = false
 
 abbrev pub group_in : Delimiter → TokenTree-F TokenTree Group TokenStream → Option Group
 group_in between (TokenTree-F.Group group) = if same_delimiter (out-Group group).delimiter between then Some group else None

@@ -3,7 +3,8 @@ use Rattle.std.specs.Prelude.{ℕ, Bool, ◌||◌, if◌then◌else◌, List, []
 use Rattle.std.specs.List.{list_any}
 use Rattle.tok_types.specs.declared.ident.Ident.{Ident}
 use Rattle.tok_types.specs.declared.tree.TokenTree.{TokenTree}
-use Rattle.run_first.specs.Tree.{◌>>=◌, same_text, word}
+use Rattle.run_first.specs.Tree.{◌>>=◌, word}
+use Rattle.std.specs.Str.{bytes_eq}
 
 unfoldable pub keywords : List (List ℕ)
 keywords =
@@ -34,7 +35,7 @@ generated_names =
 
 -- whether the name is one of these
 unfoldable pub is_among : List (List ℕ) → List ℕ → Bool
-is_among names name = list_any (λ other. same_text other name) names
+is_among names name = list_any (λ other. bytes_eq other name) names
 
 -- an identifier: a word that is no keyword and not written with `r#`
 unfoldable pub identifier : TokenTree → Option Ident
@@ -46,7 +47,7 @@ identifier tree = do
 unfoldable pub declared_name : TokenTree → Option Ident
 declared_name tree = do
   ident ← identifier tree
-  if same_text ident.text (codes "String") then None else Some ident
+  if bytes_eq ident.text (codes "String") then None else Some ident
 
 -- the name of a field: an identifier that is neither magic nor generated
 unfoldable pub field_name : TokenTree → Option Ident

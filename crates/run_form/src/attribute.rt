@@ -1,3 +1,5 @@
+//! The attributes of the first form of a declaration.
+
 ghost use Rattle.std.specs.Prelude.{◌≡◌};
 ghost use Rattle.run_form.specs.Attribute.{contents, derives, reads_attribute, is_attributes, is_darling, is_derive, is_identifier, is_word};
 

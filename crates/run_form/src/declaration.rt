@@ -1,3 +1,5 @@
+//! The first form of a declaration: a struct of `String` fields.
+
 ghost use Rattle.std.specs.Prelude.{◌≡◌, IfOk};
 ghost use Rattle.std.specs.Option.{option_copied};
 ghost use Rattle.run_form.specs.FirstForm.{holds_fields, is_declaration, is_first_form, is_struct};

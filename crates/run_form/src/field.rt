@@ -1,3 +1,5 @@
+//! The fields of the first form of a declaration.
+
 ghost use Rattle.std.specs.Prelude.{◌≡◌, IfOk, map};
 ghost use Rattle.run_form.specs.Field.{are_distinct, are_fields, field};
 ghost use Rattle.run_first.specs.Nested.{listed};

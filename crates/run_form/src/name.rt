@@ -1,3 +1,5 @@
+//! Names that a declaration of the first form may use.
+
 ghost use Rattle.std.specs.Prelude.{◌≡◌, map};
 ghost use Rattle.std.specs.Option.{option_copied};
 ghost use Rattle.run_form.specs.Name.{keywords, magic_names, generated_names, is_among, identifier, declared_name, field_name};

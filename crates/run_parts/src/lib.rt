@@ -1,4 +1,4 @@
-// The division of an input into its parts.
+//! Divides an input into its parts at lines `%%`.
 #![tactic(auto)]
 
 ghost use Rattle.std.specs.Prelude.{◌≡◌, ◌≢◌, ◌≤◌, ◌⊎◌, ◌↔◌, List, ℕ, length, IsTrue, IsSome, IfSome, IfNone, IsOk, IfOk, IfErr};

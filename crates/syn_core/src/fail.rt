@@ -1,6 +1,8 @@
+//! Why a public parser gives no tree.
+
 ghost use Rattle.syn_core.specs.Parses.{Refuses, fault_at};
 
-use node_core::SynError;
+use node_core::{Mem, SynError, TryClone};
 use node_expr::Span;
 use std::alloc::{AllocError, AllocFailed, Global};
 
@@ -19,6 +21,15 @@ impl ParseFail {
         match SynError::new(alloc, place, text) {
             Ok(error) => ParseFail::Syn(error),
             Err(_) => ParseFail::NoMemory,
+        }
+    }
+}
+
+impl TryClone for ParseFail {
+    fn try_clone(&self, alloc: Global) -> Mem<ParseFail> {
+        match self {
+            ParseFail::Syn(error) => Ok(ParseFail::Syn(error.try_clone(alloc)?)),
+            ParseFail::NoMemory => Ok(ParseFail::NoMemory),
         }
     }
 }

@@ -21,32 +21,33 @@ use node_expr::{Expr, FnArg, Ident, Path, TokenStream, Type};
 use std::alloc::Global;
 use syn_grammar::Cursor;
 use syn_rules::{
-    ANY_LEVEL, Front, MAX_DEPTH, MAX_PATTERN, items_after, pattern, read_expr, read_path, read_type,
+    ANY_LEVEL, MAX_DEPTH, MAX_PATTERN, Parsed, items_after, pattern, read_expr, read_path,
+    read_type,
 };
 
 /// A type, where a `dyn` or `impl` has several bounds.
-pub(crate) fn ty(alloc: Global, tokens: &mut Cursor<'_>) -> Front<Type>
+pub(crate) fn ty(alloc: Global, tokens: &mut Cursor<'_>) -> Parsed<Type>
     ensures { Reads type_depth max_depth ((within max_depth).ty true tokens.old) result tokens.new }
 {
     read_type(alloc, tokens, MAX_DEPTH, true)
 }
 
 /// Any expression.
-pub(crate) fn expr(alloc: Global, tokens: &mut Cursor<'_>) -> Front<Expr>
+pub(crate) fn expr(alloc: Global, tokens: &mut Cursor<'_>) -> Parsed<Expr>
     ensures { Reads expr_depth max_depth ((within max_depth).expr any_level tokens.old) result tokens.new }
 {
     read_expr(alloc, tokens, MAX_DEPTH, ANY_LEVEL)
 }
 
 /// A path as in a type.
-pub(crate) fn path(alloc: Global, tokens: &mut Cursor<'_>) -> Front<Path>
+pub(crate) fn path(alloc: Global, tokens: &mut Cursor<'_>) -> Parsed<Path>
     ensures { Reads path_depth max_depth (paths.path (within max_depth) true tokens.old) result tokens.new }
 {
     read_path(alloc, tokens, MAX_DEPTH, true)
 }
 
 /// An identifier, which has no depth.
-pub(crate) fn name(alloc: Global, tokens: &mut Cursor<'_>) -> Front<Ident>
+pub(crate) fn name(alloc: Global, tokens: &mut Cursor<'_>) -> Parsed<Ident>
     ensures { Reads (λ name. 0) 0 (input.take_as name_of tokens.old) result tokens.new }
 {
     let name = tokens.take_name(alloc)?;
@@ -55,7 +56,7 @@ pub(crate) fn name(alloc: Global, tokens: &mut Cursor<'_>) -> Front<Ident>
 
 /// One argument of a function, as deep as its type: `name: T`, `&(mut a, _): T`
 #[tactic(auto, unfolding(syn_grammar::specs::Arguments::fn_arg))]
-fn fn_arg(alloc: Global, tokens: &mut Cursor<'_>) -> Front<FnArg>
+fn fn_arg(alloc: Global, tokens: &mut Cursor<'_>) -> Parsed<FnArg>
     ensures { Reads (λ arg. type_depth arg.ty) max_depth (arguments.fn_arg (within max_depth) tokens.old) result tokens.new }
 {
     let before = tokens.rest();
@@ -70,7 +71,7 @@ fn fn_arg(alloc: Global, tokens: &mut Cursor<'_>) -> Front<FnArg>
 }
 
 /// The arguments of a function.
-pub(crate) fn fn_args(alloc: Global, tokens: &mut Cursor<'_>) -> Front<Items<FnArg>>
+pub(crate) fn fn_args(alloc: Global, tokens: &mut Cursor<'_>) -> Parsed<Items<FnArg>>
     ensures { Reads (all_depth (λ arg. type_depth arg.ty)) max_depth (paths.list (arguments.fn_arg (within max_depth)) tokens.old) result tokens.new }
 {
     let none = Items::new(alloc);
@@ -83,7 +84,7 @@ pub(crate) fn fn_args(alloc: Global, tokens: &mut Cursor<'_>) -> Front<Items<FnA
 }
 
 /// A list of expressions.
-pub(crate) fn exprs(alloc: Global, tokens: &mut Cursor<'_>) -> Front<Items<Expr>>
+pub(crate) fn exprs(alloc: Global, tokens: &mut Cursor<'_>) -> Parsed<Items<Expr>>
     ensures { Reads (all_depth expr_depth) max_depth (paths.list ((within max_depth).expr any_level) tokens.old) result tokens.new }
 {
     let none = Items::new(alloc);
@@ -96,7 +97,7 @@ pub(crate) fn exprs(alloc: Global, tokens: &mut Cursor<'_>) -> Front<Items<Expr>
 }
 
 /// A list of identifiers.
-pub(crate) fn names(alloc: Global, tokens: &mut Cursor<'_>) -> Front<Items<Ident>>
+pub(crate) fn names(alloc: Global, tokens: &mut Cursor<'_>) -> Parsed<Items<Ident>>
     ensures { Reads (all_depth (λ name. 0)) 0 (paths.list (input.take_as name_of) tokens.old) result tokens.new }
 {
     let none = Items::new(alloc);
@@ -109,7 +110,7 @@ pub(crate) fn names(alloc: Global, tokens: &mut Cursor<'_>) -> Front<Items<Ident
 }
 
 /// A list of paths.
-pub(crate) fn path_list(alloc: Global, tokens: &mut Cursor<'_>) -> Front<Items<Path>>
+pub(crate) fn path_list(alloc: Global, tokens: &mut Cursor<'_>) -> Parsed<Items<Path>>
     ensures { Reads (all_depth path_depth) max_depth (paths.list (paths.path (within max_depth) true) tokens.old) result tokens.new }
 {
     let none = Items::new(alloc);
@@ -122,35 +123,35 @@ pub(crate) fn path_list(alloc: Global, tokens: &mut Cursor<'_>) -> Front<Items<P
 }
 
 /// Items, to the end.
-pub(crate) fn items(alloc: Global, tokens: &mut Cursor<'_>) -> Front<Items<DeriveInput>>
+pub(crate) fn items(alloc: Global, tokens: &mut Cursor<'_>) -> Parsed<Items<DeriveInput>>
     ensures { Flat (item_rules.items tokens.old) result tokens.new }
 {
     syn_items::items(alloc, tokens)
 }
 
 /// One item.
-pub(crate) fn item(alloc: Global, tokens: &mut Cursor<'_>) -> Front<DeriveInput>
+pub(crate) fn item(alloc: Global, tokens: &mut Cursor<'_>) -> Parsed<DeriveInput>
     ensures { Flat (item_rules.item tokens.old) result tokens.new }
 {
     syn_items::item(alloc, tokens)
 }
 
 /// A `where` clause.
-pub(crate) fn where_clause(alloc: Global, tokens: &mut Cursor<'_>) -> Front<WhereClause>
+pub(crate) fn where_clause(alloc: Global, tokens: &mut Cursor<'_>) -> Parsed<WhereClause>
     ensures { Flat (generic_rules.where_clause tokens.old) result tokens.new }
 {
     syn_items::where_clause(alloc, tokens)
 }
 
 /// A visibility.
-pub(crate) fn visibility(alloc: Global, tokens: &mut Cursor<'_>) -> Front<Visibility>
+pub(crate) fn visibility(alloc: Global, tokens: &mut Cursor<'_>) -> Parsed<Visibility>
     ensures { Flat (visibility_rules.visibility tokens.old) result tokens.new }
 {
     syn_items::visibility(alloc, tokens)
 }
 
 /// A type parameter.
-pub(crate) fn type_param(alloc: Global, tokens: &mut Cursor<'_>) -> Front<TypeParam>
+pub(crate) fn type_param(alloc: Global, tokens: &mut Cursor<'_>) -> Parsed<TypeParam>
     ensures { Flat (generic_rules.one_type_param tokens.old) result tokens.new }
 {
     syn_items::one_type_param(alloc, tokens)

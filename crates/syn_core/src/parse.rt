@@ -15,7 +15,7 @@ use node_expr::{Expr, ExprArray, ExprPath, ExprRange, FnArg, Ident, Path, TokenS
 use node_span::Spanned;
 use std::alloc::Global;
 use syn_grammar::Cursor;
-use syn_rules::{Front, all_of};
+use syn_rules::{Parsed, all_of};
 
 /// The one fault over all of the tokens.
 fn refusal(alloc: Global, tokens: &TokenStream, text: &str) -> ParseFail
@@ -25,7 +25,7 @@ fn refusal(alloc: Global, tokens: &TokenStream, text: &str) -> ParseFail
 }
 
 /// What `reader` reads of all of the tokens, or the one fault `text`.
-fn whole<A: Drop, P: Fn(Global, &mut Cursor<'_>) -> Front<A>>(
+fn whole<A: Drop, P: Fn(Global, &mut Cursor<'_>) -> Parsed<A>>(
     alloc: Global,
     tokens: &TokenStream,
     text: &str,

@@ -20,7 +20,7 @@ use Rattle.syn_grammar.specs.declared.look.Infix.{Infix}
 use Rattle.syn_grammar.specs.declared.word.Word.{Word}
 use Rattle.syn_grammar.specs.declared.word.Word.TheVariants as word
 use Rattle.syn_grammar.specs.Token.{is_arrow, is_bar, is_closed_dots, is_colon, is_comma, is_dots, is_group, is_semicolon, is_turbofish, literal_of}
-use Rattle.syn_grammar.specs.Words.{name_of, next_word, sees}
+use Rattle.syn_grammar.specs.Words.{name_of, next_word, peek}
 use Rattle.syn_grammar.specs.Look.{is_there, atom_start, operand_start, postfix_start, begins_closure, begins_operand, operator_of, at_level}
 use Rattle.syn_grammar.specs.Input.{Parser, ◌>>=◌, ◌>>◌, ◌<$>◌, pure, refuse, test, here, upto, state, read_since, skip, skip_by, eat, expect, take_as, at_end, inside, items_after, until, by_turns}
 use Rattle.syn_grammar.specs.Readers.{Readers, operand_level, or_level, range_level, any_level, constant_level}
@@ -48,7 +48,7 @@ module _ (readers : Readers) where
 
   -- a type that is kept as tokens alone
   unfoldable pub pass_type : Bool → Parser (Unit {0})
-  pass_type many = (λ ty. tt) <$> readers.ty many
+  pass_type allow_plus = (λ ty. tt) <$> readers.ty allow_plus
 
   -- a pattern, and its type where it is told
   unfoldable pub closure_param : Parser (Unit {0})
@@ -72,7 +72,7 @@ module _ (readers : Readers) where
   closure = do
     before ← state
     start ← here
-    moved ← eat 1 (sees word.Move)
+    moved ← eat 1 (peek word.Move)
     opened ← expect 1 is_bar
     params ← closure_params
     level ← closure_body
@@ -203,7 +203,7 @@ module _ (readers : Readers) where
     turbofish ← test is_turbofish
     called ← test (is_group delimiter.Parenthesis)
     if turbofish then turbofish_call start base name
-        else (if called then method_call start base name else field start base (made.Named name))
+        else if called then method_call start base name else field start base (made.Named name)
 
   abbrev pub member_by : Span → Expr → Bool → Parser Expr
   member_by start base true = take_as name_of >>= named_member start base
@@ -272,7 +272,7 @@ module _ (readers : Readers) where
   reference = do
     start ← here
     mark ← skip
-    mutable ← eat 1 (sees word.Mut)
+    mutable ← eat 1 (peek word.Mut)
     operand ← readers.expr operand_level
     span ← upto start
     pure (expr.Reference mutable operand span)
@@ -343,7 +343,7 @@ module _ (readers : Readers) where
       right ← readers.expr or_level
       span ← upto start
       pure (make.expr_range left (Some right) closed span))
-        else (if closed then refuse else (upto start >>= (λ span. pure (make.expr_range left None false span))))
+        else if closed then refuse else (upto start >>= (λ span. pure (make.expr_range left None false span)))
 
   unfoldable pub range : Parser Expr
   range = do
@@ -364,6 +364,6 @@ module _ (readers : Readers) where
   unfoldable pub expr_step : ℕ → Parser Expr
   expr_step level =
       if level == any_level then any
-      else (if level == range_level then range
-      else (if level == constant_level then constant
-      else binary level))
+      else if level == range_level then range
+      else if level == constant_level then constant
+      else binary level

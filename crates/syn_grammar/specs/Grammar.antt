@@ -25,7 +25,7 @@ bounds_depth found = suc (deepest (map bound_depth found))
 unfoldable pub within : ℕ → Readers
 within zero = no_readers
 within (suc below) = record {
-  ty = λ many input. kept type_depth (suc below) (type_step (within below) many input);
+  ty = λ allow_plus input. kept type_depth (suc below) (type_step (within below) allow_plus input);
   expr = λ level input. kept expr_depth (suc below) (expr_step (within below) level input);
   bounds = λ input. kept bounds_depth (suc below) (bounds (within below) true input);
 }

@@ -1,5 +1,6 @@
 -- What the tokens that come next begin.
 use Rattle.std.specs.Prelude.{ℕ, Bool, true, false, ◌&&◌, ◌||◌, not, ◌==◌, if◌then◌else◌, List, Option, Some, None}
+use Rattle.tok_types.specs.Ascii.{ampersand, bar, caret, dot, equals, greater, less, minus, exclamation, percent, plus, slash, star}
 use Rattle.tok_types.specs.declared.tree.Delimiter.TheVariants as delimiter
 use Rattle.tok_types.specs.declared.tree.TokenTree.{TokenTree}
 use Rattle.node_expr.specs.declared.expr.BinOp.{BinOp}
@@ -42,13 +43,13 @@ type_word _ = ty.Nothing
 unfoldable pub type_start : List TokenTree → TypeStart
 type_start trees =
     if is_group delimiter.Parenthesis trees then ty.Parenthesis
-    else (if is_group delimiter.Bracket trees then ty.Bracket
-    else (if is_mark 33 trees then ty.Never
-    else (if is_and trees then ty.Reference
-    else (if is_mark 42 trees then ty.Pointer
-    else (if is_less trees then ty.Qualified
-    else (if is_colons trees then ty.Path
-    else type_word (next_word trees)))))))
+    else if is_group delimiter.Bracket trees then ty.Bracket
+    else if is_mark exclamation trees then ty.Never
+    else if is_and trees then ty.Reference
+    else if is_mark star trees then ty.Pointer
+    else if is_less trees then ty.Qualified
+    else if is_colons trees then ty.Path
+    else type_word (next_word trees)
 
 -- ---- arguments of a segment
 
@@ -56,9 +57,9 @@ type_start trees =
 unfoldable pub arguments_start : Bool → List TokenTree → ArgumentsStart
 arguments_start in_type trees =
     if is_turbofish trees then arguments.Turbofish
-    else (if in_type && is_less trees then arguments.Less
-    else (if in_type && is_group delimiter.Parenthesis trees then arguments.Parenthesis
-    else arguments.Nothing))
+    else if in_type && is_less trees then arguments.Less
+    else if in_type && is_group delimiter.Parenthesis trees then arguments.Parenthesis
+    else arguments.Nothing
 
 abbrev pub is_bool : Word → Bool
 is_bool word.True = true
@@ -73,7 +74,7 @@ begins_constant trees = is_there (literal_of trees) || is_bool (next_word trees)
 abbrev pub argument_name : List TokenTree → ArgumentStart
 argument_name after =
     if is_equals after then (if begins_constant (after_one after) then argument.AssocConst else argument.AssocType)
-    else (if is_colon after then argument.Constraint else argument.Type)
+    else if is_colon after then argument.Constraint else argument.Type
 
 abbrev pub argument_word : Word → List TokenTree → ArgumentStart
 argument_word word.Name after = argument_name after
@@ -82,8 +83,8 @@ argument_word _ after = argument.Type
 unfoldable pub argument_start : List TokenTree → ArgumentStart
 argument_start trees =
     if is_there (lifetime_of trees) then argument.Lifetime
-    else (if begins_constant trees then argument.Constant
-    else argument_word (next_word trees) (after_one trees))
+    else if begins_constant trees then argument.Constant
+    else argument_word (next_word trees) (after_one trees)
 
 -- ---- expressions
 
@@ -98,22 +99,22 @@ atom_word _ = atom.Nothing
 unfoldable pub atom_start : List TokenTree → AtomStart
 atom_start trees =
     if is_group delimiter.Parenthesis trees then atom.Parenthesis
-    else (if is_group delimiter.Bracket trees then atom.Bracket
-    else (if is_group delimiter.Brace trees then atom.Brace
-    else (if is_group delimiter.None trees then atom.Invisible
-    else (if is_there (literal_of trees) then atom.Literal
-    else (if is_less trees then atom.Qualified
-    else (if is_colons trees then atom.Path
-    else atom_word (next_word trees)))))))
+    else if is_group delimiter.Bracket trees then atom.Bracket
+    else if is_group delimiter.Brace trees then atom.Brace
+    else if is_group delimiter.None trees then atom.Invisible
+    else if is_there (literal_of trees) then atom.Literal
+    else if is_less trees then atom.Qualified
+    else if is_colons trees then atom.Path
+    else atom_word (next_word trees)
 
 -- 45 `-`, 33 `!`, 42 `*`
 unfoldable pub operand_start : List TokenTree → OperandStart
 operand_start trees =
-    if is_mark 45 trees then operand.Neg
-    else (if is_mark 33 trees then operand.Not
-    else (if is_mark 42 trees then operand.Deref
-    else (if is_and trees then operand.Reference
-    else operand.Atom (atom_start trees))))
+    if is_mark minus trees then operand.Neg
+    else if is_mark exclamation trees then operand.Not
+    else if is_mark star trees then operand.Deref
+    else if is_and trees then operand.Reference
+    else operand.Atom (atom_start trees)
 
 abbrev pub is_atom : AtomStart → Bool
 is_atom atom.Nothing = false
@@ -133,16 +134,16 @@ is_move _ = false
 
 -- `move` or `|` (124)
 unfoldable pub begins_closure : List TokenTree → Bool
-begins_closure trees = is_move (next_word trees) || is_mark 124 trees
+begins_closure trees = is_move (next_word trees) || is_mark bar trees
 
 -- 46 `.`
 unfoldable pub postfix_start : List TokenTree → PostfixStart
 postfix_start trees =
     if is_group delimiter.Parenthesis trees then postfix.Call
-    else (if is_group delimiter.Bracket trees then postfix.Index
-    else (if is_mark 46 trees && not (is_dots trees) then postfix.Dot
-    else (if is_question trees then postfix.Try
-    else postfix.Nothing)))
+    else if is_group delimiter.Bracket trees then postfix.Index
+    else if is_mark dot trees && not (is_dots trees) then postfix.Dot
+    else if is_question trees then postfix.Try
+    else postfix.Nothing
 
 -- ---- operators between two operands
 
@@ -170,27 +171,27 @@ level_of op.Or = 9
 -- `==`, `!=`, `<=`, `>=`
 abbrev pub before_equals : ℕ → Option BinOp
 before_equals ch =
-    if ch == 61 then Some op.Eq else (if ch == 33 then Some op.Ne else (if ch == 60 then Some op.Le
-    else (if ch == 62 then Some op.Ge else None)))
+    if ch == equals then Some op.Eq else if ch == exclamation then Some op.Ne else if ch == less then Some op.Le
+    else if ch == greater then Some op.Ge else None
 
 -- `&&`, `||`, `<<`, `>>`
 abbrev pub doubled : ℕ → Option BinOp
 doubled ch =
-    if ch == 38 then Some op.And else (if ch == 124 then Some op.Or else (if ch == 60 then Some op.Shl
-    else (if ch == 62 then Some op.Shr else None)))
+    if ch == ampersand then Some op.And else if ch == bar then Some op.Or else if ch == less then Some op.Shl
+    else if ch == greater then Some op.Shr else None
 
 -- an operator of two characters
 abbrev pub double_of : ℕ → ℕ → Option BinOp
 double_of first second =
-    if second == 61 then before_equals first else (if first == second then doubled first else None)
+    if second == equals then before_equals first else if first == second then doubled first else None
 
 -- `*`, `/`, `%`, `+`, `-`, `&`, `^`, `|`, `<`, `>`
 abbrev pub single_of : ℕ → Option BinOp
 single_of ch =
-    if ch == 42 then Some op.Mul else (if ch == 47 then Some op.Div else (if ch == 37 then Some op.Rem
-    else (if ch == 43 then Some op.Add else (if ch == 45 then Some op.Sub
-    else (if ch == 38 then Some op.BitAnd else (if ch == 94 then Some op.BitXor else (if ch == 124 then Some op.BitOr
-    else (if ch == 60 then Some op.Lt else (if ch == 62 then Some op.Gt else None)))))))))
+    if ch == star then Some op.Mul else if ch == slash then Some op.Div else if ch == percent then Some op.Rem
+    else if ch == plus then Some op.Add else if ch == minus then Some op.Sub
+    else if ch == ampersand then Some op.BitAnd else if ch == caret then Some op.BitXor else if ch == bar then Some op.BitOr
+    else if ch == less then Some op.Lt else if ch == greater then Some op.Gt else None
 
 abbrev pub infix_of : ℕ → BinOp → Infix
 infix_of width op = record { op = op; level = level_of op; width = width }

@@ -21,7 +21,7 @@ use Rattle.syn_grammar.specs.declared.look.ArgumentStart.{ArgumentStart}
 use Rattle.syn_grammar.specs.declared.look.ArgumentStart.TheVariants as argument
 use Rattle.syn_grammar.specs.declared.word.Word.TheVariants as word
 use Rattle.syn_grammar.specs.Token.{is_arrow, is_colons, is_greater, is_less, is_plus, is_question, lifetime_of}
-use Rattle.syn_grammar.specs.Words.{name_of, segment_word, sees}
+use Rattle.syn_grammar.specs.Words.{name_of, segment_word, peek}
 use Rattle.syn_grammar.specs.Look.{arguments_start, argument_start, is_there}
 use Rattle.syn_grammar.specs.Input.{Parser, ◌>>=◌, ◌>>◌, ◌<$>◌, pure, test, here, upto, skip, skip_by, eat, expect, take_as, inside, items_after, until, joined_by}
 use Rattle.syn_grammar.specs.Readers.{Readers, constant_level}
@@ -38,7 +38,7 @@ angle_list item = until 62 item
 -- `for<'a, 'b>`, or nothing
 unfoldable pub binder : Parser (List Lifetime)
 binder = do
-  bound ← eat 1 (sees word.For)
+  bound ← eat 1 (peek word.For)
   if bound then expect 1 is_less >> angle_list (take_as lifetime_of) else pure []
 
 module _ (readers : Readers) where
@@ -161,7 +161,7 @@ module _ (readers : Readers) where
     start ← here
     less ← expect 1 is_less
     ty ← readers.ty true
-    named ← eat 1 (sees word.As)
+    named ← eat 1 (peek word.As)
     if named then after_as in_type start ty else without_as in_type start ty
 
   -- ---- bounds
@@ -186,6 +186,6 @@ module _ (readers : Readers) where
 
   -- bounds joined by `+`; or one alone
   unfoldable pub bounds : Bool → Parser (List TypeParamBound)
-  bounds many =
-      if many then joined_bounds
+  bounds allow_plus =
+      if allow_plus then joined_bounds
       else (λ found. found ∷ []) <$> one_bound

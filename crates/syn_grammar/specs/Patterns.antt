@@ -4,7 +4,7 @@ use Rattle.tok_types.specs.declared.tree.Delimiter.TheVariants as delimiter
 use Rattle.syn_grammar.specs.declared.word.Word.{Word}
 use Rattle.syn_grammar.specs.declared.word.Word.TheVariants as word
 use Rattle.syn_grammar.specs.Token.{is_and, is_group}
-use Rattle.syn_grammar.specs.Words.{name_of, next_word, sees}
+use Rattle.syn_grammar.specs.Words.{name_of, next_word, peek}
 use Rattle.syn_grammar.specs.Input.{Parser, ◌>>=◌, ◌>>◌, ◌<$>◌, pure, test, eat, take_as, inside, by_turns}
 use Rattle.syn_grammar.specs.Paths.{list}
 
@@ -31,7 +31,7 @@ unfoldable pub pattern_word : Parser (Unit {0})
 pattern_word = do
   wild ← eat 1 (λ trees. is_underscore (next_word trees))
   if wild then pure tt else (do
-    mutable ← eat 1 (sees word.Mut)
+    mutable ← eat 1 (peek word.Mut)
     name ← take_as name_of
     pure tt)
 

@@ -15,7 +15,7 @@ pub record Readers : Type 0 where
 
 -- parts that are nowhere
 abbrev pub no_readers : Readers
-no_readers = record { ty = λ many. refuse; expr = λ level. refuse; bounds = refuse }
+no_readers = record { ty = λ allow_plus. refuse; expr = λ level. refuse; bounds = refuse }
 
 -- ---- the levels of expressions besides the operators', which are 1 to 9
 

@@ -1,10 +1,11 @@
 -- One token of a list, and marks of several characters.
 use Rattle.std.specs.Prelude.{ℕ, Bool, true, false, ◌&&◌, not, ◌==◌, List, [], ◌∷◌, Option, Some, None}
+use Rattle.tok_types.specs.Ascii.{ampersand, bar, colon, comma, dot, equals, greater, less, minus, plus, question, semicolon}
+use Rattle.tok_types.specs.Delimiter.{same_delimiter}
 use Rattle.tok_types.specs.declared.ident.Ident.{Ident}
 use Rattle.tok_types.specs.declared.ident.Lifetime.{Lifetime}
 use Rattle.tok_types.specs.declared.span.Span.{Span}
 use Rattle.tok_types.specs.declared.tree.Delimiter.{Delimiter}
-use Rattle.tok_types.specs.declared.tree.Delimiter.TheVariants as delimiter
 use Rattle.tok_types.specs.declared.tree.Literal.{Literal}
 use Rattle.tok_types.specs.declared.tree.Group.{Group, out-Group}
 use Rattle.tok_types.specs.declared.tree.TokenStream.{TokenStream, out-TokenStream}
@@ -24,13 +25,6 @@ span_in (TokenTree-F.Group group) = (out-Group group).span
 -- where a token stands
 unfoldable pub span_of : TokenTree → Span
 span_of tree = span_in (out-TokenTree tree)
-
-abbrev pub same_delimiter : Delimiter → Delimiter → Bool
-same_delimiter delimiter.Parenthesis delimiter.Parenthesis = true
-same_delimiter delimiter.Bracket delimiter.Bracket = true
-same_delimiter delimiter.Brace delimiter.Brace = true
-same_delimiter delimiter.None delimiter.None = true
-same_delimiter _ _ = false
 
 abbrev pub is_group_in : Delimiter → Layer → Bool
 is_group_in between (TokenTree-F.Group group) = same_delimiter (out-Group group).delimiter between
@@ -109,59 +103,59 @@ is_pair first second trees = is_joint trees && (mark_of trees == first && mark_o
 
 -- `,`
 abbrev pub is_comma : List TokenTree → Bool
-is_comma = is_mark 44
+is_comma = is_mark comma
 
 -- `;`
 abbrev pub is_semicolon : List TokenTree → Bool
-is_semicolon = is_mark 59
+is_semicolon = is_mark semicolon
 
 -- `=`
 abbrev pub is_equals : List TokenTree → Bool
-is_equals = is_mark 61
+is_equals = is_mark equals
 
 -- `<`
 abbrev pub is_less : List TokenTree → Bool
-is_less = is_mark 60
+is_less = is_mark less
 
 -- `>`
 abbrev pub is_greater : List TokenTree → Bool
-is_greater = is_mark 62
+is_greater = is_mark greater
 
 -- `|`
 abbrev pub is_bar : List TokenTree → Bool
-is_bar = is_mark 124
+is_bar = is_mark bar
 
 -- `&`
 abbrev pub is_and : List TokenTree → Bool
-is_and = is_mark 38
+is_and = is_mark ampersand
 
 -- `+`
 abbrev pub is_plus : List TokenTree → Bool
-is_plus = is_mark 43
+is_plus = is_mark plus
 
 -- `?`
 abbrev pub is_question : List TokenTree → Bool
-is_question = is_mark 63
+is_question = is_mark question
 
 -- `::`
 abbrev pub is_colons : List TokenTree → Bool
-is_colons = is_pair 58 58
+is_colons = is_pair colon colon
 
 -- `:` and no second one
 abbrev pub is_colon : List TokenTree → Bool
-is_colon trees = is_mark 58 trees && not (is_colons trees)
+is_colon trees = is_mark colon trees && not (is_colons trees)
 
 -- `->`
 abbrev pub is_arrow : List TokenTree → Bool
-is_arrow = is_pair 45 62
+is_arrow = is_pair minus greater
 
 -- `..`
 abbrev pub is_dots : List TokenTree → Bool
-is_dots = is_pair 46 46
+is_dots = is_pair dot dot
 
 -- `..=`
 abbrev pub is_closed_dots : List TokenTree → Bool
-is_closed_dots trees = is_dots trees && is_pair 46 61 (after_one trees)
+is_closed_dots trees = is_dots trees && is_pair dot equals (after_one trees)
 
 -- `::<`
 abbrev pub is_turbofish : List TokenTree → Bool

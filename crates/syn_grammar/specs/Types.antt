@@ -10,7 +10,7 @@ use Rattle.syn_grammar.specs.declared.look.TypeStart.{TypeStart}
 use Rattle.syn_grammar.specs.declared.look.TypeStart.TheVariants as begin
 use Rattle.syn_grammar.specs.declared.word.Word.TheVariants as word
 use Rattle.syn_grammar.specs.Token.{after_one, is_colon, is_comma, is_semicolon, lifetime_of}
-use Rattle.syn_grammar.specs.Words.{name_of, sees}
+use Rattle.syn_grammar.specs.Words.{name_of, peek}
 use Rattle.syn_grammar.specs.Look.{type_start}
 use Rattle.syn_grammar.specs.Input.{Parser, ◌>>=◌, ◌>>◌, ◌<$>◌, pure, refuse, test, here, upto, skip, skip_by, eat, expect, eat_as, at_end, inside, items_after}
 use Rattle.syn_grammar.specs.Readers.{Readers, any_level}
@@ -53,7 +53,7 @@ module _ (readers : Readers) where
     start ← here
     mark ← skip
     lifetime ← eat_as lifetime_of
-    mutable ← eat 1 (sees word.Mut)
+    mutable ← eat 1 (peek word.Mut)
     elem ← readers.ty false
     span ← upto start
     pure (make.type_reference lifetime mutable elem span)
@@ -63,8 +63,8 @@ module _ (readers : Readers) where
   type_pointer = do
     start ← here
     mark ← skip
-    mutable ← eat 1 (sees word.Mut)
-    constant ← if mutable then pure tt else expect 1 (sees word.Const)
+    mutable ← eat 1 (peek word.Mut)
+    constant ← if mutable then pure tt else expect 1 (peek word.Const)
     elem ← readers.ty false
     span ← upto start
     pure (make.type_ptr mutable elem span)
@@ -83,7 +83,7 @@ module _ (readers : Readers) where
   type_fn_ptr = do
     start ← here
     lifetimes ← binder
-    keyword ← expect 1 (sees word.Fn)
+    keyword ← expect 1 (peek word.Fn)
     inputs ← inside delimiter.Parenthesis (list named_arg)
     output ← return_type readers
     span ← upto start
@@ -91,19 +91,19 @@ module _ (readers : Readers) where
 
   -- `dyn` and bounds
   unfoldable pub type_trait_object : Bool → Parser Ty
-  type_trait_object many = do
+  type_trait_object allow_plus = do
     start ← here
     keyword ← skip
-    found ← bounds readers many
+    found ← bounds readers allow_plus
     span ← upto start
     pure (make.type_trait_object found span)
 
   -- `impl` and bounds
   unfoldable pub type_impl_trait : Bool → Parser Ty
-  type_impl_trait many = do
+  type_impl_trait allow_plus = do
     start ← here
     keyword ← skip
-    found ← bounds readers many
+    found ← bounds readers allow_plus
     span ← upto start
     pure (make.type_impl_trait found span)
 
@@ -128,18 +128,18 @@ module _ (readers : Readers) where
   type_in_brackets = here >>= (λ span. inside delimiter.Bracket (type_bracket span))
 
   abbrev pub type_by : Bool → TypeStart → Parser Ty
-  type_by many begin.Parenthesis = type_in_parentheses
-  type_by many begin.Bracket = type_in_brackets
-  type_by many begin.Never = here >>= (λ span. skip >> pure (make.type_never span))
-  type_by many begin.Infer = here >>= (λ span. skip >> pure (make.type_infer span))
-  type_by many begin.Reference = type_reference
-  type_by many begin.Pointer = type_pointer
-  type_by many begin.FnPtr = type_fn_ptr
-  type_by many begin.TraitObject = type_trait_object many
-  type_by many begin.ImplTrait = type_impl_trait many
-  type_by many begin.Qualified = type_qualified
-  type_by many begin.Path = type_path
-  type_by many begin.Nothing = refuse
+  type_by allow_plus begin.Parenthesis = type_in_parentheses
+  type_by allow_plus begin.Bracket = type_in_brackets
+  type_by allow_plus begin.Never = here >>= (λ span. skip >> pure (make.type_never span))
+  type_by allow_plus begin.Infer = here >>= (λ span. skip >> pure (make.type_infer span))
+  type_by allow_plus begin.Reference = type_reference
+  type_by allow_plus begin.Pointer = type_pointer
+  type_by allow_plus begin.FnPtr = type_fn_ptr
+  type_by allow_plus begin.TraitObject = type_trait_object allow_plus
+  type_by allow_plus begin.ImplTrait = type_impl_trait allow_plus
+  type_by allow_plus begin.Qualified = type_qualified
+  type_by allow_plus begin.Path = type_path
+  type_by allow_plus begin.Nothing = refuse
 
   unfoldable pub type_step : Bool → Parser Ty
-  type_step many = test type_start >>= type_by many
+  type_step allow_plus = test type_start >>= type_by allow_plus

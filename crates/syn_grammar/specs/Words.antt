@@ -1,16 +1,12 @@
 -- What a word is to the grammar.
 use Rattle.std.specs.Prelude.{ℕ, Bool, true, false, ◌==◌, if◌then◌else◌, List, [], ◌∷◌, codes, Option, Some, None}
 use Rattle.std.specs.List.{list_any}
-use Rattle.std.specs.Cmp.Lexicographic.{pointwise}
+use Rattle.std.specs.Str.{bytes_eq}
 use Rattle.tok_types.specs.declared.ident.Ident.{Ident}
 use Rattle.tok_types.specs.declared.tree.TokenTree.{TokenTree}
 use Rattle.syn_grammar.specs.declared.word.Word.{Word}
 use Rattle.syn_grammar.specs.declared.word.Word.TheVariants as word
 use Rattle.syn_grammar.specs.Token.{ident_of}
-
--- whether two texts are one
-abbrev pub same_text : List ℕ → List ℕ → Bool
-same_text = pointwise ◌==◌
 
 -- the words that no rule of the grammar names
 unfoldable pub other_keywords : List (List ℕ)
@@ -34,11 +30,11 @@ named_words =
 -- what the table has at the name
 abbrev pub looked_up : List (List ℕ × Word) → List ℕ → Option Word
 looked_up [] name = None
-looked_up (row ∷ rows) name = if same_text row.0 name then Some row.1 else looked_up rows name
+looked_up (row ∷ rows) name = if bytes_eq row.0 name then Some row.1 else looked_up rows name
 
 abbrev pub or_name : List ℕ → Option Word → Word
 or_name name (Some found) = found
-or_name name None = if list_any (λ other. same_text other name) other_keywords then word.Keyword else word.Name
+or_name name None = if list_any (λ other. bytes_eq other name) other_keywords then word.Keyword else word.Name
 
 -- a raw identifier is a name, whatever its text
 unfoldable pub word_of : Ident → Word
@@ -79,18 +75,30 @@ segment_at _ ident = None
 unfoldable pub segment_word : List TokenTree → Option Ident
 segment_word trees = segment_at (next_word trees) (ident_of trees)
 
+-- whether the two are the same
 abbrev pub is_word : Word → Word → Bool
+is_word word.None word.None = true
+is_word word.Name word.Name = true
+is_word word.Underscore word.Underscore = true
+is_word word.PathStart word.PathStart = true
+is_word word.True word.True = true
+is_word word.False word.False = true
 is_word word.As word.As = true
 is_word word.Const word.Const = true
+is_word word.Dyn word.Dyn = true
+is_word word.Enum word.Enum = true
 is_word word.Fn word.Fn = true
 is_word word.For word.For = true
+is_word word.Impl word.Impl = true
 is_word word.In word.In = true
 is_word word.Move word.Move = true
 is_word word.Mut word.Mut = true
 is_word word.Pub word.Pub = true
+is_word word.Struct word.Struct = true
 is_word word.Where word.Where = true
+is_word word.Keyword word.Keyword = true
 is_word _ _ = false
 
 -- whether this word comes next
-abbrev pub sees : Word → List TokenTree → Bool
-sees wanted trees = is_word wanted (next_word trees)
+abbrev pub peek : Word → List TokenTree → Bool
+peek wanted trees = is_word wanted (next_word trees)

@@ -12,7 +12,7 @@ use crate::literal::index_of;
 use crate::token::{
     contents_of, ident_of, is_arrow, is_colon, is_colons, is_mark, lifetime_of, literal_of, span_of,
 };
-use crate::word::{Word, name_of, sees, segment_word};
+use crate::word::{Word, name_of, peek, segment_word};
 use base_core::{Items, Mem};
 use node_expr::LitInt;
 use std::alloc::Global;
@@ -182,19 +182,19 @@ impl<'a> Cursor<'a> {
         self.expect(is_colons(self.rest), 2)
     }
 
-    /// Takes this word, if it comes next and is one of those that [`sees`] asks for.
+    /// Takes this word, if it comes next.
     pub fn eat_word(&mut self, wanted: Word) -> bool
-        ensures found { result ≡ words.sees wanted self.old.rest }
-        ensures after { self.new ≡ spec.after_eat 1 (words.sees wanted self.old.rest) self.old }
+        ensures found { result ≡ words.peek wanted self.old.rest }
+        ensures after { self.new ≡ spec.after_eat 1 (words.peek wanted self.old.rest) self.old }
     {
-        self.eat(sees(wanted, self.rest), 1)
+        self.eat(peek(wanted, self.rest), 1)
     }
 
-    /// Takes this word, which must come next and is one of those that [`sees`] asks for.
+    /// Takes this word, which must come next.
     pub fn expect_word(&mut self, wanted: Word) -> Result<(), ReadFail>
-        ensures { Expects 1 (words.sees wanted self.old.rest) self.old result self.new }
+        ensures { Expects 1 (words.peek wanted self.old.rest) self.old result self.new }
     {
-        self.expect(sees(wanted, self.rest), 1)
+        self.expect(peek(wanted, self.rest), 1)
     }
 
     /// Takes an identifier.

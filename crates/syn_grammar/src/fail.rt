@@ -1,3 +1,5 @@
+//! Why a rule reads nothing.
+
 use std::alloc::{AllocError, AllocFailed};
 
 /// Why a rule gives no tree.

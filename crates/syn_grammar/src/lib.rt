@@ -22,4 +22,4 @@ pub use token::{
     is_pair, is_plus, is_question, is_semicolon, is_turbofish, lifetime_of, literal_of, mark_of,
     span_of,
 };
-pub use word::{Word, name_of, next_word, sees, segment_word, word_of};
+pub use word::{Word, name_of, next_word, peek, segment_word, word_of};

@@ -20,25 +20,13 @@ pub fn span_of(tree: &TokenTree) -> Span
     }
 }
 
-fn same_delimiter(one: Delimiter, other: Delimiter) -> bool
-    ensures { result ≡ token.same_delimiter one other }
-{
-    matches!(
-        (one, other),
-        (Delimiter::Parenthesis, Delimiter::Parenthesis)
-            | (Delimiter::Bracket, Delimiter::Bracket)
-            | (Delimiter::Brace, Delimiter::Brace)
-            | (Delimiter::None, Delimiter::None)
-    )
-}
-
 /// Whether a group between these delimiters comes next.
 #[tactic(auto, unfolding(crate::specs::Token::is_group))]
 pub fn is_group(between: Delimiter, trees: &[TokenTree]) -> bool
     ensures { result ≡ token.is_group between trees.now }
 {
     match trees.first() {
-        Some(TokenTree::Group(group)) => same_delimiter(group.delimiter, between),
+        Some(TokenTree::Group(group)) => group.delimiter == between,
         _ => false,
     }
 }

@@ -1,7 +1,10 @@
+//! What an identifier token is to the grammar: a name, or which keyword.
+
 ghost use Rattle.std.specs.Prelude.{◌≡◌, map};
 ghost use Rattle.std.specs.List.{list_any};
 ghost use Rattle.std.specs.Option.{option_copied};
-ghost use Rattle.syn_grammar.specs.Words.{word_of, looked_up, named_words, other_keywords, same_text, next_word, name_of, segment_word, sees};
+ghost use Rattle.syn_grammar.specs.Words.{word_of, looked_up, named_words, other_keywords, next_word, name_of, segment_word, peek};
+ghost use Rattle.std.specs.Str.{bytes_eq};
 
 use crate::token::ident_of;
 use tok_types::{Ident, TokenTree};
@@ -120,23 +123,19 @@ pub fn segment_word(trees: &[TokenTree]) -> Option<&Ident>
     }
 }
 
-/// Whether this one of the words `as`, `const`, `fn`, `for`, `in`, `move`, `mut`, `pub` and `where`
-/// comes next.
-pub fn sees(wanted: Word, trees: &[TokenTree]) -> bool
-    ensures { result ≡ sees wanted trees.now }
+/// Whether this word comes next.
+pub fn peek(wanted: Word, trees: &[TokenTree]) -> bool
+    ensures { result ≡ peek wanted trees.now }
 {
-    matches!(
-        (wanted, next_word(trees)),
-        (Word::As, Word::As)
-            | (Word::Const, Word::Const)
-            | (Word::Fn, Word::Fn)
-            | (Word::For, Word::For)
-            | (Word::In, Word::In)
-            | (Word::Move, Word::Move)
-            | (Word::Mut, Word::Mut)
-            | (Word::Pub, Word::Pub)
-            | (Word::Where, Word::Where)
-    )
+    next_word(trees) == wanted
+}
+
+/// Whether the texts are one. Their lengths are compared first, since most words differ there.
+#[tactic(auto)]
+fn is_text(one: &str, other: &str) -> bool
+    ensures { result ≡ bytes_eq one.now other.now }
+{
+    one.len() == other.len() && one == other
 }
 
 fn named_word(name: &str) -> Option<Word>
@@ -149,7 +148,7 @@ fn looked_up(rows: &[(&str, Word)], name: &str) -> Option<Word>
     ensures { result ≡ looked_up (map (λ row. (row.0.now, row.1)) rows.now) name.now }
 {
     for row in rows {
-        if row.0 == name {
+        if is_text(row.0, name) {
             return Some(row.1);
         }
     }
@@ -157,16 +156,16 @@ fn looked_up(rows: &[(&str, Word)], name: &str) -> Option<Word>
 }
 
 fn is_other_keyword(name: &str) -> bool
-    ensures { result ≡ list_any (λ other. same_text other name.now) other_keywords }
+    ensures { result ≡ list_any (λ other. bytes_eq other name.now) other_keywords }
 {
     is_among(&OTHER_KEYWORDS, name)
 }
 
 fn is_among(names: &[&str], name: &str) -> bool
-    ensures { result ≡ list_any (λ other. same_text other name.now) (map (λ other. other.now) names.now) }
+    ensures { result ≡ list_any (λ other. bytes_eq other name.now) (map (λ other. other.now) names.now) }
 {
     for other in names {
-        if *other == name {
+        if is_text(other, name) {
             return true;
         }
     }

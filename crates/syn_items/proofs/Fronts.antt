@@ -27,9 +27,9 @@ use Rattle.syn_grammar.specs.Input.{Input, Parser, ◌>>=◌, ◌<$>◌, pure, r
 use Rattle.syn_grammar.specs.Look.{begins_constant, is_there}
 use Rattle.syn_grammar.specs.Readers.{constant_level}
 use Rattle.syn_grammar.specs.Token.{contents_of, ident_of, is_colon, is_comma, is_equals, is_group, is_less, is_mark, is_plus, is_semicolon, lifetime_of, mark_of}
-use Rattle.syn_grammar.specs.Words.{next_word, sees}
-use Rattle.law_prefix.specs.Alike.{Relation, Any, Alike, AlikeToEnds}
-use Rattle.law_prefix.specs.Front.{at, Front}
+use Rattle.syn_grammar.specs.Words.{next_word, peek}
+use Rattle.law_prefix.specs.SameLookahead.{Relation, Any, SameLookahead, SameLookaheadToEnds}
+use Rattle.law_prefix.specs.ReadsByPrefix.{at, ReadsByPrefix}
 use Rattle.law_prefix.proofs.Looks.{alike-mark, alike-group, alike-word, alike-sees, alike-lifetime}
 use Rattle.law_prefix.proofs.Begins.{alike-constant}
 use Rattle.law_prefix.proofs.Steps.{FrontAt, Fronts, refuse_at-front, refuse-front, stay-front, pure-front, upto_then-front, then-front, first_at-front, first-front, turn-front, map-front, maybe_at-front, maybe-front, late-front, none_at-front, weak-front, if-front, seen-front, test-front, look-front, here-front, close-front, same-front, turns-front}
@@ -65,7 +65,7 @@ attributes-front = each_while-front (is_mark 35) attribute refl (alike-mark 35 r
 -- ---- visibility, and more that is read behind it
 
 abbrev visibility_then : {A : Type 0} → (Visibility → Parser A) → Parser A
-visibility_then next = here >>= (λ start. eat 1 (sees word.Pub) >>= (λ public.
+visibility_then next = here >>= (λ start. eat 1 (peek word.Pub) >>= (λ public.
     if public then test restriction_in >>= (λ found. public_by start found >>= next) else next made.Inherited))
 
 by-public : {A : Type 0} (next : Visibility → Parser A) (start : Span) (public : Bool) (input : Input)
@@ -75,23 +75,23 @@ by-public next start false input = refl
 
 visibility-parts : {A : Type 0} (next : Visibility → Parser A) (input : Input) → (visibility >>= next) input ≡ visibility_then next input
 unfolding visibility
-visibility-parts next input = by-public next (first_span input.rest) (sees word.Pub input.rest) (after_eat 1 (sees word.Pub input.rest) input)
+visibility-parts next input = by-public next (first_span input.rest) (peek word.Pub input.rest) (after_eat 1 (peek word.Pub input.rest) input)
 
 same-restriction : (tree : TokenTree) (rest tail : List TokenTree) → restriction_in (tree ∷ rest) ≡ restriction_in (tree ∷ tail)
 unfolding restriction_in is_group contents_of
 same-restriction tree rest tail = refl
 
 public_by-front : {A : Type 0} {limit : ℕ} {End : Relation} {next following : Visibility → Parser A} (start : Span) (found : Option (Bool × Path))
-    → ((vis : Visibility) → Fronts limit Alike End true true (next vis) (following vis)) → Fronts limit Alike End true false (public_by start found >>= next) (public_by start found >>= following)
+    → ((vis : Visibility) → Fronts limit SameLookahead End true true (next vis) (following vis)) → Fronts limit SameLookahead End true false (public_by start found >>= next) (public_by start found >>= following)
 public_by-front start (Some found) h =
     skip_then-front (upto_then-front start (λ span. h (made.Restricted found.0 found.1 span)))
 public_by-front start None h = late-front (h (made.Public start))
 
 visibility-front : {A : Type 0} {limit : ℕ} {End : Relation} {next following : Visibility → Parser A}
-    → ((vis : Visibility) → Fronts limit Alike End true true (next vis) (following vis)) → Fronts limit Alike End true true (visibility >>= next) (visibility >>= following)
+    → ((vis : Visibility) → Fronts limit SameLookahead End true true (next vis) (following vis)) → Fronts limit SameLookahead End true true (visibility >>= next) (visibility >>= following)
 unfolding next_word ident_of
 visibility-front {next = next} {following = following} h = same-front (visibility-parts next) (visibility-parts following) (here-front (λ start.
-    eat_or-front (sees word.Pub) refl (λ tree rest tail. refl)
+    eat_or-front (peek word.Pub) refl (λ tree rest tail. refl)
     (maybe-front (look-front restriction_in (λ tree rest tail _. same-restriction tree rest tail) (λ found. public_by-front start found h)))
     (h made.Inherited)))
 
@@ -161,7 +161,7 @@ unfolding generic_param
 generic_param-front limit = here-front (λ start.
     then-front (attributes-front limit) (λ attrs.
     test-front (λ trees. is_there (lifetime_of trees)) alike-lifetime (λ lifetime.
-    test-front (sees word.Const) (alike-sees word.Const) (λ constant. param_by-front start attrs lifetime constant limit))))
+    test-front (peek word.Const) (alike-sees word.Const) (λ constant. param_by-front start attrs lifetime constant limit))))
 
 params-front : Rule false params
 unfolding params mark_of
@@ -196,9 +196,9 @@ where_predicate-front limit = test-front (λ trees. is_there (lifetime_of trees)
 
 -- a rule that sees where tokens end
 abbrev Ending : {A : Type 0} → Bool → Parser A → Type 0
-Ending some parser = (limit : ℕ) → Fronts limit AlikeToEnds AlikeToEnds some true parser parser
+Ending some parser = (limit : ℕ) → Fronts limit SameLookaheadToEnds SameLookaheadToEnds some true parser parser
 
-same-ends : (rest tail : List TokenTree) → AlikeToEnds rest tail → ends_where rest ≡ ends_where tail
+same-ends : (rest tail : List TokenTree) → SameLookaheadToEnds rest tail → ends_where rest ≡ ends_where tail
 same-ends rest tail same = rw (same.1, alike-mark 59 refl refl rest tail same.0, alike-group delimiter.Brace rest tail same.0) refl
 
 predicates-stop : (limit : ℕ) (found : List WherePredicate) (trees : List TokenTree) (last : Span) → ends_where trees ≡ true → predicates_from limit found (at trees last) ≡ Some (found, at trees last)
@@ -207,14 +207,14 @@ predicates-stop zero found trees last is = rw is refl
 predicates-stop (suc limit) found trees last is = rw is refl
 
 -- behind a predicate
-predicates-behind : (limit : ℕ) (found : List WherePredicate) (more more' : Parser (List WherePredicate)) → Fronts limit AlikeToEnds AlikeToEnds false true more more'
-    → Fronts limit AlikeToEnds AlikeToEnds false true (eat 1 is_comma >>= (λ b. if b then more else pure found)) (eat 1 is_comma >>= (λ b. if b then more' else pure found))
+predicates-behind : (limit : ℕ) (found : List WherePredicate) (more more' : Parser (List WherePredicate)) → Fronts limit SameLookaheadToEnds SameLookaheadToEnds false true more more'
+    → Fronts limit SameLookaheadToEnds SameLookaheadToEnds false true (eat 1 is_comma >>= (λ b. if b then more else pure found)) (eat 1 is_comma >>= (λ b. if b then more' else pure found))
 predicates-behind limit found more more' h = then-front eat_comma-front (λ b. if-front b h (pure-front found))
 
 -- where no token may be left, only an end is read again
 predicates-none : (turns : ℕ) (found : List WherePredicate) (ends : Bool) (input : Input) → ends_where input.rest ≡ ends
-    → ((found : List WherePredicate) → Fronts 0 AlikeToEnds AlikeToEnds false true (predicates_from turns found) (predicates_from 0 found))
-    → FrontAt 0 AlikeToEnds AlikeToEnds false true (if ends then pure found else (where_predicate >>= (λ next. eat 1 is_comma >>= (λ more. if more then predicates_from turns (found ++ next ∷ []) else pure (found ++ next ∷ [])))))
+    → ((found : List WherePredicate) → Fronts 0 SameLookaheadToEnds SameLookaheadToEnds false true (predicates_from turns found) (predicates_from 0 found))
+    → FrontAt 0 SameLookaheadToEnds SameLookaheadToEnds false true (if ends then pure found else (where_predicate >>= (λ next. eat 1 is_comma >>= (λ more. if more then predicates_from turns (found ++ next ∷ []) else pure (found ++ next ∷ [])))))
     (predicates_from 0 found) input
 predicates-none turns found true input is h = stay-front found refl (λ tail new same fits. predicates-stop 0 found tail new (sym (same-ends input.rest tail same) ∙ is))
 predicates-none turns found false input is h =
@@ -222,11 +222,11 @@ predicates-none turns found false input is h =
     predicates-behind 0 (found ++ next ∷ []) (predicates_from turns (found ++ next ∷ [])) (predicates_from 0 (found ++ next ∷ [])) (h (found ++ next ∷ [])))))
 
 predicates-ended : (limit : ℕ) (found : List WherePredicate) (ends : Bool) (input : Input) → ends_where input.rest ≡ ends
-    → FrontAt limit AlikeToEnds AlikeToEnds false true (if ends then pure found else refuse) (predicates_from limit found) input
+    → FrontAt limit SameLookaheadToEnds SameLookaheadToEnds false true (if ends then pure found else refuse) (predicates_from limit found) input
 predicates-ended limit found true input is = stay-front found refl (λ tail new same fits. predicates-stop limit found tail new (sym (same-ends input.rest tail same) ∙ is))
 predicates-ended limit found false input is = refuse_at-front
 
-predicates_from-front : (limit turns : ℕ) (found : List WherePredicate) → Fronts limit AlikeToEnds AlikeToEnds false true (predicates_from turns found) (predicates_from limit found)
+predicates_from-front : (limit turns : ℕ) (found : List WherePredicate) → Fronts limit SameLookaheadToEnds SameLookaheadToEnds false true (predicates_from turns found) (predicates_from limit found)
 unfolding predicates_from
 predicates_from-front limit zero found = record {
   at = λ input. seen-front ends_where (λ ends. if ends then pure found else refuse) (predicates-ended limit found (ends_where input.rest) input refl);
@@ -249,13 +249,13 @@ where_clause-front limit = here-front (λ start.
 
 maybe_where-front : Ending false maybe_where
 unfolding maybe_where
-maybe_where-front limit = test-front (sees word.Where) (λ rest tail same. alike-sees word.Where rest tail same.0) (λ there.
+maybe_where-front limit = test-front (peek word.Where) (λ rest tail same. alike-sees word.Where rest tail same.0) (λ there.
     if-front there (maybe-front (map-front Some (where_clause-front limit))) (pure-front None))
 
 -- ---- bodies, behind which anything may follow
 
 abbrev Closing : {A : Type 0} → Parser A → Type 0
-Closing parser = (limit : ℕ) → Fronts limit AlikeToEnds Any true true parser parser
+Closing parser = (limit : ℕ) → Fronts limit SameLookaheadToEnds Any true true parser parser
 
 fields_named-front : Closing fields_named
 unfolding fields_named
@@ -296,7 +296,7 @@ data_by-front begin.Enum = enum_body-front
 data_by-front begin.Union = union_body-front
 data_by-front begin.Nothing = λ limit. refuse-front refuse
 
-same-tuple : (begins : ItemStart) (rest tail : List TokenTree) → AlikeToEnds rest tail → is_tuple_struct begins rest ≡ is_tuple_struct begins tail
+same-tuple : (begins : ItemStart) (rest tail : List TokenTree) → SameLookaheadToEnds rest tail → is_tuple_struct begins rest ≡ is_tuple_struct begins tail
 same-tuple begin.Struct rest tail same = alike-group delimiter.Parenthesis rest tail same.0
 same-tuple begin.Enum rest tail same = refl
 same-tuple begin.Union rest tail same = refl
@@ -329,12 +329,12 @@ abbrev behind_name : ItemStart → Span → List Attribute → Visibility → Id
 behind_name begins start attrs vis ident = params >>= (λ generics. body_of begins >>= (λ found. upto start >>= (λ span. pure (item_of attrs vis ident generics found span))))
 
 behind_name-front : (begins : ItemStart) (start : Span) (attrs : List Attribute) (vis : Visibility) (ident : Ident) (limit : ℕ)
-    → Fronts limit AlikeToEnds Any true true (behind_name begins start attrs vis ident) (behind_name begins start attrs vis ident)
+    → Fronts limit SameLookaheadToEnds Any true true (behind_name begins start attrs vis ident) (behind_name begins start attrs vis ident)
 behind_name-front begins start attrs vis ident limit =
     then-front (ends-front (params-front limit)) (λ generics.
     first-front (body_of-front begins limit) (λ found. close-front start (item_of attrs vis ident generics found)))
 
-item_rule-front : (limit : ℕ) → Fronts limit Alike Any true true item item
+item_rule-front : (limit : ℕ) → Fronts limit SameLookahead Any true true item item
 unfolding item
 item_rule-front limit = here-front (λ start.
     then-front (attributes-front limit) (λ attrs.
@@ -345,5 +345,5 @@ item_rule-front limit = here-front (λ start.
     weak-front (λ rest tail any. any) (λ rest tail same. same.0) (maybe-front (behind_name-front begins start attrs vis ident limit))))))))
 
 -- An item is read again, whatever follows it.
-pub item-front : Front Any item
+pub item-front : ReadsByPrefix Any item
 item-front = front-of item_rule-front

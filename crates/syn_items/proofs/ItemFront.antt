@@ -7,7 +7,7 @@ use Rattle.tok_types.specs.declared.tree.TokenTree.{TokenTree}
 use Rattle.node_core.specs.declared.derive.DeriveInput.{DeriveInput}
 use Rattle.syn_grammar.specs.Input.{Input, Outcome, ◌>>=◌, pure, refuse, start_of, is_end}
 use Rattle.syn_grammar.specs.Trees.{all}
-use Rattle.law_prefix.specs.Front.{at}
+use Rattle.law_prefix.specs.ReadsByPrefix.{at}
 use Rattle.law_prefix.proofs.Steps.{bind-at}
 use Rattle.syn_items.specs.Items.{item}
 use Rattle.syn_items.specs.Lists.{while_from}

@@ -1,5 +1,6 @@
 -- Attributes, and the meta items in them.
 use Rattle.std.specs.Prelude.{Bool, true, false, if◌then◌else◌, List, [], ◌∷◌, Option, Some, None}
+use Rattle.tok_types.specs.Ascii.{hash, minus}
 use Rattle.tok_types.specs.declared.span.Span.{Span}
 use Rattle.tok_types.specs.declared.tree.Delimiter.{Delimiter}
 use Rattle.tok_types.specs.declared.tree.Delimiter.TheVariants as delimiter
@@ -56,7 +57,7 @@ negative span _ = None
 unfoldable pub signed : Parser Lit
 signed = do
   start ← here
-  minus ← expect 1 (is_mark 45)
+  minus ← expect 1 (is_mark minus)
   token ← take_as literal_of
   span ← upto start
   taken (negative span (lit_of token))
@@ -129,7 +130,7 @@ meta = do
 unfoldable pub attribute : Parser Attribute
 attribute = do
   start ← here
-  hash ← expect 1 (is_mark 35)
+  hash ← expect 1 (is_mark hash)
   found ← inside delimiter.Bracket meta
   span ← upto start
   pure (record { meta = found; span = span })

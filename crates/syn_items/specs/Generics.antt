@@ -20,7 +20,7 @@ use Rattle.node_core.specs.declared.generics.WherePredicate.{WherePredicate}
 use Rattle.node_core.specs.declared.generics.WherePredicate.TheVariants as predicate
 use Rattle.syn_grammar.specs.declared.word.Word.TheVariants as word
 use Rattle.syn_grammar.specs.Token.{is_colon, is_comma, is_equals, is_group, is_less, is_plus, is_semicolon, lifetime_of}
-use Rattle.syn_grammar.specs.Words.{name_of, sees}
+use Rattle.syn_grammar.specs.Words.{name_of, peek}
 use Rattle.syn_grammar.specs.Look.{begins_constant, is_there}
 use Rattle.syn_grammar.specs.Input.{Parser, ◌>>=◌, ◌>>◌, ◌<$>◌, pure, refuse, test, here, upto, eat, expect, take_as, at_end, is_end, joined_by, by_turns}
 use Rattle.syn_grammar.specs.Readers.{constant_level}
@@ -99,7 +99,7 @@ const_default = behind is_equals None (Some <$> const_value)
 -- `const N: usize = 8`
 unfoldable pub const_param : Span → List Attribute → Parser GenericParam
 const_param start attrs = do
-  keyword ← expect 1 (sees word.Const)
+  keyword ← expect 1 (peek word.Const)
   ident ← take_as name_of
   colon ← expect 1 is_colon
   ty ← any_type
@@ -117,7 +117,7 @@ generic_param = do
   start ← here
   attrs ← attributes
   lifetime ← test (λ trees. is_there (lifetime_of trees))
-  constant ← test (sees word.Const)
+  constant ← test (peek word.Const)
   param_by start attrs lifetime constant
 
 -- a type parameter alone, as in `<..>`
@@ -196,12 +196,12 @@ predicates = by_turns (λ turns. predicates_from turns [])
 unfoldable pub where_clause : Parser WhereClause
 where_clause = do
   start ← here
-  keyword ← expect 1 (sees word.Where)
+  keyword ← expect 1 (peek word.Where)
   found ← predicates
   span ← upto start
   pure (record { predicates = found; span = span })
 
 unfoldable pub maybe_where : Parser (Option WhereClause)
 maybe_where = do
-  there ← test (sees word.Where)
+  there ← test (peek word.Where)
   if there then Some <$> where_clause else pure None

@@ -12,7 +12,8 @@ use Rattle.node_core.specs.declared.generics.WhereClause.{WhereClause}
 use Rattle.syn_grammar.specs.declared.word.Word.{Word}
 use Rattle.syn_grammar.specs.declared.word.Word.TheVariants as word
 use Rattle.syn_grammar.specs.Token.{ident_of, is_group, is_semicolon}
-use Rattle.syn_grammar.specs.Words.{name_of, next_word, same_text}
+use Rattle.syn_grammar.specs.Words.{name_of, next_word}
+use Rattle.std.specs.Str.{bytes_eq}
 use Rattle.syn_grammar.specs.Input.{Parser, ◌>>=◌, ◌>>◌, ◌<$>◌, pure, refuse, test, here, upto, skip, expect, take_as, inside}
 use Rattle.syn_items.specs.declared.look.ItemStart.{ItemStart}
 use Rattle.syn_items.specs.declared.look.ItemStart.TheVariants as begin
@@ -27,7 +28,7 @@ use Rattle.syn_items.specs.Visibility.{visibility}
 
 -- `union` is no keyword: it is one where an item may begin
 abbrev pub is_union : Option Ident → Bool
-is_union (Some ident) = if ident.raw then false else same_text ident.text (codes "union")
+is_union (Some ident) = if ident.raw then false else bytes_eq ident.text (codes "union")
 is_union None = false
 
 abbrev pub start_by : Word → Bool → ItemStart

@@ -1,5 +1,6 @@
 -- Lists without marks between their items, what takes all that is left, and how a function reads.
 use Rattle.std.specs.Prelude.{◌≡◌, ℕ, zero, suc, Bool, not, if◌then◌else◌, List, [], ◌∷◌, ◌++◌, length, Some, None, Result, Ok, Err}
+use Rattle.tok_types.specs.Ascii.{hash}
 use Rattle.tok_types.specs.declared.tree.TokenTree.{TokenTree}
 use Rattle.syn_grammar.specs.declared.fail.ReadFail.{ReadFail}
 use Rattle.syn_grammar.specs.declared.fail.ReadFail.TheVariants.{Syntax, NoMemory}
@@ -37,5 +38,5 @@ each_while begins item = by_turns (λ turns. while_from begins item turns [])
 
 -- whether a list goes on: 35 is the `#`
 abbrev pub goes_on : While → List TokenTree → Bool
-goes_on while.Hash = is_mark 35
+goes_on while.Hash = is_mark hash
 goes_on while.Token = λ trees. not (is_end trees)

@@ -12,7 +12,8 @@ use Rattle.node_core.specs.declared.data.Visibility.{Visibility}
 use Rattle.node_core.specs.declared.data.Visibility.TheVariants as made
 use Rattle.syn_grammar.specs.declared.word.Word.TheVariants as word
 use Rattle.syn_grammar.specs.Token.{contents_of, ident_of, is_group}
-use Rattle.syn_grammar.specs.Words.{same_text, sees}
+use Rattle.syn_grammar.specs.Words.{peek}
+use Rattle.std.specs.Str.{bytes_eq}
 use Rattle.syn_grammar.specs.Input.{Parser, ◌>>=◌, ◌>>◌, ◌<$>◌, pure, test, start_of, here, upto, skip, eat, take_as}
 use Rattle.syn_grammar.specs.Grammar.{within, max_depth}
 use Rattle.syn_grammar.specs.Paths.{path}
@@ -23,10 +24,10 @@ abbrev pub scopes : List (List ℕ)
 scopes = codes "crate" ∷ codes "self" ∷ codes "super" ∷ []
 
 abbrev pub is_scope : List ℕ → Bool
-is_scope name = list_any (same_text name) scopes
+is_scope name = list_any (bytes_eq name) scopes
 
 abbrev pub scope_in : Option Ident → Option Ident
-scope_in (Some ident) = if ident.raw then None else (if is_scope ident.text then Some ident else None)
+scope_in (Some ident) = if ident.raw then None else if is_scope ident.text then Some ident else None
 scope_in None = None
 
 -- the word `crate`, `self` or `super` that comes next
@@ -44,7 +45,7 @@ scope = path_of_word <$> take_as scope_word
 -- what stands in the parentheses: `crate`, `self`, `super`, or `in` and a path
 unfoldable pub restriction : Parser (Bool × Path)
 restriction = do
-  in_token ← eat 1 (sees word.In)
+  in_token ← eat 1 (peek word.In)
   if in_token then (λ found. (true, found)) <$> path (within max_depth) true
       else (λ found. (false, found)) <$> scope
 
@@ -61,5 +62,5 @@ public_by start None = pure (made.Public start)
 unfoldable pub visibility : Parser Visibility
 visibility = do
   start ← here
-  public ← eat 1 (sees word.Pub)
+  public ← eat 1 (peek word.Pub)
   if public then test restriction_in >>= public_by start else pure made.Inherited

@@ -13,11 +13,11 @@ use node_expr::{
 };
 use std::alloc::Global;
 use syn_grammar::{Cursor, ReadFail, contents_of, lit_of};
-use syn_rules::{ANY_LEVEL, Front, Joint, MAX_DEPTH, all_of, inside, joined_by, read_expr};
+use syn_rules::{ANY_LEVEL, Joint, MAX_DEPTH, Parsed, all_of, inside, joined_by, read_expr};
 
 /// A segment of a meta path: any word, a keyword or `_` too.
 #[tactic(auto, unfolding(crate::specs::Attributes::meta_segment))]
-fn meta_segment(alloc: Global, tokens: &mut Cursor<'_>) -> Front<PathSegment>
+fn meta_segment(alloc: Global, tokens: &mut Cursor<'_>) -> Parsed<PathSegment>
     ensures { Flat (spec.meta_segment tokens.old) result tokens.new }
 {
     let start = tokens.here();
@@ -36,7 +36,7 @@ fn meta_segment(alloc: Global, tokens: &mut Cursor<'_>) -> Front<PathSegment>
 
 /// `a::b`, of any words
 #[tactic(auto, unfolding(crate::specs::Attributes::meta_path))]
-pub fn meta_path(alloc: Global, tokens: &mut Cursor<'_>) -> Front<Path>
+pub fn meta_path(alloc: Global, tokens: &mut Cursor<'_>) -> Parsed<Path>
     ensures { Flat (spec.meta_path tokens.old) result tokens.new }
 {
     let start = tokens.here();
@@ -78,7 +78,7 @@ fn negative(span: Span, mut lit: Lit) -> Option<Lit>
 
 /// `-1`, `-1.5`
 #[tactic(auto, unfolding(crate::specs::Attributes::signed))]
-pub fn signed(alloc: Global, tokens: &mut Cursor<'_>) -> Front<Lit>
+pub fn signed(alloc: Global, tokens: &mut Cursor<'_>) -> Parsed<Lit>
     ensures { Flat (spec.signed tokens.old) result tokens.new }
 {
     let start = tokens.here();
@@ -140,7 +140,7 @@ pub fn meta_list(
     start: Span,
     path: Path,
     delimiter: Delimiter,
-) -> Front<Meta>
+) -> Parsed<Meta>
     ensures { Flat (spec.meta_list start path delimiter tokens.old) result tokens.new }
 {
     let stream = stream_of(alloc, contents_of(tokens.rest()))?;
@@ -157,7 +157,7 @@ pub fn meta_list(
 
 /// `=` and at least one token behind the path.
 #[tactic(auto, unfolding(crate::specs::Attributes::name_value))]
-fn name_value(alloc: Global, tokens: &mut Cursor<'_>, start: Span, path: Path) -> Front<Meta>
+fn name_value(alloc: Global, tokens: &mut Cursor<'_>, start: Span, path: Path) -> Parsed<Meta>
     ensures { Flat (spec.name_value start path tokens.old) result tokens.new }
 {
     let eq_span = tokens.here();
@@ -179,7 +179,7 @@ fn name_value(alloc: Global, tokens: &mut Cursor<'_>, start: Span, path: Path) -
 
 /// `path`, `path(tokens)`, `path = value`
 #[tactic(auto, unfolding(crate::specs::Attributes::meta))]
-fn meta(alloc: Global, tokens: &mut Cursor<'_>) -> Front<Meta>
+fn meta(alloc: Global, tokens: &mut Cursor<'_>) -> Parsed<Meta>
     ensures { Flat (spec.meta tokens.old) result tokens.new }
 {
     let start = tokens.here();
@@ -195,7 +195,7 @@ fn meta(alloc: Global, tokens: &mut Cursor<'_>) -> Front<Meta>
 
 /// `#[meta]`
 #[tactic(auto, unfolding(crate::specs::Attributes::attribute))]
-fn attribute(alloc: Global, tokens: &mut Cursor<'_>) -> Front<Attribute>
+fn attribute(alloc: Global, tokens: &mut Cursor<'_>) -> Parsed<Attribute>
     ensures { Flat (spec.attribute tokens.old) result tokens.new }
 {
     let start = tokens.here();
@@ -208,7 +208,7 @@ fn attribute(alloc: Global, tokens: &mut Cursor<'_>) -> Front<Attribute>
 }
 
 /// The attributes that come next.
-pub fn attributes(alloc: Global, tokens: &mut Cursor<'_>) -> Front<Items<Attribute>>
+pub fn attributes(alloc: Global, tokens: &mut Cursor<'_>) -> Parsed<Items<Attribute>>
     ensures { Flat (spec.attributes tokens.old) result tokens.new }
 {
     let (found, _) = each_while(alloc, tokens, While::Hash, |tokens: &mut Cursor<'_>| {

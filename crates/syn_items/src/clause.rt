@@ -9,12 +9,12 @@ use crate::look::ends_where;
 use node_core::{WhereClause, WherePredicate};
 use node_expr::{Items, TypeParamBound};
 use std::alloc::Global;
-use syn_grammar::{Cursor, ReadFail, Word, lifetime_of, sees};
-use syn_rules::{Front, binder};
+use syn_grammar::{Cursor, ReadFail, Word, lifetime_of, peek};
+use syn_rules::{Parsed, binder};
 
 /// `'a: 'b + 'c`
 #[tactic(auto, unfolding(crate::specs::Generics::lifetime_predicate))]
-fn lifetime_predicate(alloc: Global, tokens: &mut Cursor<'_>) -> Front<WherePredicate>
+fn lifetime_predicate(alloc: Global, tokens: &mut Cursor<'_>) -> Parsed<WherePredicate>
     ensures { Flat (spec.lifetime_predicate tokens.old) result tokens.new }
 {
     let start = tokens.here();
@@ -33,7 +33,7 @@ fn lifetime_predicate(alloc: Global, tokens: &mut Cursor<'_>) -> Front<WherePred
 }
 
 /// `: A + B`
-fn colon_bounds(alloc: Global, tokens: &mut Cursor<'_>) -> Front<Items<TypeParamBound>>
+fn colon_bounds(alloc: Global, tokens: &mut Cursor<'_>) -> Parsed<Items<TypeParamBound>>
     ensures { Flat (spec.colon_bounds tokens.old) result tokens.new }
 {
     tokens.expect_colon()?;
@@ -42,7 +42,7 @@ fn colon_bounds(alloc: Global, tokens: &mut Cursor<'_>) -> Front<Items<TypeParam
 
 /// `for<'a> &'a T: A + B`
 #[tactic(auto, unfolding(crate::specs::Generics::type_predicate))]
-fn type_predicate(alloc: Global, tokens: &mut Cursor<'_>) -> Front<WherePredicate>
+fn type_predicate(alloc: Global, tokens: &mut Cursor<'_>) -> Parsed<WherePredicate>
     ensures { Flat (spec.type_predicate tokens.old) result tokens.new }
 {
     let start = tokens.here();
@@ -62,7 +62,7 @@ fn type_predicate(alloc: Global, tokens: &mut Cursor<'_>) -> Front<WherePredicat
 }
 
 #[tactic(auto, unfolding(crate::specs::Generics::where_predicate))]
-fn where_predicate(alloc: Global, tokens: &mut Cursor<'_>) -> Front<WherePredicate>
+fn where_predicate(alloc: Global, tokens: &mut Cursor<'_>) -> Parsed<WherePredicate>
     ensures { Flat (spec.where_predicate tokens.old) result tokens.new }
 {
     if lifetime_of(tokens.rest()).is_some() {
@@ -73,7 +73,7 @@ fn where_predicate(alloc: Global, tokens: &mut Cursor<'_>) -> Front<WherePredica
 }
 
 /// The predicates of a clause, with at most one comma at its end.
-fn predicates(alloc: Global, tokens: &mut Cursor<'_>) -> Front<Items<WherePredicate>>
+fn predicates(alloc: Global, tokens: &mut Cursor<'_>) -> Parsed<Items<WherePredicate>>
     ensures { Flat (spec.predicates tokens.old) result tokens.new }
 {
     let mut found = Items::new(alloc);
@@ -96,7 +96,7 @@ fn predicates(alloc: Global, tokens: &mut Cursor<'_>) -> Front<Items<WherePredic
 
 /// `where 'a: 'b, T: A`
 #[tactic(auto, unfolding(crate::specs::Generics::where_clause))]
-pub fn where_clause(alloc: Global, tokens: &mut Cursor<'_>) -> Front<WhereClause>
+pub fn where_clause(alloc: Global, tokens: &mut Cursor<'_>) -> Parsed<WhereClause>
     ensures { Flat (spec.where_clause tokens.old) result tokens.new }
 {
     let start = tokens.here();
@@ -108,10 +108,10 @@ pub fn where_clause(alloc: Global, tokens: &mut Cursor<'_>) -> Front<WhereClause
 
 /// A `where` clause, or nothing.
 #[tactic(auto, unfolding(crate::specs::Generics::maybe_where))]
-pub(crate) fn maybe_where(alloc: Global, tokens: &mut Cursor<'_>) -> Front<Option<WhereClause>>
+pub(crate) fn maybe_where(alloc: Global, tokens: &mut Cursor<'_>) -> Parsed<Option<WhereClause>>
     ensures { Flat (spec.maybe_where tokens.old) result tokens.new }
 {
-    if !sees(Word::Where, tokens.rest()) {
+    if !peek(Word::Where, tokens.rest()) {
         return Ok((None, 0));
     }
     let (clause, _) = where_clause(alloc, tokens)?;

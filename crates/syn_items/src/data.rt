@@ -11,11 +11,11 @@ use node_core::{Field, Fields, FieldsNamed, FieldsUnnamed, Variant};
 use node_expr::{Delimiter, Expr, Items};
 use std::alloc::Global;
 use syn_grammar::{Cursor, ReadFail, is_group};
-use syn_rules::{ANY_LEVEL, Front, inside, items_after};
+use syn_rules::{ANY_LEVEL, Parsed, inside, items_after};
 
 /// `#[attr] pub name: T`
 #[tactic(auto, unfolding(crate::specs::Fields::named_field))]
-fn named_field(alloc: Global, tokens: &mut Cursor<'_>) -> Front<Field>
+fn named_field(alloc: Global, tokens: &mut Cursor<'_>) -> Parsed<Field>
     ensures { Flat (spec.named_field tokens.old) result tokens.new }
 {
     let start = tokens.here();
@@ -37,7 +37,7 @@ fn named_field(alloc: Global, tokens: &mut Cursor<'_>) -> Front<Field>
 
 /// `#[attr] pub T`
 #[tactic(auto, unfolding(crate::specs::Fields::unnamed_field))]
-fn unnamed_field(alloc: Global, tokens: &mut Cursor<'_>) -> Front<Field>
+fn unnamed_field(alloc: Global, tokens: &mut Cursor<'_>) -> Parsed<Field>
     ensures { Flat (spec.unnamed_field tokens.old) result tokens.new }
 {
     let start = tokens.here();
@@ -56,7 +56,7 @@ fn unnamed_field(alloc: Global, tokens: &mut Cursor<'_>) -> Front<Field>
 }
 
 /// Named fields, to the end.
-fn named_fields(alloc: Global, tokens: &mut Cursor<'_>) -> Front<Items<Field>>
+fn named_fields(alloc: Global, tokens: &mut Cursor<'_>) -> Parsed<Items<Field>>
     ensures { Flat (spec.named_fields tokens.old) result tokens.new }
 {
     let none = Items::new(alloc);
@@ -70,7 +70,7 @@ fn named_fields(alloc: Global, tokens: &mut Cursor<'_>) -> Front<Items<Field>>
 }
 
 /// Fields without names, to the end.
-fn unnamed_fields(alloc: Global, tokens: &mut Cursor<'_>) -> Front<Items<Field>>
+fn unnamed_fields(alloc: Global, tokens: &mut Cursor<'_>) -> Parsed<Items<Field>>
     ensures { Flat (spec.unnamed_fields tokens.old) result tokens.new }
 {
     let none = Items::new(alloc);
@@ -85,7 +85,7 @@ fn unnamed_fields(alloc: Global, tokens: &mut Cursor<'_>) -> Front<Items<Field>>
 
 /// `{ a: A, b: B }`
 #[tactic(auto, unfolding(crate::specs::Fields::fields_named))]
-pub(crate) fn fields_named(alloc: Global, tokens: &mut Cursor<'_>) -> Front<FieldsNamed>
+pub(crate) fn fields_named(alloc: Global, tokens: &mut Cursor<'_>) -> Parsed<FieldsNamed>
     ensures { Flat (spec.fields_named tokens.old) result tokens.new }
 {
     let span = tokens.here();
@@ -97,7 +97,7 @@ pub(crate) fn fields_named(alloc: Global, tokens: &mut Cursor<'_>) -> Front<Fiel
 
 /// `(A, B)`
 #[tactic(auto, unfolding(crate::specs::Fields::fields_unnamed))]
-pub(crate) fn fields_unnamed(alloc: Global, tokens: &mut Cursor<'_>) -> Front<FieldsUnnamed>
+pub(crate) fn fields_unnamed(alloc: Global, tokens: &mut Cursor<'_>) -> Parsed<FieldsUnnamed>
     ensures { Flat (spec.fields_unnamed tokens.old) result tokens.new }
 {
     let span = tokens.here();
@@ -109,7 +109,7 @@ pub(crate) fn fields_unnamed(alloc: Global, tokens: &mut Cursor<'_>) -> Front<Fi
 
 /// The fields of a variant.
 #[tactic(auto, unfolding(crate::specs::Fields::fields))]
-fn fields(alloc: Global, tokens: &mut Cursor<'_>) -> Front<Fields>
+fn fields(alloc: Global, tokens: &mut Cursor<'_>) -> Parsed<Fields>
     ensures { Flat (spec.fields tokens.old) result tokens.new }
 {
     if is_group(Delimiter::Brace, tokens.rest()) {
@@ -124,7 +124,7 @@ fn fields(alloc: Global, tokens: &mut Cursor<'_>) -> Front<Fields>
 }
 
 /// `= 1`, or nothing.
-fn discriminant(alloc: Global, tokens: &mut Cursor<'_>) -> Front<Option<Expr>>
+fn discriminant(alloc: Global, tokens: &mut Cursor<'_>) -> Parsed<Option<Expr>>
     ensures { Flat (spec.discriminant_of tokens.old) result tokens.new }
 {
     if !tokens.eat_mark('=') {
@@ -136,7 +136,7 @@ fn discriminant(alloc: Global, tokens: &mut Cursor<'_>) -> Front<Option<Expr>>
 
 /// `#[attr] Name(A, B) = 1`
 #[tactic(auto, unfolding(crate::specs::Fields::variant))]
-fn variant(alloc: Global, tokens: &mut Cursor<'_>) -> Front<Variant>
+fn variant(alloc: Global, tokens: &mut Cursor<'_>) -> Parsed<Variant>
     ensures { Flat (spec.variant tokens.old) result tokens.new }
 {
     let start = tokens.here();
@@ -156,7 +156,7 @@ fn variant(alloc: Global, tokens: &mut Cursor<'_>) -> Front<Variant>
 }
 
 /// Variants, to the end.
-pub(crate) fn variants(alloc: Global, tokens: &mut Cursor<'_>) -> Front<Items<Variant>>
+pub(crate) fn variants(alloc: Global, tokens: &mut Cursor<'_>) -> Parsed<Items<Variant>>
     ensures { Flat (spec.variants tokens.old) result tokens.new }
 {
     let none = Items::new(alloc);

@@ -19,14 +19,14 @@ use node_core::{
 use node_expr::{Delimiter, Items, TokenStream};
 use std::alloc::{AllocError, Global};
 use syn_grammar::{Cursor, ReadFail, is_group};
-use syn_rules::{Front, inside};
+use syn_rules::{Parsed, inside};
 
 /// A body, and the `where` clause that stands before or in it.
 type Body = (Option<WhereClause>, Data);
 
 /// `(A, B) where ..;`
 #[tactic(auto, unfolding(crate::specs::Items::tuple_struct))]
-fn tuple_struct(alloc: Global, tokens: &mut Cursor<'_>) -> Front<Body>
+fn tuple_struct(alloc: Global, tokens: &mut Cursor<'_>) -> Parsed<Body>
     ensures { Flat (spec.tuple_struct tokens.old) result tokens.new }
 {
     let start = tokens.here();
@@ -40,7 +40,7 @@ fn tuple_struct(alloc: Global, tokens: &mut Cursor<'_>) -> Front<Body>
 
 /// `{ a: A }`, or `;`
 #[tactic(auto, unfolding(crate::specs::Items::other_struct))]
-fn other_struct(alloc: Global, tokens: &mut Cursor<'_>) -> Front<Data>
+fn other_struct(alloc: Global, tokens: &mut Cursor<'_>) -> Parsed<Data>
     ensures { Flat (spec.other_struct tokens.old) result tokens.new }
 {
     let span = tokens.here();
@@ -56,7 +56,7 @@ fn other_struct(alloc: Global, tokens: &mut Cursor<'_>) -> Front<Data>
 
 /// `{ A, B(T) }`
 #[tactic(auto, unfolding(crate::specs::Items::enum_body))]
-fn enum_body(alloc: Global, tokens: &mut Cursor<'_>) -> Front<Data>
+fn enum_body(alloc: Global, tokens: &mut Cursor<'_>) -> Parsed<Data>
     ensures { Flat (spec.enum_body tokens.old) result tokens.new }
 {
     let span = tokens.here();
@@ -67,7 +67,7 @@ fn enum_body(alloc: Global, tokens: &mut Cursor<'_>) -> Front<Data>
 }
 
 #[tactic(auto, unfolding(crate::specs::Items::union_body))]
-fn union_body(alloc: Global, tokens: &mut Cursor<'_>) -> Front<Data>
+fn union_body(alloc: Global, tokens: &mut Cursor<'_>) -> Parsed<Data>
     ensures { Flat (spec.union_body tokens.old) result tokens.new }
 {
     let span = tokens.here();
@@ -76,7 +76,7 @@ fn union_body(alloc: Global, tokens: &mut Cursor<'_>) -> Front<Data>
 }
 
 /// A body that stands behind its clause.
-fn data(alloc: Global, tokens: &mut Cursor<'_>, begins: ItemStart) -> Front<Data>
+fn data(alloc: Global, tokens: &mut Cursor<'_>, begins: ItemStart) -> Parsed<Data>
     ensures { Flat (spec.data_by begins tokens.old) result tokens.new }
 {
     match begins {
@@ -99,7 +99,7 @@ fn is_tuple_struct(tokens: &Cursor<'_>, begins: ItemStart) -> bool
 
 /// The body of an item and its `where` clause.
 #[tactic(auto, unfolding(crate::specs::Items::body_of))]
-fn body(alloc: Global, tokens: &mut Cursor<'_>, begins: ItemStart) -> Front<Body>
+fn body(alloc: Global, tokens: &mut Cursor<'_>, begins: ItemStart) -> Parsed<Body>
     ensures { Flat (spec.body_of begins tokens.old) result tokens.new }
 {
     if is_tuple_struct(tokens, begins) {
@@ -112,7 +112,7 @@ fn body(alloc: Global, tokens: &mut Cursor<'_>, begins: ItemStart) -> Front<Body
 
 /// `#[attr] pub struct Name<T> where .. { a: T }`
 #[tactic(auto, unfolding(crate::specs::Items::item))]
-pub fn item(alloc: Global, tokens: &mut Cursor<'_>) -> Front<DeriveInput>
+pub fn item(alloc: Global, tokens: &mut Cursor<'_>) -> Parsed<DeriveInput>
     ensures { Flat (spec.item tokens.old) result tokens.new }
 {
     let start = tokens.here();
@@ -141,7 +141,7 @@ pub fn item(alloc: Global, tokens: &mut Cursor<'_>) -> Front<DeriveInput>
 }
 
 /// Items, to the end.
-pub fn items(alloc: Global, tokens: &mut Cursor<'_>) -> Front<Items<DeriveInput>>
+pub fn items(alloc: Global, tokens: &mut Cursor<'_>) -> Parsed<Items<DeriveInput>>
     ensures { Flat (spec.items tokens.old) result tokens.new }
 {
     let (found, _) = each_while(

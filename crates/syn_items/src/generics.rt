@@ -14,20 +14,20 @@ use node_expr::{
     TypeParamBound,
 };
 use std::alloc::Global;
-use syn_grammar::{Cursor, ReadFail, Word, begins_constant, lifetime_of, sees};
+use syn_grammar::{Cursor, ReadFail, Word, begins_constant, lifetime_of, peek};
 use syn_rules::{
-    CONSTANT_LEVEL, Front, Joint, MAX_DEPTH, joined_by, read_bounds, read_expr, read_type, until,
+    CONSTANT_LEVEL, Joint, MAX_DEPTH, Parsed, joined_by, read_bounds, read_expr, read_type, until,
 };
 
 /// A lifetime.
-fn lifetime(alloc: Global, tokens: &mut Cursor<'_>) -> Front<Lifetime>
+fn lifetime(alloc: Global, tokens: &mut Cursor<'_>) -> Parsed<Lifetime>
     ensures { Flat (input.take_as lifetime_of tokens.old) result tokens.new }
 {
     Ok((tokens.take_lifetime(alloc)?, 0))
 }
 
 /// `'b + 'c`
-pub(crate) fn lifetimes(alloc: Global, tokens: &mut Cursor<'_>) -> Front<Items<Lifetime>>
+pub(crate) fn lifetimes(alloc: Global, tokens: &mut Cursor<'_>) -> Parsed<Items<Lifetime>>
     ensures { Flat (spec.lifetimes tokens.old) result tokens.new }
 {
     let (found, _) = joined_by(
@@ -40,7 +40,7 @@ pub(crate) fn lifetimes(alloc: Global, tokens: &mut Cursor<'_>) -> Front<Items<L
 }
 
 /// `A + 'b`
-pub(crate) fn bounds(alloc: Global, tokens: &mut Cursor<'_>) -> Front<Items<TypeParamBound>>
+pub(crate) fn bounds(alloc: Global, tokens: &mut Cursor<'_>) -> Parsed<Items<TypeParamBound>>
     ensures { Flat (spec.bounds tokens.old) result tokens.new }
 {
     let (found, _) = read_bounds(alloc, tokens, MAX_DEPTH)?;
@@ -48,7 +48,7 @@ pub(crate) fn bounds(alloc: Global, tokens: &mut Cursor<'_>) -> Front<Items<Type
 }
 
 /// A type, where a `dyn` or `impl` has several bounds.
-pub(crate) fn ty(alloc: Global, tokens: &mut Cursor<'_>) -> Front<Type>
+pub(crate) fn ty(alloc: Global, tokens: &mut Cursor<'_>) -> Parsed<Type>
     ensures { Flat (spec.any_type tokens.old) result tokens.new }
 {
     let (found, _) = read_type(alloc, tokens, MAX_DEPTH, true)?;
@@ -56,7 +56,7 @@ pub(crate) fn ty(alloc: Global, tokens: &mut Cursor<'_>) -> Front<Type>
 }
 
 /// An expression of this level or a tighter one.
-pub(crate) fn expr(alloc: Global, tokens: &mut Cursor<'_>, level: u8) -> Front<Expr>
+pub(crate) fn expr(alloc: Global, tokens: &mut Cursor<'_>, level: u8) -> Parsed<Expr>
     ensures { Flat (spec.expr_at level tokens.old) result tokens.new }
 {
     let (found, _) = read_expr(alloc, tokens, MAX_DEPTH, level)?;
@@ -64,7 +64,7 @@ pub(crate) fn expr(alloc: Global, tokens: &mut Cursor<'_>, level: u8) -> Front<E
 }
 
 /// `: 'b + 'c`, or nothing.
-fn outlived(alloc: Global, tokens: &mut Cursor<'_>) -> Front<Items<Lifetime>>
+fn outlived(alloc: Global, tokens: &mut Cursor<'_>) -> Parsed<Items<Lifetime>>
     ensures { Flat (spec.outlived tokens.old) result tokens.new }
 {
     if tokens.eat_colon() {
@@ -75,7 +75,7 @@ fn outlived(alloc: Global, tokens: &mut Cursor<'_>) -> Front<Items<Lifetime>>
 }
 
 /// `: A + 'b`, or nothing.
-fn bounded(alloc: Global, tokens: &mut Cursor<'_>) -> Front<Items<TypeParamBound>>
+fn bounded(alloc: Global, tokens: &mut Cursor<'_>) -> Parsed<Items<TypeParamBound>>
     ensures { Flat (spec.bounded tokens.old) result tokens.new }
 {
     if tokens.eat_colon() {
@@ -86,7 +86,7 @@ fn bounded(alloc: Global, tokens: &mut Cursor<'_>) -> Front<Items<TypeParamBound
 }
 
 /// `= T`, or nothing.
-fn type_default(alloc: Global, tokens: &mut Cursor<'_>) -> Front<Option<Type>>
+fn type_default(alloc: Global, tokens: &mut Cursor<'_>) -> Parsed<Option<Type>>
     ensures { Flat (spec.type_default tokens.old) result tokens.new }
 {
     if !tokens.eat_mark('=') {
@@ -120,7 +120,7 @@ fn expr_of_name(alloc: Global, ident: Ident) -> Mem<Expr>
 
 /// A literal, a block or an identifier.
 #[tactic(auto, unfolding(crate::specs::Generics::const_value))]
-fn const_value(alloc: Global, tokens: &mut Cursor<'_>) -> Front<Expr>
+fn const_value(alloc: Global, tokens: &mut Cursor<'_>) -> Parsed<Expr>
     ensures { Flat (spec.const_value tokens.old) result tokens.new }
 {
     if begins_constant(tokens.rest()) {
@@ -131,7 +131,7 @@ fn const_value(alloc: Global, tokens: &mut Cursor<'_>) -> Front<Expr>
 }
 
 /// `= 8`, or nothing.
-fn const_default(alloc: Global, tokens: &mut Cursor<'_>) -> Front<Option<Expr>>
+fn const_default(alloc: Global, tokens: &mut Cursor<'_>) -> Parsed<Option<Expr>>
     ensures { Flat (spec.const_default tokens.old) result tokens.new }
 {
     if !tokens.eat_mark('=') {
@@ -148,7 +148,7 @@ fn lifetime_param(
     tokens: &mut Cursor<'_>,
     start: Span,
     attrs: Items<Attribute>,
-) -> Front<GenericParam>
+) -> Parsed<GenericParam>
     ensures { Flat (spec.lifetime_param start attrs tokens.old) result tokens.new }
 {
     let lifetime = tokens.take_lifetime(alloc)?;
@@ -170,7 +170,7 @@ fn type_param(
     tokens: &mut Cursor<'_>,
     start: Span,
     attrs: Items<Attribute>,
-) -> Front<TypeParam>
+) -> Parsed<TypeParam>
     ensures { Flat (spec.type_param start attrs tokens.old) result tokens.new }
 {
     let ident = tokens.take_name(alloc)?;
@@ -194,7 +194,7 @@ fn const_param(
     tokens: &mut Cursor<'_>,
     start: Span,
     attrs: Items<Attribute>,
-) -> Front<GenericParam>
+) -> Parsed<GenericParam>
     ensures { Flat (spec.const_param start attrs tokens.old) result tokens.new }
 {
     tokens.expect_word(Word::Const)?;
@@ -215,7 +215,7 @@ fn const_param(
 
 /// `'a: 'b`, `const N: usize`, `T: A`, each behind its attributes.
 #[tactic(auto, unfolding(crate::specs::Generics::generic_param))]
-fn generic_param(alloc: Global, tokens: &mut Cursor<'_>) -> Front<GenericParam>
+fn generic_param(alloc: Global, tokens: &mut Cursor<'_>) -> Parsed<GenericParam>
     ensures { Flat (spec.generic_param tokens.old) result tokens.new }
 {
     let start = tokens.here();
@@ -223,7 +223,7 @@ fn generic_param(alloc: Global, tokens: &mut Cursor<'_>) -> Front<GenericParam>
     if lifetime_of(tokens.rest()).is_some() {
         return lifetime_param(alloc, tokens, start, attrs);
     }
-    if sees(Word::Const, tokens.rest()) {
+    if peek(Word::Const, tokens.rest()) {
         return const_param(alloc, tokens, start, attrs);
     }
     let (param, _) = type_param(alloc, tokens, start, attrs)?;
@@ -232,7 +232,7 @@ fn generic_param(alloc: Global, tokens: &mut Cursor<'_>) -> Front<GenericParam>
 
 /// A type parameter alone, as in `<..>`.
 #[tactic(auto, unfolding(crate::specs::Generics::one_type_param))]
-pub fn one_type_param(alloc: Global, tokens: &mut Cursor<'_>) -> Front<TypeParam>
+pub fn one_type_param(alloc: Global, tokens: &mut Cursor<'_>) -> Parsed<TypeParam>
     ensures { Flat (spec.one_type_param tokens.old) result tokens.new }
 {
     let start = tokens.here();
@@ -241,7 +241,7 @@ pub fn one_type_param(alloc: Global, tokens: &mut Cursor<'_>) -> Front<TypeParam
 }
 
 /// What is left of the parameters in `<..>`, with its end.
-fn params_in_angles(alloc: Global, tokens: &mut Cursor<'_>) -> Front<Items<GenericParam>>
+fn params_in_angles(alloc: Global, tokens: &mut Cursor<'_>) -> Parsed<Items<GenericParam>>
     ensures { Flat (spec.params_in_angles tokens.old) result tokens.new }
 {
     let (found, _) = until(alloc, tokens, '>', |tokens: &mut Cursor<'_>| {
@@ -252,7 +252,7 @@ fn params_in_angles(alloc: Global, tokens: &mut Cursor<'_>) -> Front<Items<Gener
 
 /// The parameters in `<..>`, if it is there, and where they stand.
 #[tactic(auto, unfolding(crate::specs::Generics::params))]
-pub(crate) fn params(alloc: Global, tokens: &mut Cursor<'_>) -> Front<(Items<GenericParam>, Span)>
+pub(crate) fn params(alloc: Global, tokens: &mut Cursor<'_>) -> Parsed<(Items<GenericParam>, Span)>
     ensures { Flat (spec.params tokens.old) result tokens.new }
 {
     let start = tokens.here();

@@ -9,7 +9,7 @@ ghost use Rattle.syn_lists.specs.Lists.{ReadsItems, all_depth};
 use node_expr::{Items, TokenTree};
 use std::alloc::Global;
 use syn_grammar::{Cursor, ReadFail, is_mark};
-use syn_rules::Front;
+use syn_rules::Parsed;
 
 /// What comes next as long as a list goes on.
 #[derive(Clone, Copy, Debug, PartialEq, Eq)]
@@ -30,12 +30,12 @@ fn goes_on(which: While, trees: &[TokenTree]) -> bool
 }
 
 /// Items as long as the list goes on.
-pub(crate) fn each_while<A: Drop, P: Fn(&mut Cursor<'_>) -> Front<A>>(
+pub(crate) fn each_while<A: Drop, P: Fn(&mut Cursor<'_>) -> Parsed<A>>(
     alloc: Global,
     tokens: &mut Cursor<'_>,
     which: While,
     item: P,
-) -> Front<Items<A>>
+) -> Parsed<Items<A>>
 where
     P: Drop,
     requires { P.IsAlwaysCallable item }

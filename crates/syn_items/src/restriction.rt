@@ -10,7 +10,7 @@ use node_core::Visibility;
 use node_expr::{Delimiter, Ident, Items, Path, PathArguments, PathSegment, TokenTree, TryClone};
 use std::alloc::Global;
 use syn_grammar::{Cursor, ReadFail, Word, contents_of, is_group};
-use syn_rules::{Front, MAX_DEPTH, all_of, read_path};
+use syn_rules::{MAX_DEPTH, Parsed, all_of, read_path};
 
 /// The path of one word.
 fn path_of_word(alloc: Global, ident: Ident) -> Mem<Path>
@@ -30,7 +30,7 @@ fn path_of_word(alloc: Global, ident: Ident) -> Mem<Path>
 }
 
 /// `crate`, `self` or `super`
-fn scope(alloc: Global, tokens: &mut Cursor<'_>) -> Front<Path>
+fn scope(alloc: Global, tokens: &mut Cursor<'_>) -> Parsed<Path>
     ensures { Flat (spec.scope tokens.old) result tokens.new }
 {
     let Some(word) = scope_word(tokens.rest()) else {
@@ -44,7 +44,7 @@ fn scope(alloc: Global, tokens: &mut Cursor<'_>) -> Front<Path>
 /// What stands in the parentheses: `crate`, `self`, `super`, or `in` and a path. It is told whether
 /// `in` does.
 #[tactic(auto, unfolding(crate::specs::Visibility::restriction))]
-fn restriction(alloc: Global, tokens: &mut Cursor<'_>) -> Front<(bool, Path)>
+fn restriction(alloc: Global, tokens: &mut Cursor<'_>) -> Parsed<(bool, Path)>
     ensures { Flat (spec.restriction tokens.old) result tokens.new }
 {
     if tokens.eat_word(Word::In) {
@@ -68,7 +68,7 @@ fn restriction_in(alloc: Global, trees: &[TokenTree]) -> Mem<Option<(bool, Path)
 
 /// `pub`, `pub(crate)`, `pub(in a::b)`, or nothing. A restriction that may follow `pub` is taken.
 #[tactic(auto, unfolding(crate::specs::Visibility::visibility))]
-pub fn visibility(alloc: Global, tokens: &mut Cursor<'_>) -> Front<Visibility>
+pub fn visibility(alloc: Global, tokens: &mut Cursor<'_>) -> Parsed<Visibility>
     ensures { Flat (spec.visibility tokens.old) result tokens.new }
 {
     let start = tokens.here();

@@ -6,6 +6,6 @@ mod list;
 mod patterns;
 mod whole;
 
-pub use list::{Front, Joint, items_after, joined_by, until};
+pub use list::{Joint, Parsed, items_after, joined_by, until};
 pub use patterns::{MAX_PATTERN, pattern};
 pub use whole::{all_of, inside};

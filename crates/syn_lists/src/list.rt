@@ -11,16 +11,16 @@ use std::alloc::Global;
 use syn_grammar::{Cursor, ReadFail};
 
 /// A tree and its depth, or why there is none.
-pub type Front<A> = Result<(A, usize), ReadFail>;
+pub type Parsed<A> = Result<(A, usize), ReadFail>;
 
 /// More items of a list that ends with its tokens, behind those that are `found`, with at most one
 /// comma at its end.
-pub fn items_after<A: Drop, P: Fn(&mut Cursor<'_>) -> Front<A>>(
+pub fn items_after<A: Drop, P: Fn(&mut Cursor<'_>) -> Parsed<A>>(
     tokens: &mut Cursor<'_>,
     item: P,
     mut found: Items<A>,
     mut depth: usize,
-) -> Front<Items<A>>
+) -> Parsed<Items<A>>
 where
     P: Drop,
     requires { P.IsAlwaysCallable item }
@@ -47,12 +47,12 @@ where
 }
 
 /// What is left of a list that the mark `closing` ends, with at most one comma before it.
-pub fn until<A: Drop, P: Fn(&mut Cursor<'_>) -> Front<A>>(
+pub fn until<A: Drop, P: Fn(&mut Cursor<'_>) -> Parsed<A>>(
     alloc: Global,
     tokens: &mut Cursor<'_>,
     closing: char,
     item: P,
-) -> Front<Items<A>>
+) -> Parsed<Items<A>>
 where
     P: Drop,
     requires { P.IsAlwaysCallable item }
@@ -77,12 +77,12 @@ where
 }
 
 /// Items that `+` or `::` joins: one at least, and one after each mark.
-pub fn joined_by<A: Drop, P: Fn(&mut Cursor<'_>) -> Front<A>>(
+pub fn joined_by<A: Drop, P: Fn(&mut Cursor<'_>) -> Parsed<A>>(
     alloc: Global,
     tokens: &mut Cursor<'_>,
     joint: Joint,
     item: P,
-) -> Front<Items<A>>
+) -> Parsed<Items<A>>
 where
     P: Drop,
     requires { P.IsAlwaysCallable item }

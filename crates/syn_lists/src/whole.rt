@@ -7,18 +7,18 @@ ghost use Rattle.syn_grammar.specs.Reads.{Reads};
 ghost use Rattle.syn_grammar.specs.Trees.{all};
 ghost use Rattle.syn_lists.specs.Lists.{ReadsItems};
 
-use crate::list::Front;
+use crate::list::Parsed;
 use base_core::Mem;
 use std::alloc::{AllocError, Global};
 use syn_grammar::{Cursor, ReadFail, is_group};
 use tok_types::{Delimiter, TokenTree};
 
 /// What the group that comes next holds, all of whose tokens `contents` reads.
-pub fn inside<A: Drop, P: Fn(&mut Cursor<'_>) -> Front<A>>(
+pub fn inside<A: Drop, P: Fn(&mut Cursor<'_>) -> Parsed<A>>(
     tokens: &mut Cursor<'_>,
     delimiter: Delimiter,
     contents: P,
-) -> Front<A>
+) -> Parsed<A>
 where
     P: Drop,
     requires { P.IsAlwaysCallable contents }
@@ -36,7 +36,7 @@ where
 }
 
 /// What `reader` makes of all of the tokens, if it reads them.
-pub fn all_of<A: Drop, P: Fn(Global, &mut Cursor<'_>) -> Front<A>>(
+pub fn all_of<A: Drop, P: Fn(Global, &mut Cursor<'_>) -> Parsed<A>>(
     alloc: Global,
     trees: &[TokenTree],
     reader: P,

@@ -1,1 +1,1 @@
-pub mod Back
+pub mod RoundTrips

@@ -1,8 +1,8 @@
 //! Each call prints a tree and reads the printing. A tree that a parser gave comes back as the same but
 //! for places.
 
-ghost use Rattle.law_spans.specs.Bare.{bare_expr, bare_path, bare_type};
-ghost use Rattle.law_spans_items.specs.Bare.{bare_derive_input, bare_type_param, bare_visibility, bare_where};
+ghost use Rattle.law_spans.specs.Erased.{erased_expr, erased_path, erased_type};
+ghost use Rattle.law_spans_items.specs.Erased.{erased_derive_input, erased_type_param, erased_visibility, erased_where};
 ghost use Rattle.syn_grammar.specs.Trees as trees;
 ghost use Rattle.syn_items.specs.Trees as items;
 ghost use Rattle.syn_reread.specs.Reread.{ComesBack};
@@ -18,7 +18,7 @@ use syn_core::{
 
 /// A type, printed and read again.
 pub fn reread_type(alloc: Global, tree: &Type) -> Parse<Type>
-    ensures { ComesBack bare_type trees.type_of tree.now result }
+    ensures { ComesBack erased_type trees.type_of tree.now result }
 {
     let tokens = tree.to_token_stream(alloc)?;
     parse_type(alloc, &tokens)
@@ -26,7 +26,7 @@ pub fn reread_type(alloc: Global, tree: &Type) -> Parse<Type>
 
 /// An expression, printed and read again.
 pub fn reread_expr(alloc: Global, tree: &Expr) -> Parse<Expr>
-    ensures { ComesBack bare_expr trees.expr_of tree.now result }
+    ensures { ComesBack erased_expr trees.expr_of tree.now result }
 {
     let tokens = tree.to_token_stream(alloc)?;
     parse_expr(alloc, &tokens)
@@ -34,7 +34,7 @@ pub fn reread_expr(alloc: Global, tree: &Expr) -> Parse<Expr>
 
 /// A path as in a type, printed and read again.
 pub fn reread_path(alloc: Global, tree: &Path) -> Parse<Path>
-    ensures { ComesBack bare_path trees.path_of tree.now result }
+    ensures { ComesBack erased_path trees.path_of tree.now result }
 {
     let tokens = tree.to_token_stream(alloc)?;
     parse_path(alloc, &tokens)
@@ -42,7 +42,7 @@ pub fn reread_path(alloc: Global, tree: &Path) -> Parse<Path>
 
 /// An item, printed and read again.
 pub fn reread_derive_input(alloc: Global, tree: &DeriveInput) -> Parse<DeriveInput>
-    ensures { ComesBack bare_derive_input items.derive_input_of tree.now result }
+    ensures { ComesBack erased_derive_input items.derive_input_of tree.now result }
 {
     let tokens = tree.to_token_stream(alloc)?;
     parse_derive_input(alloc, &tokens)
@@ -50,7 +50,7 @@ pub fn reread_derive_input(alloc: Global, tree: &DeriveInput) -> Parse<DeriveInp
 
 /// A `where` clause, printed and read again.
 pub fn reread_where(alloc: Global, tree: &WhereClause) -> Parse<WhereClause>
-    ensures { ComesBack bare_where items.where_of tree.now result }
+    ensures { ComesBack erased_where items.where_of tree.now result }
 {
     let tokens = tree.to_token_stream(alloc)?;
     parse_where(alloc, &tokens)
@@ -58,7 +58,7 @@ pub fn reread_where(alloc: Global, tree: &WhereClause) -> Parse<WhereClause>
 
 /// A visibility, printed and read again.
 pub fn reread_visibility(alloc: Global, tree: &Visibility) -> Parse<Visibility>
-    ensures { ComesBack bare_visibility items.visibility_of tree.now result }
+    ensures { ComesBack erased_visibility items.visibility_of tree.now result }
 {
     let tokens = tree.to_token_stream(alloc)?;
     parse_visibility(alloc, &tokens)
@@ -66,7 +66,7 @@ pub fn reread_visibility(alloc: Global, tree: &Visibility) -> Parse<Visibility>
 
 /// A type parameter, printed and read again.
 pub fn reread_type_param(alloc: Global, tree: &TypeParam) -> Parse<TypeParam>
-    ensures { ComesBack bare_type_param items.type_param_of tree.now result }
+    ensures { ComesBack erased_type_param items.type_param_of tree.now result }
 {
     let tokens = tree.to_token_stream(alloc)?;
     parse_type_param(alloc, &tokens)

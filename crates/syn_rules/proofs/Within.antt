@@ -31,15 +31,15 @@ ReadsKept-of size limit outcome (Ok found) new reads = reads
 ReadsKept-of size limit outcome (Err NoMemory) new reads = tt
 ReadsKept-of size limit outcome (Err Syntax) new reads = rw reads refl
 
-pub ty-within : (depth : ℕ) (many : Bool) (old new : Input) (result : Result (Ty × ℕ) ReadFail) → 0 < depth
-    → Reads type_depth ((depth - 1) + 1) (type_step (within (depth - 1)) many old) result new → Reads type_depth depth ((within depth).ty many old) result new
+pub ty-within : (depth : ℕ) (allow_plus : Bool) (old new : Input) (result : Result (Ty × ℕ) ReadFail) → 0 < depth
+    → Reads type_depth ((depth - 1) + 1) (type_step (within (depth - 1)) allow_plus old) result new → Reads type_depth depth ((within depth).ty allow_plus old) result new
 unfolding within
-ty-within zero many old new result some reads = absurd (omega arith)
-ty-within (suc below) many old new result some reads =
+ty-within zero allow_plus old new result some reads = absurd (omega arith)
+ty-within (suc below) allow_plus old new result some reads =
     let one : (suc below - 1) + 1 ≡ suc below = omega arith in
     let less : suc below - 1 ≡ below = omega arith in
     let step = rw (one, less) at reads in
-    Reads-kept type_depth (suc below) (type_step (within below) many old) result new (ReadsKept-of type_depth (suc below) (type_step (within below) many old) result new step)
+    Reads-kept type_depth (suc below) (type_step (within below) allow_plus old) result new (ReadsKept-of type_depth (suc below) (type_step (within below) allow_plus old) result new step)
 
 pub expr-within : (depth level : ℕ) (old new : Input) (result : Result (Expr × ℕ) ReadFail) → 0 < depth
     → ReadsKept expr_depth ((depth - 1) + 1) (expr_step (within (depth - 1)) level old) result new → Reads expr_depth depth ((within depth).expr level old) result new

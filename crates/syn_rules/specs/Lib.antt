@@ -1,2 +1,2 @@
-pub mod Nests
+pub mod ReadsParts
 pub mod Postfixes

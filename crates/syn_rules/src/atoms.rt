@@ -9,15 +9,14 @@ ghost use Rattle.syn_grammar.specs.Make as make;
 ghost use Rattle.syn_grammar.specs.Reads.{Reads};
 ghost use Rattle.syn_grammar.specs.Readers.{any_level};
 ghost use Rattle.syn_lists.specs.Lists.{all_depth};
-ghost use Rattle.syn_rules.specs.Nests.{Nests};
 
-use crate::rules::{ANY_LEVEL, Rules};
+use crate::rules::{ANY_LEVEL, ReadParts, Rules};
 use base_core::Items;
-use node_expr::{Delimiter, Expr, ExprArray, ExprPath, Lit, LitBool, Span, Type, TypeParamBound};
+use node_expr::{Delimiter, Expr, ExprArray, ExprPath, Lit, LitBool, Span};
 use node_make::make;
 use std::alloc::Global;
 use syn_grammar::{AtomStart, Cursor, ReadFail, Word, atom_start, is_group, lit_of, next_word};
-use syn_lists::{Front, items_after};
+use syn_lists::{Parsed, items_after};
 
 fn lit_bool(word: Word, span: Span) -> Expr
     ensures { result ≡ spec.lit_bool word span }
@@ -28,7 +27,7 @@ fn lit_bool(word: Word, span: Span) -> Expr
 
 /// `true` or `false`
 #[tactic(auto, unfolding(syn_grammar::specs::Expressions::expr_bool), using(syn_grammar::proofs::Depths::depths))]
-fn expr_bool(tokens: &mut Cursor<'_>) -> Front<Expr>
+fn expr_bool(tokens: &mut Cursor<'_>) -> Parsed<Expr>
     ensures { Reads expr_depth 1 (spec.expr_bool tokens.old) result tokens.new }
 {
     let span = tokens.here();
@@ -38,7 +37,7 @@ fn expr_bool(tokens: &mut Cursor<'_>) -> Front<Expr>
 }
 
 #[tactic(auto, unfolding(syn_grammar::specs::Expressions::literal), using(syn_grammar::proofs::Depths::depths))]
-fn literal(alloc: Global, tokens: &mut Cursor<'_>) -> Front<Expr>
+fn literal(alloc: Global, tokens: &mut Cursor<'_>) -> Parsed<Expr>
     ensures { Reads expr_depth 1 (spec.literal tokens.old) result tokens.new }
 {
     let token = tokens.take_literal(alloc)?;
@@ -54,7 +53,7 @@ fn expr_array(elems: Items<Expr>, span: Span) -> Expr
 
 /// `_`
 #[tactic(auto, using(syn_grammar::proofs::Depths::depths))]
-fn infer(tokens: &mut Cursor<'_>) -> Front<Expr>
+fn infer(tokens: &mut Cursor<'_>) -> Parsed<Expr>
     ensures { Reads expr_depth 1 (Some (Expr.Infer (first_span tokens.old.rest), next tokens.old)) result tokens.new }
 {
     let span = tokens.here();
@@ -62,19 +61,15 @@ fn infer(tokens: &mut Cursor<'_>) -> Front<Expr>
     Ok((Expr::Infer { span }, 1))
 }
 
-impl<
-    T: Fn(Global, &mut Cursor<'_>, usize, bool) -> Front<Type>,
-    E: Fn(Global, &mut Cursor<'_>, usize, u8) -> Front<Expr>,
-    B: Fn(Global, &mut Cursor<'_>, usize) -> Front<Items<TypeParamBound>>,
-> Rules<T, E, B> {
+impl<R: ReadParts> Rules<R> {
     /// More expressions of a list, behind those that are `found`.
     pub(crate) fn exprs(
         &self,
         tokens: &mut Cursor<'_>,
         found: Items<Expr>,
         depth: usize,
-    ) -> Front<Items<Expr>>
-        requires nests { Nests self.now.depth (T.pre self.now.ty) (T.post self.now.ty) (E.pre self.now.expr) (E.post self.now.expr) (B.pre self.now.bounds) (B.post self.now.bounds) }
+    ) -> Parsed<Items<Expr>>
+        requires reads_within { R.reads_within self.now.parts self.now.depth }
         requires depth { depth ≡ all_depth expr_depth found }
         requires limit { depth ≤ self.now.depth }
         ensures { Reads (all_depth expr_depth) self.now.depth (items_after ((within self.now.depth).expr any_level) found tokens.old) result tokens.new }
@@ -89,8 +84,8 @@ impl<
 
     /// What stands in `(..)`: a tuple where a comma stands, or nothing at all.
     #[tactic(auto, unfolding(syn_grammar::specs::Expressions::expr_group), using(syn_grammar::proofs::Depths::depths))]
-    fn expr_group(&self, tokens: &mut Cursor<'_>, span: Span) -> Front<Expr>
-        requires { Nests self.now.depth (T.pre self.now.ty) (T.post self.now.ty) (E.pre self.now.expr) (E.post self.now.expr) (B.pre self.now.bounds) (B.post self.now.bounds) }
+    fn expr_group(&self, tokens: &mut Cursor<'_>, span: Span) -> Parsed<Expr>
+        requires { R.reads_within self.now.parts self.now.depth }
         ensures { Reads expr_depth (self.now.depth + 1) (spec.expr_group (within self.now.depth) span tokens.old) result tokens.new }
     {
         if tokens.at_end() {
@@ -114,8 +109,8 @@ impl<
         span: Span,
         first: Expr,
         depth: usize,
-    ) -> Front<Expr>
-        requires nests { Nests self.now.depth (T.pre self.now.ty) (T.post self.now.ty) (E.pre self.now.expr) (E.post self.now.expr) (B.pre self.now.bounds) (B.post self.now.bounds) }
+    ) -> Parsed<Expr>
+        requires reads_within { R.reads_within self.now.parts self.now.depth }
         requires depth { depth ≡ expr_depth first }
         requires limit { depth ≤ self.now.depth }
         ensures { Reads expr_depth (self.now.depth + 1) (spec.expr_elements (within self.now.depth) span first tokens.old) result tokens.new }
@@ -135,8 +130,8 @@ impl<
 
     /// What stands in `[..]`.
     #[tactic(auto, unfolding(syn_grammar::specs::Expressions::expr_bracket), using(syn_grammar::proofs::Depths::depths, crate::proofs::Nodes::nodes))]
-    fn expr_bracket(&self, tokens: &mut Cursor<'_>, span: Span) -> Front<Expr>
-        requires { Nests self.now.depth (T.pre self.now.ty) (T.post self.now.ty) (E.pre self.now.expr) (E.post self.now.expr) (B.pre self.now.bounds) (B.post self.now.bounds) }
+    fn expr_bracket(&self, tokens: &mut Cursor<'_>, span: Span) -> Parsed<Expr>
+        requires { R.reads_within self.now.parts self.now.depth }
         ensures { Reads expr_depth (self.now.depth + 1) (spec.expr_bracket (within self.now.depth) span tokens.old) result tokens.new }
     {
         if tokens.at_end() {
@@ -149,8 +144,8 @@ impl<
 
     /// What stands in `{..}`: expressions with `;` behind, and a last one without.
     #[tactic(auto, using(syn_grammar::proofs::Depths::depths))]
-    fn statements(&self, tokens: &mut Cursor<'_>, span: Span) -> Front<Expr>
-        requires { Nests self.now.depth (T.pre self.now.ty) (T.post self.now.ty) (E.pre self.now.expr) (E.post self.now.expr) (B.pre self.now.bounds) (B.post self.now.bounds) }
+    fn statements(&self, tokens: &mut Cursor<'_>, span: Span) -> Parsed<Expr>
+        requires { R.reads_within self.now.parts self.now.depth }
         ensures { Reads expr_depth (self.now.depth + 1) (spec.statements (within self.now.depth) span tokens.old) result tokens.new }
     {
         let mut stmts = Items::new(self.alloc);
@@ -175,8 +170,8 @@ impl<
 
     /// `{ a; b }`
     #[tactic(auto, unfolding(syn_grammar::specs::Expressions::block))]
-    pub(crate) fn block(&self, tokens: &mut Cursor<'_>) -> Front<Expr>
-        requires { Nests self.now.depth (T.pre self.now.ty) (T.post self.now.ty) (E.pre self.now.expr) (E.post self.now.expr) (B.pre self.now.bounds) (B.post self.now.bounds) }
+    pub(crate) fn block(&self, tokens: &mut Cursor<'_>) -> Parsed<Expr>
+        requires { R.reads_within self.now.parts self.now.depth }
         ensures { Reads expr_depth (self.now.depth + 1) (spec.block (within self.now.depth) tokens.old) result tokens.new }
     {
         let span = tokens.here();
@@ -192,8 +187,8 @@ impl<
 
     /// `(a)`, `(a, b)`
     #[tactic(auto, unfolding(syn_grammar::specs::Expressions::expr_in_parentheses))]
-    fn expr_in_parentheses(&self, tokens: &mut Cursor<'_>) -> Front<Expr>
-        requires { Nests self.now.depth (T.pre self.now.ty) (T.post self.now.ty) (E.pre self.now.expr) (E.post self.now.expr) (B.pre self.now.bounds) (B.post self.now.bounds) }
+    fn expr_in_parentheses(&self, tokens: &mut Cursor<'_>) -> Parsed<Expr>
+        requires { R.reads_within self.now.parts self.now.depth }
         ensures { Reads expr_depth (self.now.depth + 1) (spec.expr_in_parentheses (within self.now.depth) tokens.old) result tokens.new }
     {
         let span = tokens.here();
@@ -209,8 +204,8 @@ impl<
 
     /// `[a, b]`, `[a; n]`
     #[tactic(auto, unfolding(syn_grammar::specs::Expressions::expr_in_brackets))]
-    fn expr_in_brackets(&self, tokens: &mut Cursor<'_>) -> Front<Expr>
-        requires { Nests self.now.depth (T.pre self.now.ty) (T.post self.now.ty) (E.pre self.now.expr) (E.post self.now.expr) (B.pre self.now.bounds) (B.post self.now.bounds) }
+    fn expr_in_brackets(&self, tokens: &mut Cursor<'_>) -> Parsed<Expr>
+        requires { R.reads_within self.now.parts self.now.depth }
         ensures { Reads expr_depth (self.now.depth + 1) (spec.expr_in_brackets (within self.now.depth) tokens.old) result tokens.new }
     {
         let span = tokens.here();
@@ -226,8 +221,8 @@ impl<
 
     /// A group without delimiters.
     #[tactic(auto, unfolding(syn_grammar::specs::Expressions::invisible), using(syn_grammar::proofs::Depths::depths))]
-    fn invisible(&self, tokens: &mut Cursor<'_>) -> Front<Expr>
-        requires { Nests self.now.depth (T.pre self.now.ty) (T.post self.now.ty) (E.pre self.now.expr) (E.post self.now.expr) (B.pre self.now.bounds) (B.post self.now.bounds) }
+    fn invisible(&self, tokens: &mut Cursor<'_>) -> Parsed<Expr>
+        requires { R.reads_within self.now.parts self.now.depth }
         ensures { Reads expr_depth (self.now.depth + 1) (spec.invisible (within self.now.depth) tokens.old) result tokens.new }
     {
         let span = tokens.here();
@@ -243,8 +238,8 @@ impl<
 
     /// `a::b`
     #[tactic(auto, unfolding(syn_grammar::specs::Expressions::expr_path), using(syn_grammar::proofs::Depths::depths))]
-    fn expr_path(&self, tokens: &mut Cursor<'_>) -> Front<Expr>
-        requires { Nests self.now.depth (T.pre self.now.ty) (T.post self.now.ty) (E.pre self.now.expr) (E.post self.now.expr) (B.pre self.now.bounds) (B.post self.now.bounds) }
+    fn expr_path(&self, tokens: &mut Cursor<'_>) -> Parsed<Expr>
+        requires { R.reads_within self.now.parts self.now.depth }
         ensures { Reads expr_depth (self.now.depth + 1) (spec.expr_path (within self.now.depth) tokens.old) result tokens.new }
     {
         let start = tokens.here();
@@ -260,8 +255,8 @@ impl<
 
     /// `<T as Trait>::f`
     #[tactic(auto, unfolding(syn_grammar::specs::Expressions::expr_qualified), using(syn_grammar::proofs::Depths::depths))]
-    fn expr_qualified(&self, tokens: &mut Cursor<'_>) -> Front<Expr>
-        requires { Nests self.now.depth (T.pre self.now.ty) (T.post self.now.ty) (E.pre self.now.expr) (E.post self.now.expr) (B.pre self.now.bounds) (B.post self.now.bounds) }
+    fn expr_qualified(&self, tokens: &mut Cursor<'_>) -> Parsed<Expr>
+        requires { R.reads_within self.now.parts self.now.depth }
         ensures { Reads expr_depth (self.now.depth + 1) (spec.expr_qualified (within self.now.depth) tokens.old) result tokens.new }
     {
         let start = tokens.here();
@@ -276,8 +271,8 @@ impl<
     }
 
     /// The atom that begins so.
-    pub(crate) fn atom(&self, tokens: &mut Cursor<'_>, begins: AtomStart) -> Front<Expr>
-        requires { Nests self.now.depth (T.pre self.now.ty) (T.post self.now.ty) (E.pre self.now.expr) (E.post self.now.expr) (B.pre self.now.bounds) (B.post self.now.bounds) }
+    pub(crate) fn atom(&self, tokens: &mut Cursor<'_>, begins: AtomStart) -> Parsed<Expr>
+        requires { R.reads_within self.now.parts self.now.depth }
         ensures { Reads expr_depth (self.now.depth + 1) (spec.atom_by (within self.now.depth) begins tokens.old) result tokens.new }
     {
         match begins {
@@ -296,8 +291,8 @@ impl<
 
     /// A literal or a block.
     #[tactic(auto, unfolding(syn_grammar::specs::Expressions::constant))]
-    pub(crate) fn constant(&self, tokens: &mut Cursor<'_>) -> Front<Expr>
-        requires { Nests self.now.depth (T.pre self.now.ty) (T.post self.now.ty) (E.pre self.now.expr) (E.post self.now.expr) (B.pre self.now.bounds) (B.post self.now.bounds) }
+    pub(crate) fn constant(&self, tokens: &mut Cursor<'_>) -> Parsed<Expr>
+        requires { R.reads_within self.now.parts self.now.depth }
         ensures { Reads expr_depth (self.now.depth + 1) (spec.constant (within self.now.depth) tokens.old) result tokens.new }
     {
         match atom_start(tokens.rest()) {

@@ -8,15 +8,12 @@ ghost use Rattle.syn_grammar.specs.Grammar.{within};
 ghost use Rattle.syn_grammar.specs.Reads.{Reads, Gives};
 ghost use Rattle.syn_grammar.specs.Steps.{Expects};
 ghost use Rattle.syn_grammar.specs.Token.{is_group};
-ghost use Rattle.syn_rules.specs.Nests.{Nests};
 
-use crate::rules::{ANY_LEVEL, CONSTANT_LEVEL, Rules};
-use base_core::Items;
-use node_expr::{Delimiter, Expr, TokenStream, Type, TypeParamBound};
+use crate::rules::{ANY_LEVEL, CONSTANT_LEVEL, ReadParts, Rules};
+use node_expr::{Delimiter, Expr, TokenStream};
 use node_make::make;
-use std::alloc::Global;
 use syn_grammar::{Cursor, ReadFail, Word, is_group};
-use syn_lists::{Front, MAX_PATTERN, pattern, until};
+use syn_lists::{MAX_PATTERN, Parsed, pattern, until};
 
 /// A block must come next. It is left where it is.
 #[tactic(auto, unfolding(syn_grammar::specs::Input::skipped))]
@@ -30,25 +27,21 @@ fn expect_block(tokens: &Cursor<'_>) -> Result<(), ReadFail>
     }
 }
 
-impl<
-    T: Fn(Global, &mut Cursor<'_>, usize, bool) -> Front<Type>,
-    E: Fn(Global, &mut Cursor<'_>, usize, u8) -> Front<Expr>,
-    B: Fn(Global, &mut Cursor<'_>, usize) -> Front<Items<TypeParamBound>>,
-> Rules<T, E, B> {
+impl<R: ReadParts> Rules<R> {
     /// A type that is kept as tokens alone.
     #[tactic(auto, unfolding(syn_grammar::specs::Expressions::pass_type))]
-    fn pass_type(&self, tokens: &mut Cursor<'_>, many: bool) -> Result<(), ReadFail>
-        requires { Nests self.now.depth (T.pre self.now.ty) (T.post self.now.ty) (E.pre self.now.expr) (E.post self.now.expr) (B.pre self.now.bounds) (B.post self.now.bounds) }
-        ensures { Gives (spec.pass_type (within self.now.depth) many tokens.old) result tokens.new }
+    fn pass_type(&self, tokens: &mut Cursor<'_>, allow_plus: bool) -> Result<(), ReadFail>
+        requires { R.reads_within self.now.parts self.now.depth }
+        ensures { Gives (spec.pass_type (within self.now.depth) allow_plus tokens.old) result tokens.new }
     {
-        let _ty = self.ty(tokens, many)?;
+        let _ty = self.ty(tokens, allow_plus)?;
         Ok(())
     }
 
     /// A pattern, and its type where it is told.
     #[tactic(auto, unfolding(syn_grammar::specs::Expressions::closure_param))]
-    fn closure_param(&self, tokens: &mut Cursor<'_>) -> Front<()>
-        requires { Nests self.now.depth (T.pre self.now.ty) (T.post self.now.ty) (E.pre self.now.expr) (E.post self.now.expr) (B.pre self.now.bounds) (B.post self.now.bounds) }
+    fn closure_param(&self, tokens: &mut Cursor<'_>) -> Parsed<()>
+        requires { R.reads_within self.now.parts self.now.depth }
         ensures { Reads (λ param. 0) self.now.depth (spec.closure_param (within self.now.depth) tokens.old) result tokens.new }
     {
         pattern(tokens, MAX_PATTERN)?;
@@ -60,7 +53,7 @@ impl<
 
     /// Parameters to the second `|`.
     fn closure_params(&self, tokens: &mut Cursor<'_>) -> Result<(), ReadFail>
-        requires { Nests self.now.depth (T.pre self.now.ty) (T.post self.now.ty) (E.pre self.now.expr) (E.post self.now.expr) (B.pre self.now.bounds) (B.post self.now.bounds) }
+        requires { R.reads_within self.now.parts self.now.depth }
         ensures { Gives (spec.closure_params (within self.now.depth) tokens.old) result tokens.new }
     {
         let _params = until(self.alloc, tokens, '|', |tokens: &mut Cursor<'_>| {
@@ -72,7 +65,7 @@ impl<
     /// The level of the body, behind its type where it is told: a block then.
     #[tactic(auto, unfolding(syn_grammar::specs::Expressions::closure_body))]
     fn closure_body(&self, tokens: &mut Cursor<'_>) -> Result<u8, ReadFail>
-        requires { Nests self.now.depth (T.pre self.now.ty) (T.post self.now.ty) (E.pre self.now.expr) (E.post self.now.expr) (B.pre self.now.bounds) (B.post self.now.bounds) }
+        requires { R.reads_within self.now.parts self.now.depth }
         ensures { Gives (spec.closure_body (within self.now.depth) tokens.old) result tokens.new }
     {
         if !tokens.eat_arrow() {
@@ -85,8 +78,8 @@ impl<
 
     /// `move |a, b: u8| body`, or with a type `|a| -> u8 { body }`
     #[tactic(auto, unfolding(syn_grammar::specs::Expressions::closure), using(syn_grammar::proofs::Depths::depths))]
-    pub(crate) fn closure(&self, tokens: &mut Cursor<'_>) -> Front<Expr>
-        requires { Nests self.now.depth (T.pre self.now.ty) (T.post self.now.ty) (E.pre self.now.expr) (E.post self.now.expr) (B.pre self.now.bounds) (B.post self.now.bounds) }
+    pub(crate) fn closure(&self, tokens: &mut Cursor<'_>) -> Parsed<Expr>
+        requires { R.reads_within self.now.parts self.now.depth }
         ensures { Reads expr_depth (self.now.depth + 1) (spec.closure (within self.now.depth) tokens.old) result tokens.new }
     {
         let before = tokens.rest();

@@ -8,18 +8,15 @@ ghost use Rattle.syn_grammar.specs.Input.{skipped};
 ghost use Rattle.syn_grammar.specs.Look.{at_level, operator_of};
 ghost use Rattle.syn_grammar.specs.Reads.{Reads, ReadsKept};
 ghost use Rattle.syn_grammar.specs.Token.{is_closed_dots};
-ghost use Rattle.syn_rules.specs.Nests.{Nests};
 
-use crate::rules::{ANY_LEVEL, CONSTANT_LEVEL, Rules};
-use base_core::Items;
-use node_expr::{Expr, Span, Type, TypeParamBound, UnOp};
+use crate::rules::{ANY_LEVEL, CONSTANT_LEVEL, ReadParts, Rules};
+use node_expr::{Expr, Span, UnOp};
 use node_make::make;
-use std::alloc::Global;
 use syn_grammar::{
     Cursor, Infix, OperandStart, ReadFail, Word, begins_closure, begins_operand, is_closed_dots,
     is_dots, operand_start, operator_at,
 };
-use syn_lists::Front;
+use syn_lists::Parsed;
 
 /// An operand of an operator.
 const OPERAND_LEVEL: u8 = 0;
@@ -53,15 +50,11 @@ fn operator_above(tokens: &Cursor<'_>, below: u8) -> Option<Infix>
     operator_at(below + 1, tokens.rest())
 }
 
-impl<
-    T: Fn(Global, &mut Cursor<'_>, usize, bool) -> Front<Type>,
-    E: Fn(Global, &mut Cursor<'_>, usize, u8) -> Front<Expr>,
-    B: Fn(Global, &mut Cursor<'_>, usize) -> Front<Items<TypeParamBound>>,
-> Rules<T, E, B> {
+impl<R: ReadParts> Rules<R> {
     /// `-a`, `!a`, `*a`
     #[tactic(auto, unfolding(syn_grammar::specs::Expressions::unary), using(syn_grammar::proofs::Depths::depths))]
-    fn unary(&self, tokens: &mut Cursor<'_>, op: UnOp) -> Front<Expr>
-        requires { Nests self.now.depth (T.pre self.now.ty) (T.post self.now.ty) (E.pre self.now.expr) (E.post self.now.expr) (B.pre self.now.bounds) (B.post self.now.bounds) }
+    fn unary(&self, tokens: &mut Cursor<'_>, op: UnOp) -> Parsed<Expr>
+        requires { R.reads_within self.now.parts self.now.depth }
         ensures { Reads expr_depth (self.now.depth + 1) (spec.unary (within self.now.depth) op tokens.old) result tokens.new }
     {
         let start = tokens.here();
@@ -74,8 +67,8 @@ impl<
 
     /// `&a`, `&mut a`
     #[tactic(auto, unfolding(syn_grammar::specs::Expressions::reference), using(syn_grammar::proofs::Depths::depths))]
-    fn reference(&self, tokens: &mut Cursor<'_>) -> Front<Expr>
-        requires { Nests self.now.depth (T.pre self.now.ty) (T.post self.now.ty) (E.pre self.now.expr) (E.post self.now.expr) (B.pre self.now.bounds) (B.post self.now.bounds) }
+    fn reference(&self, tokens: &mut Cursor<'_>) -> Parsed<Expr>
+        requires { R.reads_within self.now.parts self.now.depth }
         ensures { Reads expr_depth (self.now.depth + 1) (spec.reference (within self.now.depth) tokens.old) result tokens.new }
     {
         let start = tokens.here();
@@ -89,8 +82,8 @@ impl<
 
     /// An operand of an operator.
     #[tactic(auto, unfolding(syn_grammar::specs::Expressions::operand))]
-    fn operand(&self, tokens: &mut Cursor<'_>) -> Front<Expr>
-        requires { Nests self.now.depth (T.pre self.now.ty) (T.post self.now.ty) (E.pre self.now.expr) (E.post self.now.expr) (B.pre self.now.bounds) (B.post self.now.bounds) }
+    fn operand(&self, tokens: &mut Cursor<'_>) -> Parsed<Expr>
+        requires { R.reads_within self.now.parts self.now.depth }
         ensures { ReadsKept expr_depth (self.now.depth + 1) (spec.operand (within self.now.depth) tokens.old) result tokens.new }
     {
         match operand_start(tokens.rest()) {
@@ -112,8 +105,8 @@ impl<
         left: Expr,
         depth: usize,
         op: Infix,
-    ) -> Front<Expr>
-        requires nests { Nests self.now.depth (T.pre self.now.ty) (T.post self.now.ty) (E.pre self.now.expr) (E.post self.now.expr) (B.pre self.now.bounds) (B.post self.now.bounds) }
+    ) -> Parsed<Expr>
+        requires reads_within { R.reads_within self.now.parts self.now.depth }
         requires depth { depth ≡ expr_depth left }
         requires limit { depth ≤ self.now.depth + 1 }
         ensures { Reads expr_depth (self.now.depth + 2) (spec.right_of (within self.now.depth) start below left op tokens.old) result tokens.new }
@@ -134,8 +127,8 @@ impl<
         below: u8,
         left: Expr,
         depth: usize,
-    ) -> Front<Expr>
-        requires nests { Nests self.now.depth (T.pre self.now.ty) (T.post self.now.ty) (E.pre self.now.expr) (E.post self.now.expr) (B.pre self.now.bounds) (B.post self.now.bounds) }
+    ) -> Parsed<Expr>
+        requires reads_within { R.reads_within self.now.parts self.now.depth }
         requires depth { depth ≡ expr_depth left }
         requires limit { depth ≤ self.now.depth + 1 }
         requires level { below < 255 }
@@ -159,8 +152,8 @@ impl<
         below: u8,
         mut left: Expr,
         mut depth: usize,
-    ) -> Front<Expr>
-        requires nests { Nests self.now.depth (T.pre self.now.ty) (T.post self.now.ty) (E.pre self.now.expr) (E.post self.now.expr) (B.pre self.now.bounds) (B.post self.now.bounds) }
+    ) -> Parsed<Expr>
+        requires reads_within { R.reads_within self.now.parts self.now.depth }
         requires depth { depth ≡ expr_depth left }
         requires limit { depth ≤ self.now.depth + 1 }
         requires level { below < 255 }
@@ -190,8 +183,8 @@ impl<
         below: u8,
         left: Expr,
         depth: usize,
-    ) -> Front<Expr>
-        requires nests { Nests self.now.depth (T.pre self.now.ty) (T.post self.now.ty) (E.pre self.now.expr) (E.post self.now.expr) (B.pre self.now.bounds) (B.post self.now.bounds) }
+    ) -> Parsed<Expr>
+        requires reads_within { R.reads_within self.now.parts self.now.depth }
         requires depth { depth ≡ expr_depth left }
         requires limit { depth ≤ self.now.depth + 1 }
         requires level { below < 255 }
@@ -205,8 +198,8 @@ impl<
     }
 
     /// Operators of this level and tighter ones. A level costs no room on the stack.
-    fn binary_from(&self, tokens: &mut Cursor<'_>, start: Span, level: u8) -> Front<Expr>
-        requires { Nests self.now.depth (T.pre self.now.ty) (T.post self.now.ty) (E.pre self.now.expr) (E.post self.now.expr) (B.pre self.now.bounds) (B.post self.now.bounds) }
+    fn binary_from(&self, tokens: &mut Cursor<'_>, start: Span, level: u8) -> Parsed<Expr>
+        requires { R.reads_within self.now.parts self.now.depth }
         ensures { ReadsKept expr_depth (self.now.depth + 1) (spec.binary_from (within self.now.depth) start level tokens.old) result tokens.new }
     {
         let (mut left, mut depth) = self.operand(tokens)?;
@@ -219,8 +212,8 @@ impl<
     }
 
     #[tactic(auto, unfolding(syn_grammar::specs::Expressions::binary))]
-    fn binary(&self, tokens: &mut Cursor<'_>, level: u8) -> Front<Expr>
-        requires { Nests self.now.depth (T.pre self.now.ty) (T.post self.now.ty) (E.pre self.now.expr) (E.post self.now.expr) (B.pre self.now.bounds) (B.post self.now.bounds) }
+    fn binary(&self, tokens: &mut Cursor<'_>, level: u8) -> Parsed<Expr>
+        requires { R.reads_within self.now.parts self.now.depth }
         ensures { ReadsKept expr_depth (self.now.depth + 1) (spec.binary (within self.now.depth) level tokens.old) result tokens.new }
     {
         let start = tokens.here();
@@ -235,8 +228,8 @@ impl<
         start: Span,
         left: Option<Expr>,
         depth: usize,
-    ) -> Front<Expr>
-        requires nests { Nests self.now.depth (T.pre self.now.ty) (T.post self.now.ty) (E.pre self.now.expr) (E.post self.now.expr) (B.pre self.now.bounds) (B.post self.now.bounds) }
+    ) -> Parsed<Expr>
+        requires reads_within { R.reads_within self.now.parts self.now.depth }
         requires depth { depth ≡ optional (option_map expr_depth left) }
         requires limit { depth ≤ self.now.depth + 1 }
         ensures { Reads expr_depth (self.now.depth + 2) (spec.range_from (within self.now.depth) start left tokens.old) result tokens.new }
@@ -263,8 +256,8 @@ impl<
         start: Span,
         left: Option<Expr>,
         depth: usize,
-    ) -> Front<Expr>
-        requires nests { Nests self.now.depth (T.pre self.now.ty) (T.post self.now.ty) (E.pre self.now.expr) (E.post self.now.expr) (B.pre self.now.bounds) (B.post self.now.bounds) }
+    ) -> Parsed<Expr>
+        requires reads_within { R.reads_within self.now.parts self.now.depth }
         requires depth { depth ≡ optional (option_map expr_depth left) }
         requires limit { depth ≤ self.now.depth + 1 }
         ensures { ReadsKept expr_depth (self.now.depth + 1) (spec.range_from (within self.now.depth) start left tokens.old) result tokens.new }
@@ -278,8 +271,8 @@ impl<
 
     /// A range, or operators of every level.
     #[tactic(auto, unfolding(syn_grammar::specs::Expressions::range))]
-    fn range(&self, tokens: &mut Cursor<'_>) -> Front<Expr>
-        requires { Nests self.now.depth (T.pre self.now.ty) (T.post self.now.ty) (E.pre self.now.expr) (E.post self.now.expr) (B.pre self.now.bounds) (B.post self.now.bounds) }
+    fn range(&self, tokens: &mut Cursor<'_>) -> Parsed<Expr>
+        requires { R.reads_within self.now.parts self.now.depth }
         ensures { ReadsKept expr_depth (self.now.depth + 1) (spec.range (within self.now.depth) tokens.old) result tokens.new }
     {
         let start = tokens.here();
@@ -295,8 +288,8 @@ impl<
 
     /// Any expression.
     #[tactic(auto, unfolding(syn_grammar::specs::Expressions::any))]
-    fn any(&self, tokens: &mut Cursor<'_>) -> Front<Expr>
-        requires { Nests self.now.depth (T.pre self.now.ty) (T.post self.now.ty) (E.pre self.now.expr) (E.post self.now.expr) (B.pre self.now.bounds) (B.post self.now.bounds) }
+    fn any(&self, tokens: &mut Cursor<'_>) -> Parsed<Expr>
+        requires { R.reads_within self.now.parts self.now.depth }
         ensures { ReadsKept expr_depth (self.now.depth + 1) (spec.any (within self.now.depth) tokens.old) result tokens.new }
     {
         if begins_closure(tokens.rest()) {
@@ -308,8 +301,8 @@ impl<
 
     /// An expression of this level or a tighter one.
     #[tactic(auto, unfolding(syn_grammar::specs::Expressions::expr_step))]
-    pub(crate) fn expr_step(&self, tokens: &mut Cursor<'_>, level: u8) -> Front<Expr>
-        requires { Nests self.now.depth (T.pre self.now.ty) (T.post self.now.ty) (E.pre self.now.expr) (E.post self.now.expr) (B.pre self.now.bounds) (B.post self.now.bounds) }
+    pub(crate) fn expr_step(&self, tokens: &mut Cursor<'_>, level: u8) -> Parsed<Expr>
+        requires { R.reads_within self.now.parts self.now.depth }
         ensures { ReadsKept expr_depth (self.now.depth + 1) (spec.expr_step (within self.now.depth) level tokens.old) result tokens.new }
     {
         if level == ANY_LEVEL {

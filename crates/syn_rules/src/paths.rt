@@ -9,12 +9,11 @@ ghost use Rattle.syn_grammar.specs.Reads.{Gives, Reads};
 ghost use Rattle.syn_grammar.specs.Token.{lifetime_of};
 ghost use Rattle.tok_types.specs.declared.tree.Delimiter.TheVariants as delimiter;
 ghost use Rattle.syn_lists.specs.Lists.{all_depth};
-ghost use Rattle.syn_rules.specs.Nests.{Nests};
 
-use crate::rules::{CONSTANT_LEVEL, Rules};
+use crate::rules::{CONSTANT_LEVEL, ReadParts, Rules};
 use node_expr::{
-    Boxed, Delimiter, Expr, GenericArgument, Items, Lifetime, Path, PathArguments, PathSegment,
-    QSelf, ReturnType, Span, TraitBound, Type, TypeParamBound,
+    Boxed, Delimiter, GenericArgument, Items, Lifetime, Path, PathArguments, PathSegment, QSelf,
+    ReturnType, Span, TraitBound, Type, TypeParamBound,
 };
 use node_make::make;
 use std::alloc::Global;
@@ -22,10 +21,10 @@ use syn_grammar::{
     ArgumentStart, ArgumentsStart, Cursor, ReadFail, Word, argument_start, arguments_start,
     lifetime_of,
 };
-use syn_lists::{Front, Joint, inside, items_after, joined_by, until};
+use syn_lists::{Joint, Parsed, inside, items_after, joined_by, until};
 
 /// A lifetime, which has no depth.
-fn lifetime(alloc: Global, tokens: &mut Cursor<'_>) -> Front<Lifetime>
+fn lifetime(alloc: Global, tokens: &mut Cursor<'_>) -> Parsed<Lifetime>
     ensures { Reads (λ it. 0) 0 (input.take_as lifetime_of tokens.old) result tokens.new }
 {
     let lifetime = tokens.take_lifetime(alloc)?;
@@ -47,15 +46,11 @@ pub fn binder(alloc: Global, tokens: &mut Cursor<'_>) -> Result<Items<Lifetime>,
     Ok(lifetimes)
 }
 
-impl<
-    T: Fn(Global, &mut Cursor<'_>, usize, bool) -> Front<Type>,
-    E: Fn(Global, &mut Cursor<'_>, usize, u8) -> Front<Expr>,
-    B: Fn(Global, &mut Cursor<'_>, usize) -> Front<Items<TypeParamBound>>,
-> Rules<T, E, B> {
+impl<R: ReadParts> Rules<R> {
     /// `-> type`, or nothing. The type has one bound.
     #[tactic(auto, unfolding(syn_grammar::specs::Paths::return_type), using(syn_grammar::proofs::Depths::depths))]
-    pub(crate) fn return_type(&self, tokens: &mut Cursor<'_>) -> Front<ReturnType>
-        requires { Nests self.now.depth (T.pre self.now.ty) (T.post self.now.ty) (E.pre self.now.expr) (E.post self.now.expr) (B.pre self.now.bounds) (B.post self.now.bounds) }
+    pub(crate) fn return_type(&self, tokens: &mut Cursor<'_>) -> Parsed<ReturnType>
+        requires { R.reads_within self.now.parts self.now.depth }
         ensures { Reads return_depth self.now.depth (paths.return_type (within self.now.depth) tokens.old) result tokens.new }
     {
         if !tokens.eat_arrow() {
@@ -71,8 +66,8 @@ impl<
         tokens: &mut Cursor<'_>,
         found: Items<Type>,
         depth: usize,
-    ) -> Front<Items<Type>>
-        requires nests { Nests self.now.depth (T.pre self.now.ty) (T.post self.now.ty) (E.pre self.now.expr) (E.post self.now.expr) (B.pre self.now.bounds) (B.post self.now.bounds) }
+    ) -> Parsed<Items<Type>>
+        requires reads_within { R.reads_within self.now.parts self.now.depth }
         requires found { depth ≡ all_depth type_depth found }
         requires within { depth ≤ self.now.depth }
         ensures { Reads (all_depth type_depth) self.now.depth (input.items_after ((within self.now.depth).ty true) found tokens.old) result tokens.new }
@@ -86,16 +81,16 @@ impl<
     }
 
     /// All types of a list.
-    fn type_list(&self, tokens: &mut Cursor<'_>) -> Front<Items<Type>>
-        requires { Nests self.now.depth (T.pre self.now.ty) (T.post self.now.ty) (E.pre self.now.expr) (E.post self.now.expr) (B.pre self.now.bounds) (B.post self.now.bounds) }
+    fn type_list(&self, tokens: &mut Cursor<'_>) -> Parsed<Items<Type>>
+        requires { R.reads_within self.now.parts self.now.depth }
         ensures { Reads (all_depth type_depth) self.now.depth (paths.list ((within self.now.depth).ty true) tokens.old) result tokens.new }
     {
         self.types_after(tokens, Items::new(self.alloc), 0)
     }
 
     /// The types in `(A, B)`.
-    fn inputs(&self, tokens: &mut Cursor<'_>) -> Front<Items<Type>>
-        requires { Nests self.now.depth (T.pre self.now.ty) (T.post self.now.ty) (E.pre self.now.expr) (E.post self.now.expr) (B.pre self.now.bounds) (B.post self.now.bounds) }
+    fn inputs(&self, tokens: &mut Cursor<'_>) -> Parsed<Items<Type>>
+        requires { R.reads_within self.now.parts self.now.depth }
         ensures { Reads (all_depth type_depth) self.now.depth (input.inside delimiter.Parenthesis (paths.list ((within self.now.depth).ty true)) tokens.old) result tokens.new }
     {
         inside(
@@ -107,8 +102,8 @@ impl<
 
     /// `(A, B) -> C`
     #[tactic(auto, unfolding(syn_grammar::specs::Paths::parenthesized), using(syn_grammar::proofs::Depths::depths))]
-    fn parenthesized(&self, tokens: &mut Cursor<'_>) -> Front<PathArguments>
-        requires { Nests self.now.depth (T.pre self.now.ty) (T.post self.now.ty) (E.pre self.now.expr) (E.post self.now.expr) (B.pre self.now.bounds) (B.post self.now.bounds) }
+    fn parenthesized(&self, tokens: &mut Cursor<'_>) -> Parsed<PathArguments>
+        requires { R.reads_within self.now.parts self.now.depth }
         ensures { Reads arguments_depth self.now.depth (paths.parenthesized (within self.now.depth) tokens.old) result tokens.new }
     {
         let start = tokens.here();
@@ -127,8 +122,8 @@ impl<
 
     /// `N = 8`
     #[tactic(auto, unfolding(syn_grammar::specs::Paths::assoc_const), using(syn_grammar::proofs::Depths::depths))]
-    fn assoc_const(&self, tokens: &mut Cursor<'_>) -> Front<GenericArgument>
-        requires { Nests self.now.depth (T.pre self.now.ty) (T.post self.now.ty) (E.pre self.now.expr) (E.post self.now.expr) (B.pre self.now.bounds) (B.post self.now.bounds) }
+    fn assoc_const(&self, tokens: &mut Cursor<'_>) -> Parsed<GenericArgument>
+        requires { R.reads_within self.now.parts self.now.depth }
         ensures { Reads argument_depth self.now.depth (paths.assoc_const (within self.now.depth) tokens.old) result tokens.new }
     {
         let start = tokens.here();
@@ -141,8 +136,8 @@ impl<
 
     /// `Item = u8`
     #[tactic(auto, unfolding(syn_grammar::specs::Paths::assoc_type), using(syn_grammar::proofs::Depths::depths))]
-    fn assoc_type(&self, tokens: &mut Cursor<'_>) -> Front<GenericArgument>
-        requires { Nests self.now.depth (T.pre self.now.ty) (T.post self.now.ty) (E.pre self.now.expr) (E.post self.now.expr) (B.pre self.now.bounds) (B.post self.now.bounds) }
+    fn assoc_type(&self, tokens: &mut Cursor<'_>) -> Parsed<GenericArgument>
+        requires { R.reads_within self.now.parts self.now.depth }
         ensures { Reads argument_depth self.now.depth (paths.assoc_type (within self.now.depth) tokens.old) result tokens.new }
     {
         let start = tokens.here();
@@ -155,8 +150,8 @@ impl<
 
     /// `I: Copy`
     #[tactic(auto, unfolding(syn_grammar::specs::Paths::constraint), using(syn_grammar::proofs::Depths::depths))]
-    fn constraint(&self, tokens: &mut Cursor<'_>) -> Front<GenericArgument>
-        requires { Nests self.now.depth (T.pre self.now.ty) (T.post self.now.ty) (E.pre self.now.expr) (E.post self.now.expr) (B.pre self.now.bounds) (B.post self.now.bounds) }
+    fn constraint(&self, tokens: &mut Cursor<'_>) -> Parsed<GenericArgument>
+        requires { R.reads_within self.now.parts self.now.depth }
         ensures { Reads argument_depth self.now.depth (paths.constraint (within self.now.depth) tokens.old) result tokens.new }
     {
         let start = tokens.here();
@@ -176,8 +171,8 @@ impl<
 
     /// One of the arguments in `<..>`.
     #[tactic(auto, unfolding(syn_grammar::specs::Paths::generic_argument), using(syn_grammar::proofs::Depths::depths))]
-    pub(crate) fn generic_argument(&self, tokens: &mut Cursor<'_>) -> Front<GenericArgument>
-        requires { Nests self.now.depth (T.pre self.now.ty) (T.post self.now.ty) (E.pre self.now.expr) (E.post self.now.expr) (B.pre self.now.bounds) (B.post self.now.bounds) }
+    pub(crate) fn generic_argument(&self, tokens: &mut Cursor<'_>) -> Parsed<GenericArgument>
+        requires { R.reads_within self.now.parts self.now.depth }
         ensures { Reads argument_depth self.now.depth (paths.generic_argument (within self.now.depth) tokens.old) result tokens.new }
     {
         match argument_start(tokens.rest()) {
@@ -200,8 +195,8 @@ impl<
     }
 
     /// What is left of the arguments in `<..>`, with its end.
-    pub(crate) fn angle_arguments(&self, tokens: &mut Cursor<'_>) -> Front<Items<GenericArgument>>
-        requires { Nests self.now.depth (T.pre self.now.ty) (T.post self.now.ty) (E.pre self.now.expr) (E.post self.now.expr) (B.pre self.now.bounds) (B.post self.now.bounds) }
+    pub(crate) fn angle_arguments(&self, tokens: &mut Cursor<'_>) -> Parsed<Items<GenericArgument>>
+        requires { R.reads_within self.now.parts self.now.depth }
         ensures { Reads (all_depth argument_depth) self.now.depth (paths.angle_list (paths.generic_argument (within self.now.depth)) tokens.old) result tokens.new }
     {
         until(self.alloc, tokens, '>', |tokens: &mut Cursor<'_>| {
@@ -211,8 +206,8 @@ impl<
 
     /// What follows the word of a segment: `::<A>`, and in a type also `<A>` or `(A) -> B`.
     #[tactic(auto, unfolding(syn_grammar::specs::Paths::arguments), using(syn_grammar::proofs::Depths::depths))]
-    fn arguments(&self, tokens: &mut Cursor<'_>, in_type: bool) -> Front<PathArguments>
-        requires { Nests self.now.depth (T.pre self.now.ty) (T.post self.now.ty) (E.pre self.now.expr) (E.post self.now.expr) (B.pre self.now.bounds) (B.post self.now.bounds) }
+    fn arguments(&self, tokens: &mut Cursor<'_>, in_type: bool) -> Parsed<PathArguments>
+        requires { R.reads_within self.now.parts self.now.depth }
         ensures { Reads arguments_depth self.now.depth (paths.arguments (within self.now.depth) in_type tokens.old) result tokens.new }
     {
         match arguments_start(in_type, tokens.rest()) {
@@ -233,8 +228,8 @@ impl<
 
     /// One segment of a path. In a type `<` may stand for `::<`, and inputs in parentheses may follow.
     #[tactic(auto, unfolding(syn_grammar::specs::Paths::segment), using(syn_grammar::proofs::Depths::depths))]
-    fn segment(&self, tokens: &mut Cursor<'_>, in_type: bool) -> Front<PathSegment>
-        requires { Nests self.now.depth (T.pre self.now.ty) (T.post self.now.ty) (E.pre self.now.expr) (E.post self.now.expr) (B.pre self.now.bounds) (B.post self.now.bounds) }
+    fn segment(&self, tokens: &mut Cursor<'_>, in_type: bool) -> Parsed<PathSegment>
+        requires { R.reads_within self.now.parts self.now.depth }
         ensures { Reads segment_depth self.now.depth (paths.segment (within self.now.depth) in_type tokens.old) result tokens.new }
     {
         let start = tokens.here();
@@ -253,8 +248,8 @@ impl<
 
     /// Segments joined by `::`.
     #[tactic(auto, unfolding(syn_grammar::specs::Paths::segments), using(syn_grammar::proofs::Depths::depths))]
-    fn segments(&self, tokens: &mut Cursor<'_>, in_type: bool) -> Front<Items<PathSegment>>
-        requires { Nests self.now.depth (T.pre self.now.ty) (T.post self.now.ty) (E.pre self.now.expr) (E.post self.now.expr) (B.pre self.now.bounds) (B.post self.now.bounds) }
+    fn segments(&self, tokens: &mut Cursor<'_>, in_type: bool) -> Parsed<Items<PathSegment>>
+        requires { R.reads_within self.now.parts self.now.depth }
         ensures { Reads (all_depth segment_depth) self.now.depth (paths.segments (within self.now.depth) in_type tokens.old) result tokens.new }
     {
         joined_by(
@@ -267,8 +262,8 @@ impl<
 
     /// A path, of a type or of an expression.
     #[tactic(auto, unfolding(syn_grammar::specs::Paths::path), using(syn_grammar::proofs::Depths::depths))]
-    pub(crate) fn path(&self, tokens: &mut Cursor<'_>, in_type: bool) -> Front<Path>
-        requires { Nests self.now.depth (T.pre self.now.ty) (T.post self.now.ty) (E.pre self.now.expr) (E.post self.now.expr) (B.pre self.now.bounds) (B.post self.now.bounds) }
+    pub(crate) fn path(&self, tokens: &mut Cursor<'_>, in_type: bool) -> Parsed<Path>
+        requires { R.reads_within self.now.parts self.now.depth }
         ensures { Reads path_depth self.now.depth (paths.path (within self.now.depth) in_type tokens.old) result tokens.new }
     {
         let start = tokens.here();
@@ -294,8 +289,8 @@ impl<
         start: Span,
         ty: Boxed<Type>,
         depth: usize,
-    ) -> Front<(QSelf, Path)>
-        requires nests { Nests self.now.depth (T.pre self.now.ty) (T.post self.now.ty) (E.pre self.now.expr) (E.post self.now.expr) (B.pre self.now.bounds) (B.post self.now.bounds) }
+    ) -> Parsed<(QSelf, Path)>
+        requires reads_within { R.reads_within self.now.parts self.now.depth }
         requires depth { depth ≡ type_depth ty }
         requires within { depth ≤ self.now.depth }
         ensures { Reads (λ found. max (type_depth found.0.ty) (path_depth found.1)) self.now.depth (paths.after_as (within self.now.depth) in_type start ty tokens.old) result tokens.new }
@@ -332,8 +327,8 @@ impl<
         start: Span,
         ty: Boxed<Type>,
         depth: usize,
-    ) -> Front<(QSelf, Path)>
-        requires nests { Nests self.now.depth (T.pre self.now.ty) (T.post self.now.ty) (E.pre self.now.expr) (E.post self.now.expr) (B.pre self.now.bounds) (B.post self.now.bounds) }
+    ) -> Parsed<(QSelf, Path)>
+        requires reads_within { R.reads_within self.now.parts self.now.depth }
         requires depth { depth ≡ type_depth ty }
         requires within { depth ≤ self.now.depth }
         ensures { Reads (λ found. max (type_depth found.0.ty) (path_depth found.1)) self.now.depth (paths.without_as (within self.now.depth) in_type start ty tokens.old) result tokens.new }
@@ -359,8 +354,8 @@ impl<
 
     /// `<T as a::b::Trait>::Item`, `<T>::Item`
     #[tactic(auto, unfolding(syn_grammar::specs::Paths::qualified))]
-    pub(crate) fn qualified(&self, tokens: &mut Cursor<'_>, in_type: bool) -> Front<(QSelf, Path)>
-        requires { Nests self.now.depth (T.pre self.now.ty) (T.post self.now.ty) (E.pre self.now.expr) (E.post self.now.expr) (B.pre self.now.bounds) (B.post self.now.bounds) }
+    pub(crate) fn qualified(&self, tokens: &mut Cursor<'_>, in_type: bool) -> Parsed<(QSelf, Path)>
+        requires { R.reads_within self.now.parts self.now.depth }
         ensures { Reads (λ found. max (type_depth found.0.ty) (path_depth found.1)) self.now.depth (paths.qualified (within self.now.depth) in_type tokens.old) result tokens.new }
     {
         let start = tokens.here();
@@ -376,8 +371,8 @@ impl<
 
     /// `Copy`, `?Sized`, `for<'a> Fn(&'a T) -> bool`
     #[tactic(auto, unfolding(syn_grammar::specs::Paths::trait_bound), using(syn_grammar::proofs::Depths::depths))]
-    fn trait_bound(&self, tokens: &mut Cursor<'_>) -> Front<TypeParamBound>
-        requires { Nests self.now.depth (T.pre self.now.ty) (T.post self.now.ty) (E.pre self.now.expr) (E.post self.now.expr) (B.pre self.now.bounds) (B.post self.now.bounds) }
+    fn trait_bound(&self, tokens: &mut Cursor<'_>) -> Parsed<TypeParamBound>
+        requires { R.reads_within self.now.parts self.now.depth }
         ensures { Reads bound_depth self.now.depth (paths.trait_bound (within self.now.depth) tokens.old) result tokens.new }
     {
         let start = tokens.here();
@@ -396,8 +391,8 @@ impl<
 
     /// A lifetime, or a bound that is a path.
     #[tactic(auto, unfolding(syn_grammar::specs::Paths::one_bound), using(syn_grammar::proofs::Depths::depths))]
-    fn one_bound(&self, tokens: &mut Cursor<'_>) -> Front<TypeParamBound>
-        requires { Nests self.now.depth (T.pre self.now.ty) (T.post self.now.ty) (E.pre self.now.expr) (E.post self.now.expr) (B.pre self.now.bounds) (B.post self.now.bounds) }
+    fn one_bound(&self, tokens: &mut Cursor<'_>) -> Parsed<TypeParamBound>
+        requires { R.reads_within self.now.parts self.now.depth }
         ensures { Reads bound_depth self.now.depth (paths.one_bound (within self.now.depth) tokens.old) result tokens.new }
     {
         if lifetime_of(tokens.rest()).is_some() {
@@ -409,8 +404,8 @@ impl<
 
     /// Bounds joined by `+`.
     #[tactic(auto, unfolding(syn_grammar::specs::Paths::joined_bounds), using(syn_grammar::proofs::Depths::depths))]
-    pub(crate) fn joined_bounds(&self, tokens: &mut Cursor<'_>) -> Front<Items<TypeParamBound>>
-        requires { Nests self.now.depth (T.pre self.now.ty) (T.post self.now.ty) (E.pre self.now.expr) (E.post self.now.expr) (B.pre self.now.bounds) (B.post self.now.bounds) }
+    pub(crate) fn joined_bounds(&self, tokens: &mut Cursor<'_>) -> Parsed<Items<TypeParamBound>>
+        requires { R.reads_within self.now.parts self.now.depth }
         ensures { Reads (all_depth bound_depth) self.now.depth (paths.joined_bounds (within self.now.depth) tokens.old) result tokens.new }
     {
         joined_by(
@@ -423,11 +418,15 @@ impl<
 
     /// Bounds joined by `+`; or one alone.
     #[tactic(auto, unfolding(syn_grammar::specs::Paths::bounds), using(syn_grammar::proofs::Depths::depths))]
-    pub(crate) fn bounds(&self, tokens: &mut Cursor<'_>, many: bool) -> Front<Items<TypeParamBound>>
-        requires { Nests self.now.depth (T.pre self.now.ty) (T.post self.now.ty) (E.pre self.now.expr) (E.post self.now.expr) (B.pre self.now.bounds) (B.post self.now.bounds) }
-        ensures { Reads (all_depth bound_depth) self.now.depth (paths.bounds (within self.now.depth) many tokens.old) result tokens.new }
+    pub(crate) fn bounds(
+        &self,
+        tokens: &mut Cursor<'_>,
+        allow_plus: bool,
+    ) -> Parsed<Items<TypeParamBound>>
+        requires { R.reads_within self.now.parts self.now.depth }
+        ensures { Reads (all_depth bound_depth) self.now.depth (paths.bounds (within self.now.depth) allow_plus tokens.old) result tokens.new }
     {
-        if many {
+        if allow_plus {
             return self.joined_bounds(tokens);
         }
         let (bound, depth) = self.one_bound(tokens)?;
@@ -435,8 +434,8 @@ impl<
     }
 
     /// The bounds of a constraint, which are one level.
-    pub(crate) fn bounds_step(&self, tokens: &mut Cursor<'_>) -> Front<Items<TypeParamBound>>
-        requires { Nests self.now.depth (T.pre self.now.ty) (T.post self.now.ty) (E.pre self.now.expr) (E.post self.now.expr) (B.pre self.now.bounds) (B.post self.now.bounds) }
+    pub(crate) fn bounds_step(&self, tokens: &mut Cursor<'_>) -> Parsed<Items<TypeParamBound>>
+        requires { R.reads_within self.now.parts self.now.depth }
         ensures { Reads bounds_depth (self.now.depth + 1) (paths.bounds (within self.now.depth) true tokens.old) result tokens.new }
     {
         let (found, depth) = self.bounds(tokens, true)?;

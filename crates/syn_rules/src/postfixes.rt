@@ -12,18 +12,16 @@ ghost use Rattle.syn_grammar.specs.Input.{inside};
 ghost use Rattle.syn_grammar.specs.Readers.{any_level};
 ghost use Rattle.syn_grammar.specs.Reads.{Reads, ReadsKept};
 ghost use Rattle.syn_lists.specs.Lists.{all_depth};
-ghost use Rattle.syn_rules.specs.Nests.{Nests};
 ghost use Rattle.syn_rules.specs.Postfixes.{goes_on};
 
-use crate::rules::{ANY_LEVEL, Rules};
+use crate::rules::{ANY_LEVEL, ReadParts, Rules};
 use base_core::Items;
-use node_expr::{Delimiter, Expr, Ident, Member, Span, Type, TypeParamBound};
+use node_expr::{Delimiter, Expr, Ident, Member, Span};
 use node_make::make;
-use std::alloc::Global;
 use syn_grammar::{
     AtomStart, Cursor, PostfixStart, ReadFail, is_group, is_turbofish, name_of, postfix_start,
 };
-use syn_lists::Front;
+use syn_lists::Parsed;
 
 fn goes_on(begins: PostfixStart) -> bool
     ensures { result ≡ goes_on begins }
@@ -31,14 +29,10 @@ fn goes_on(begins: PostfixStart) -> bool
     !matches!(begins, PostfixStart::Nothing)
 }
 
-impl<
-    T: Fn(Global, &mut Cursor<'_>, usize, bool) -> Front<Type>,
-    E: Fn(Global, &mut Cursor<'_>, usize, u8) -> Front<Expr>,
-    B: Fn(Global, &mut Cursor<'_>, usize) -> Front<Items<TypeParamBound>>,
-> Rules<T, E, B> {
+impl<R: ReadParts> Rules<R> {
     /// `(a, b)`
-    fn args(&self, tokens: &mut Cursor<'_>) -> Front<Items<Expr>>
-        requires { Nests self.now.depth (T.pre self.now.ty) (T.post self.now.ty) (E.pre self.now.expr) (E.post self.now.expr) (B.pre self.now.bounds) (B.post self.now.bounds) }
+    fn args(&self, tokens: &mut Cursor<'_>) -> Parsed<Items<Expr>>
+        requires { R.reads_within self.now.parts self.now.depth }
         ensures { Reads (all_depth expr_depth) self.now.depth (spec.args (within self.now.depth) tokens.old) result tokens.new }
     {
         if !is_group(Delimiter::Parenthesis, tokens.rest()) {
@@ -60,8 +54,8 @@ impl<
         receiver: Expr,
         depth: usize,
         method: Ident,
-    ) -> Front<Expr>
-        requires nests { Nests self.now.depth (T.pre self.now.ty) (T.post self.now.ty) (E.pre self.now.expr) (E.post self.now.expr) (B.pre self.now.bounds) (B.post self.now.bounds) }
+    ) -> Parsed<Expr>
+        requires reads_within { R.reads_within self.now.parts self.now.depth }
         requires depth { depth ≡ expr_depth receiver }
         requires limit { depth ≤ self.now.depth + 1 }
         ensures { Reads expr_depth (self.now.depth + 2) (spec.turbofish_call (within self.now.depth) start receiver method tokens.old) result tokens.new }
@@ -83,8 +77,8 @@ impl<
         receiver: Expr,
         depth: usize,
         method: Ident,
-    ) -> Front<Expr>
-        requires nests { Nests self.now.depth (T.pre self.now.ty) (T.post self.now.ty) (E.pre self.now.expr) (E.post self.now.expr) (B.pre self.now.bounds) (B.post self.now.bounds) }
+    ) -> Parsed<Expr>
+        requires reads_within { R.reads_within self.now.parts self.now.depth }
         requires depth { depth ≡ expr_depth receiver }
         requires limit { depth ≤ self.now.depth + 1 }
         ensures { Reads expr_depth (self.now.depth + 2) (spec.method_call (within self.now.depth) start receiver method tokens.old) result tokens.new }
@@ -105,8 +99,8 @@ impl<
         base: Expr,
         depth: usize,
         member: Member,
-    ) -> Front<Expr>
-        requires nests { Nests self.now.depth (T.pre self.now.ty) (T.post self.now.ty) (E.pre self.now.expr) (E.post self.now.expr) (B.pre self.now.bounds) (B.post self.now.bounds) }
+    ) -> Parsed<Expr>
+        requires reads_within { R.reads_within self.now.parts self.now.depth }
         requires depth { depth ≡ expr_depth base }
         requires limit { depth ≤ self.now.depth + 1 }
         ensures { Reads expr_depth (self.now.depth + 2) (spec.field (within self.now.depth) start base member tokens.old) result tokens.new }
@@ -124,8 +118,8 @@ impl<
         base: Expr,
         depth: usize,
         name: Ident,
-    ) -> Front<Expr>
-        requires nests { Nests self.now.depth (T.pre self.now.ty) (T.post self.now.ty) (E.pre self.now.expr) (E.post self.now.expr) (B.pre self.now.bounds) (B.post self.now.bounds) }
+    ) -> Parsed<Expr>
+        requires reads_within { R.reads_within self.now.parts self.now.depth }
         requires depth { depth ≡ expr_depth base }
         requires limit { depth ≤ self.now.depth + 1 }
         ensures { Reads expr_depth (self.now.depth + 2) (spec.named_member (within self.now.depth) start base name tokens.old) result tokens.new }
@@ -141,8 +135,8 @@ impl<
 
     /// What stands behind a `.`.
     #[tactic(auto, unfolding(syn_grammar::specs::Expressions::member))]
-    fn member(&self, tokens: &mut Cursor<'_>, start: Span, base: Expr, depth: usize) -> Front<Expr>
-        requires nests { Nests self.now.depth (T.pre self.now.ty) (T.post self.now.ty) (E.pre self.now.expr) (E.post self.now.expr) (B.pre self.now.bounds) (B.post self.now.bounds) }
+    fn member(&self, tokens: &mut Cursor<'_>, start: Span, base: Expr, depth: usize) -> Parsed<Expr>
+        requires reads_within { R.reads_within self.now.parts self.now.depth }
         requires depth { depth ≡ expr_depth base }
         requires limit { depth ≤ self.now.depth + 1 }
         ensures { Reads expr_depth (self.now.depth + 2) (spec.member (within self.now.depth) start base tokens.old) result tokens.new }
@@ -157,8 +151,8 @@ impl<
 
     /// `func(a, b)`
     #[tactic(auto, unfolding(syn_grammar::specs::Expressions::call), using(syn_grammar::proofs::Depths::depths))]
-    fn call(&self, tokens: &mut Cursor<'_>, start: Span, func: Expr, depth: usize) -> Front<Expr>
-        requires nests { Nests self.now.depth (T.pre self.now.ty) (T.post self.now.ty) (E.pre self.now.expr) (E.post self.now.expr) (B.pre self.now.bounds) (B.post self.now.bounds) }
+    fn call(&self, tokens: &mut Cursor<'_>, start: Span, func: Expr, depth: usize) -> Parsed<Expr>
+        requires reads_within { R.reads_within self.now.parts self.now.depth }
         requires depth { depth ≡ expr_depth func }
         requires limit { depth ≤ self.now.depth + 1 }
         ensures { Reads expr_depth (self.now.depth + 2) (spec.call (within self.now.depth) start func tokens.old) result tokens.new }
@@ -170,8 +164,8 @@ impl<
     }
 
     /// `[index]`
-    fn bracketed(&self, tokens: &mut Cursor<'_>) -> Front<Expr>
-        requires { Nests self.now.depth (T.pre self.now.ty) (T.post self.now.ty) (E.pre self.now.expr) (E.post self.now.expr) (B.pre self.now.bounds) (B.post self.now.bounds) }
+    fn bracketed(&self, tokens: &mut Cursor<'_>) -> Parsed<Expr>
+        requires { R.reads_within self.now.parts self.now.depth }
         ensures { Reads expr_depth self.now.depth (inside delimiter.Bracket ((within self.now.depth).expr any_level) tokens.old) result tokens.new }
     {
         if !is_group(Delimiter::Bracket, tokens.rest()) {
@@ -186,8 +180,8 @@ impl<
 
     /// `base[index]`
     #[tactic(auto, unfolding(syn_grammar::specs::Expressions::index), using(syn_grammar::proofs::Depths::depths))]
-    fn index(&self, tokens: &mut Cursor<'_>, start: Span, base: Expr, depth: usize) -> Front<Expr>
-        requires nests { Nests self.now.depth (T.pre self.now.ty) (T.post self.now.ty) (E.pre self.now.expr) (E.post self.now.expr) (B.pre self.now.bounds) (B.post self.now.bounds) }
+    fn index(&self, tokens: &mut Cursor<'_>, start: Span, base: Expr, depth: usize) -> Parsed<Expr>
+        requires reads_within { R.reads_within self.now.parts self.now.depth }
         requires depth { depth ≡ expr_depth base }
         requires limit { depth ≤ self.now.depth + 1 }
         ensures { Reads expr_depth (self.now.depth + 2) (spec.index (within self.now.depth) start base tokens.old) result tokens.new }
@@ -206,8 +200,8 @@ impl<
         start: Span,
         base: Expr,
         depth: usize,
-    ) -> Front<Expr>
-        requires nests { Nests self.now.depth (T.pre self.now.ty) (T.post self.now.ty) (E.pre self.now.expr) (E.post self.now.expr) (B.pre self.now.bounds) (B.post self.now.bounds) }
+    ) -> Parsed<Expr>
+        requires reads_within { R.reads_within self.now.parts self.now.depth }
         requires depth { depth ≡ expr_depth base }
         requires limit { depth ≤ self.now.depth + 1 }
         ensures { Reads expr_depth (self.now.depth + 2) (spec.question (within self.now.depth) start base tokens.old) result tokens.new }
@@ -226,8 +220,8 @@ impl<
         left: Expr,
         depth: usize,
         begins: PostfixStart,
-    ) -> Front<Expr>
-        requires nests { Nests self.now.depth (T.pre self.now.ty) (T.post self.now.ty) (E.pre self.now.expr) (E.post self.now.expr) (B.pre self.now.bounds) (B.post self.now.bounds) }
+    ) -> Parsed<Expr>
+        requires reads_within { R.reads_within self.now.parts self.now.depth }
         requires depth { depth ≡ expr_depth left }
         requires limit { depth ≤ self.now.depth + 1 }
         ensures { Reads expr_depth (self.now.depth + 2) (spec.postfix_by (within self.now.depth) start left begins tokens.old) result tokens.new }
@@ -251,8 +245,8 @@ impl<
         start: Span,
         mut left: Expr,
         mut depth: usize,
-    ) -> Front<Expr>
-        requires nests { Nests self.now.depth (T.pre self.now.ty) (T.post self.now.ty) (E.pre self.now.expr) (E.post self.now.expr) (B.pre self.now.bounds) (B.post self.now.bounds) }
+    ) -> Parsed<Expr>
+        requires reads_within { R.reads_within self.now.parts self.now.depth }
         requires depth { depth ≡ expr_depth left }
         requires limit { depth ≤ self.now.depth + 1 }
         ensures { ReadsKept expr_depth (self.now.depth + 1) (spec.postfixes (within self.now.depth) start left tokens.old) result tokens.new }
@@ -275,8 +269,8 @@ impl<
 
     /// An atom and what stands behind it.
     #[tactic(auto, unfolding(syn_grammar::specs::Expressions::postfixed))]
-    pub(crate) fn postfixed(&self, tokens: &mut Cursor<'_>, begins: AtomStart) -> Front<Expr>
-        requires { Nests self.now.depth (T.pre self.now.ty) (T.post self.now.ty) (E.pre self.now.expr) (E.post self.now.expr) (B.pre self.now.bounds) (B.post self.now.bounds) }
+    pub(crate) fn postfixed(&self, tokens: &mut Cursor<'_>, begins: AtomStart) -> Parsed<Expr>
+        requires { R.reads_within self.now.parts self.now.depth }
         ensures { ReadsKept expr_depth (self.now.depth + 1) (spec.postfixed (within self.now.depth) begins tokens.old) result tokens.new }
     {
         let start = tokens.here();

@@ -6,19 +6,71 @@ ghost use Rattle.syn_grammar.specs.Grammar.{within, bounds_depth};
 ghost use Rattle.syn_grammar.specs.Paths as paths;
 ghost use Rattle.syn_grammar.specs.Reads.{Reads};
 ghost use Rattle.syn_lists.specs.Lists.{all_depth};
+ghost use Rattle.syn_rules.specs.ReadsParts.{ReadsParts};
 
-use crate::rules::Rules;
+use crate::rules::{ReadParts, Rules};
 use node_expr::{Expr, Items, Path, Type, TypeParamBound};
 use std::alloc::Global;
 use syn_grammar::{Cursor, ReadFail};
-use syn_lists::Front;
+use syn_lists::Parsed;
 
-/// A type that is at most `depth` deep. A `dyn` or `impl` has several bounds where `many` says so,
+/// Readers as values.
+#[derive(Drop)]
+struct Readers<T, E, B> {
+    ty: T,
+    expr: E,
+    bounds: B,
+}
+
+impl<T, E, B> ReadParts for Readers<T, E, B>
+where
+    T: Fn(Global, &mut Cursor<'_>, usize, bool) -> Parsed<Type>,
+    E: Fn(Global, &mut Cursor<'_>, usize, u8) -> Parsed<Expr>,
+    B: Fn(Global, &mut Cursor<'_>, usize) -> Parsed<Items<TypeParamBound>>,
+{
+    ghost reads_within = { λ readers depth. ReadsParts depth (T.pre readers.ty) (T.post readers.ty) (E.pre readers.expr) (E.post readers.expr) (B.pre readers.bounds) (B.post readers.bounds) };
+
+    fn ty(
+        &self,
+        alloc: Global,
+        tokens: &mut Cursor<'_>,
+        depth: usize,
+        allow_plus: bool,
+    ) -> Parsed<Type> {
+        (self.ty)(alloc, tokens, depth, allow_plus)
+    }
+
+    fn expr(
+        &self,
+        alloc: Global,
+        tokens: &mut Cursor<'_>,
+        depth: usize,
+        level: u8,
+    ) -> Parsed<Expr> {
+        (self.expr)(alloc, tokens, depth, level)
+    }
+
+    fn bounds(
+        &self,
+        alloc: Global,
+        tokens: &mut Cursor<'_>,
+        depth: usize,
+    ) -> Parsed<Items<TypeParamBound>> {
+        (self.bounds)(alloc, tokens, depth)
+    }
+}
+
+/// A type that is at most `depth` deep. A `dyn` or `impl` has several bounds where `allow_plus` says so,
 /// and else one.
 #[cycle(parts)]
-pub fn read_type(alloc: Global, tokens: &mut Cursor<'_>, depth: usize, many: bool) -> Front<Type>
+pub fn read_type(
+    alloc: Global,
+    tokens: &mut Cursor<'_>,
+    depth: usize,
+    allow_plus: bool,
+) -> Parsed<Type>
     requires { depth ≤ 1000 }
-    ensures { Reads type_depth depth ((within depth).ty many tokens.old) result tokens.new }
+    ensures { Reads type_depth depth ((within depth).ty allow_plus tokens.old) result tokens.new }
 {
     if depth == 0 {
         return Err(ReadFail::Syntax);
@@ -26,16 +78,18 @@ pub fn read_type(alloc: Global, tokens: &mut Cursor<'_>, depth: usize, many: boo
     Rules {
         alloc,
         depth: depth - 1,
-        ty: read_type,
-        expr: read_expr,
-        bounds: constraint_bounds,
+        parts: Readers {
+            ty: read_type,
+            expr: read_expr,
+            bounds: constraint_bounds,
+        },
     }
-    .type_step(tokens, many)
+    .type_step(tokens, allow_plus)
 }
 
 /// An expression of this level or a tighter one, at most `depth` deep.
 #[cycle(parts)]
-pub fn read_expr(alloc: Global, tokens: &mut Cursor<'_>, depth: usize, level: u8) -> Front<Expr>
+pub fn read_expr(alloc: Global, tokens: &mut Cursor<'_>, depth: usize, level: u8) -> Parsed<Expr>
     requires { depth ≤ 1000 }
     ensures { Reads expr_depth depth ((within depth).expr level tokens.old) result tokens.new }
 {
@@ -45,9 +99,11 @@ pub fn read_expr(alloc: Global, tokens: &mut Cursor<'_>, depth: usize, level: u8
     Rules {
         alloc,
         depth: depth - 1,
-        ty: read_type,
-        expr: read_expr,
-        bounds: constraint_bounds,
+        parts: Readers {
+            ty: read_type,
+            expr: read_expr,
+            bounds: constraint_bounds,
+        },
     }
     .expr_step(tokens, level)
 }
@@ -58,7 +114,7 @@ pub(crate) fn constraint_bounds(
     alloc: Global,
     tokens: &mut Cursor<'_>,
     depth: usize,
-) -> Front<Items<TypeParamBound>>
+) -> Parsed<Items<TypeParamBound>>
     requires { depth ≤ 1000 }
     ensures { Reads bounds_depth depth ((within depth).bounds tokens.old) result tokens.new }
 {
@@ -68,24 +124,33 @@ pub(crate) fn constraint_bounds(
     Rules {
         alloc,
         depth: depth - 1,
-        ty: read_type,
-        expr: read_expr,
-        bounds: constraint_bounds,
+        parts: Readers {
+            ty: read_type,
+            expr: read_expr,
+            bounds: constraint_bounds,
+        },
     }
     .bounds_step(tokens)
 }
 
 /// A path whose parts are at most `depth` deep, as in a type or as in an expression.
-pub fn read_path(alloc: Global, tokens: &mut Cursor<'_>, depth: usize, in_type: bool) -> Front<Path>
+pub fn read_path(
+    alloc: Global,
+    tokens: &mut Cursor<'_>,
+    depth: usize,
+    in_type: bool,
+) -> Parsed<Path>
     requires { depth ≤ 1000 }
     ensures { Reads path_depth depth (paths.path (within depth) in_type tokens.old) result tokens.new }
 {
     let rules = Rules {
         alloc,
         depth,
-        ty: read_type,
-        expr: read_expr,
-        bounds: constraint_bounds,
+        parts: Readers {
+            ty: read_type,
+            expr: read_expr,
+            bounds: constraint_bounds,
+        },
     };
     rules.path(tokens, in_type)
 }
@@ -95,16 +160,18 @@ pub fn read_bounds(
     alloc: Global,
     tokens: &mut Cursor<'_>,
     depth: usize,
-) -> Front<Items<TypeParamBound>>
+) -> Parsed<Items<TypeParamBound>>
     requires { depth ≤ 1000 }
     ensures { Reads (all_depth bound_depth) depth (paths.joined_bounds (within depth) tokens.old) result tokens.new }
 {
     let rules = Rules {
         alloc,
         depth,
-        ty: read_type,
-        expr: read_expr,
-        bounds: constraint_bounds,
+        parts: Readers {
+            ty: read_type,
+            expr: read_expr,
+            bounds: constraint_bounds,
+        },
     };
     rules.joined_bounds(tokens)
 }

@@ -12,21 +12,19 @@ ghost use Rattle.syn_grammar.specs.Words as words;
 ghost use Rattle.syn_grammar.specs.declared.word.Word.TheVariants as word;
 ghost use Rattle.tok_types.specs.declared.tree.Delimiter.TheVariants as delimiter;
 ghost use Rattle.syn_lists.specs.Lists.{all_depth};
-ghost use Rattle.syn_rules.specs.Nests.{Nests};
 
 use crate::paths::binder;
-use crate::rules::{ANY_LEVEL, Rules};
+use crate::rules::{ANY_LEVEL, ReadParts, Rules};
 use node_expr::{
-    Boxed, Delimiter, Expr, Ident, Items, Lifetime, NamedArg, Span, TryClone, Type, TypeArray,
-    TypeFnPtr, TypeImplTrait, TypeInfer, TypeNever, TypeParamBound, TypePath, TypeSlice,
-    TypeTraitObject, TypeTuple,
+    Boxed, Delimiter, Ident, Items, Lifetime, NamedArg, Span, TryClone, Type, TypeArray, TypeFnPtr,
+    TypeImplTrait, TypeInfer, TypeNever, TypePath, TypeSlice, TypeTraitObject, TypeTuple,
 };
 use node_make::make;
 use std::alloc::Global;
 use syn_grammar::{
     Cursor, ReadFail, TypeStart, Word, after_one, is_colon, lifetime_of, name_of, type_start,
 };
-use syn_lists::{Front, inside, items_after};
+use syn_lists::{Parsed, inside, items_after};
 
 /// `'a`, or nothing
 fn optional_lifetime(alloc: Global, tokens: &mut Cursor<'_>) -> Result<Option<Lifetime>, ReadFail>
@@ -41,7 +39,7 @@ fn optional_lifetime(alloc: Global, tokens: &mut Cursor<'_>) -> Result<Option<Li
 
 /// `const`, unless `mut` stood there.
 fn const_unless(mutable: bool, tokens: &mut Cursor<'_>) -> Result<(), ReadFail>
-    ensures { Gives ((if mutable then input.pure tt else input.expect 1 (words.sees word.Const)) tokens.old) result tokens.new }
+    ensures { Gives ((if mutable then input.pure tt else input.expect 1 (words.peek word.Const)) tokens.old) result tokens.new }
 {
     if mutable {
         Ok(())
@@ -66,15 +64,11 @@ fn arg_name(alloc: Global, tokens: &mut Cursor<'_>) -> Result<Option<Ident>, Rea
     Ok(Some(name))
 }
 
-impl<
-    T: Fn(Global, &mut Cursor<'_>, usize, bool) -> Front<Type>,
-    E: Fn(Global, &mut Cursor<'_>, usize, u8) -> Front<Expr>,
-    B: Fn(Global, &mut Cursor<'_>, usize) -> Front<Items<TypeParamBound>>,
-> Rules<T, E, B> {
+impl<R: ReadParts> Rules<R> {
     /// What stands in `(..)`: a tuple where a comma stands, or nothing at all.
     #[tactic(auto, unfolding(syn_grammar::specs::Types::type_group), using(syn_grammar::proofs::MadeDepths::group_depths))]
-    fn type_group(&self, tokens: &mut Cursor<'_>, span: Span) -> Front<Type>
-        requires { Nests self.now.depth (T.pre self.now.ty) (T.post self.now.ty) (E.pre self.now.expr) (E.post self.now.expr) (B.pre self.now.bounds) (B.post self.now.bounds) }
+    fn type_group(&self, tokens: &mut Cursor<'_>, span: Span) -> Parsed<Type>
+        requires { R.reads_within self.now.parts self.now.depth }
         ensures { Reads type_depth (self.now.depth + 1) (types.type_group (within self.now.depth) span tokens.old) result tokens.new }
     {
         if tokens.at_end() {
@@ -93,8 +87,8 @@ impl<
 
     /// What stands in `[..]`.
     #[tactic(auto, unfolding(syn_grammar::specs::Types::type_bracket), using(syn_grammar::proofs::MadeDepths::group_depths))]
-    fn type_bracket(&self, tokens: &mut Cursor<'_>, span: Span) -> Front<Type>
-        requires { Nests self.now.depth (T.pre self.now.ty) (T.post self.now.ty) (E.pre self.now.expr) (E.post self.now.expr) (B.pre self.now.bounds) (B.post self.now.bounds) }
+    fn type_bracket(&self, tokens: &mut Cursor<'_>, span: Span) -> Parsed<Type>
+        requires { R.reads_within self.now.parts self.now.depth }
         ensures { Reads type_depth (self.now.depth + 1) (types.type_bracket (within self.now.depth) span tokens.old) result tokens.new }
     {
         let (elem, depth) = self.ty(tokens, true)?;
@@ -109,8 +103,8 @@ impl<
 
     /// `&'a mut T`
     #[tactic(auto, unfolding(syn_grammar::specs::Types::type_reference), using(syn_grammar::proofs::Depths::depths))]
-    fn type_reference(&self, tokens: &mut Cursor<'_>) -> Front<Type>
-        requires { Nests self.now.depth (T.pre self.now.ty) (T.post self.now.ty) (E.pre self.now.expr) (E.post self.now.expr) (B.pre self.now.bounds) (B.post self.now.bounds) }
+    fn type_reference(&self, tokens: &mut Cursor<'_>) -> Parsed<Type>
+        requires { R.reads_within self.now.parts self.now.depth }
         ensures { Reads type_depth (self.now.depth + 1) (types.type_reference (within self.now.depth) tokens.old) result tokens.new }
     {
         let start = tokens.here();
@@ -125,8 +119,8 @@ impl<
 
     /// `*const T`, `*mut T`
     #[tactic(auto, unfolding(syn_grammar::specs::Types::type_pointer), using(syn_grammar::proofs::Depths::depths))]
-    fn type_pointer(&self, tokens: &mut Cursor<'_>) -> Front<Type>
-        requires { Nests self.now.depth (T.pre self.now.ty) (T.post self.now.ty) (E.pre self.now.expr) (E.post self.now.expr) (B.pre self.now.bounds) (B.post self.now.bounds) }
+    fn type_pointer(&self, tokens: &mut Cursor<'_>) -> Parsed<Type>
+        requires { R.reads_within self.now.parts self.now.depth }
         ensures { Reads type_depth (self.now.depth + 1) (types.type_pointer (within self.now.depth) tokens.old) result tokens.new }
     {
         let start = tokens.here();
@@ -141,8 +135,8 @@ impl<
 
     /// `T`, `name: T`
     #[tactic(auto, unfolding(syn_grammar::specs::Types::named_arg), using(syn_grammar::proofs::Depths::depths))]
-    fn named_arg(&self, tokens: &mut Cursor<'_>) -> Front<NamedArg>
-        requires { Nests self.now.depth (T.pre self.now.ty) (T.post self.now.ty) (E.pre self.now.expr) (E.post self.now.expr) (B.pre self.now.bounds) (B.post self.now.bounds) }
+    fn named_arg(&self, tokens: &mut Cursor<'_>) -> Parsed<NamedArg>
+        requires { R.reads_within self.now.parts self.now.depth }
         ensures { Reads (λ arg. type_depth arg.ty) self.now.depth (types.named_arg (within self.now.depth) tokens.old) result tokens.new }
     {
         let start = tokens.here();
@@ -153,8 +147,8 @@ impl<
     }
 
     /// The inputs in `(A, name: B)`.
-    fn named_args(&self, tokens: &mut Cursor<'_>) -> Front<Items<NamedArg>>
-        requires { Nests self.now.depth (T.pre self.now.ty) (T.post self.now.ty) (E.pre self.now.expr) (E.post self.now.expr) (B.pre self.now.bounds) (B.post self.now.bounds) }
+    fn named_args(&self, tokens: &mut Cursor<'_>) -> Parsed<Items<NamedArg>>
+        requires { R.reads_within self.now.parts self.now.depth }
         ensures { Reads (all_depth (λ arg. type_depth arg.ty)) self.now.depth (input.inside delimiter.Parenthesis (paths.list (types.named_arg (within self.now.depth))) tokens.old) result tokens.new }
     {
         inside(tokens, Delimiter::Parenthesis, |tokens: &mut Cursor<'_>| {
@@ -163,8 +157,8 @@ impl<
     }
 
     /// Inputs of a function pointer, to the end.
-    fn named_arg_list(&self, tokens: &mut Cursor<'_>) -> Front<Items<NamedArg>>
-        requires { Nests self.now.depth (T.pre self.now.ty) (T.post self.now.ty) (E.pre self.now.expr) (E.post self.now.expr) (B.pre self.now.bounds) (B.post self.now.bounds) }
+    fn named_arg_list(&self, tokens: &mut Cursor<'_>) -> Parsed<Items<NamedArg>>
+        requires { R.reads_within self.now.parts self.now.depth }
         ensures { Reads (all_depth (λ arg. type_depth arg.ty)) self.now.depth (paths.list (types.named_arg (within self.now.depth)) tokens.old) result tokens.new }
     {
         items_after(
@@ -177,8 +171,8 @@ impl<
 
     /// `for<'a> fn(&'a A, name: B) -> C`
     #[tactic(auto, unfolding(syn_grammar::specs::Types::type_fn_ptr), using(syn_grammar::proofs::MadeDepths::fn_ptr_depths))]
-    fn type_fn_ptr(&self, tokens: &mut Cursor<'_>) -> Front<Type>
-        requires { Nests self.now.depth (T.pre self.now.ty) (T.post self.now.ty) (E.pre self.now.expr) (E.post self.now.expr) (B.pre self.now.bounds) (B.post self.now.bounds) }
+    fn type_fn_ptr(&self, tokens: &mut Cursor<'_>) -> Parsed<Type>
+        requires { R.reads_within self.now.parts self.now.depth }
         ensures { Reads type_depth (self.now.depth + 1) (types.type_fn_ptr (within self.now.depth) tokens.old) result tokens.new }
     {
         let start = tokens.here();
@@ -198,13 +192,13 @@ impl<
 
     /// `dyn` and bounds
     #[tactic(auto, unfolding(syn_grammar::specs::Types::type_trait_object), using(syn_grammar::proofs::MadeDepths::bounds_depths))]
-    fn type_trait_object(&self, tokens: &mut Cursor<'_>, many: bool) -> Front<Type>
-        requires { Nests self.now.depth (T.pre self.now.ty) (T.post self.now.ty) (E.pre self.now.expr) (E.post self.now.expr) (B.pre self.now.bounds) (B.post self.now.bounds) }
-        ensures { Reads type_depth (self.now.depth + 1) (types.type_trait_object (within self.now.depth) many tokens.old) result tokens.new }
+    fn type_trait_object(&self, tokens: &mut Cursor<'_>, allow_plus: bool) -> Parsed<Type>
+        requires { R.reads_within self.now.parts self.now.depth }
+        ensures { Reads type_depth (self.now.depth + 1) (types.type_trait_object (within self.now.depth) allow_plus tokens.old) result tokens.new }
     {
         let start = tokens.here();
         tokens.skip();
-        let (bounds, depth) = self.bounds(tokens, many)?;
+        let (bounds, depth) = self.bounds(tokens, allow_plus)?;
         let span = tokens.upto(start);
         let object = TypeTraitObject { bounds, span };
         Ok((Type::TraitObject(object), depth + 1))
@@ -212,21 +206,21 @@ impl<
 
     /// `impl` and bounds
     #[tactic(auto, unfolding(syn_grammar::specs::Types::type_impl_trait), using(syn_grammar::proofs::MadeDepths::bounds_depths))]
-    fn type_impl_trait(&self, tokens: &mut Cursor<'_>, many: bool) -> Front<Type>
-        requires { Nests self.now.depth (T.pre self.now.ty) (T.post self.now.ty) (E.pre self.now.expr) (E.post self.now.expr) (B.pre self.now.bounds) (B.post self.now.bounds) }
-        ensures { Reads type_depth (self.now.depth + 1) (types.type_impl_trait (within self.now.depth) many tokens.old) result tokens.new }
+    fn type_impl_trait(&self, tokens: &mut Cursor<'_>, allow_plus: bool) -> Parsed<Type>
+        requires { R.reads_within self.now.parts self.now.depth }
+        ensures { Reads type_depth (self.now.depth + 1) (types.type_impl_trait (within self.now.depth) allow_plus tokens.old) result tokens.new }
     {
         let start = tokens.here();
         tokens.skip();
-        let (bounds, depth) = self.bounds(tokens, many)?;
+        let (bounds, depth) = self.bounds(tokens, allow_plus)?;
         let span = tokens.upto(start);
         Ok((Type::ImplTrait(TypeImplTrait { bounds, span }), depth + 1))
     }
 
     /// `<T as Trait>::Item`
     #[tactic(auto, unfolding(syn_grammar::specs::Types::type_qualified), using(syn_grammar::proofs::Depths::depths))]
-    fn type_qualified(&self, tokens: &mut Cursor<'_>) -> Front<Type>
-        requires { Nests self.now.depth (T.pre self.now.ty) (T.post self.now.ty) (E.pre self.now.expr) (E.post self.now.expr) (B.pre self.now.bounds) (B.post self.now.bounds) }
+    fn type_qualified(&self, tokens: &mut Cursor<'_>) -> Parsed<Type>
+        requires { R.reads_within self.now.parts self.now.depth }
         ensures { Reads type_depth (self.now.depth + 1) (types.type_qualified (within self.now.depth) tokens.old) result tokens.new }
     {
         let start = tokens.here();
@@ -242,8 +236,8 @@ impl<
 
     /// `a::B<T>`
     #[tactic(auto, unfolding(syn_grammar::specs::Types::type_path), using(syn_grammar::proofs::Depths::depths))]
-    fn type_path(&self, tokens: &mut Cursor<'_>) -> Front<Type>
-        requires { Nests self.now.depth (T.pre self.now.ty) (T.post self.now.ty) (E.pre self.now.expr) (E.post self.now.expr) (B.pre self.now.bounds) (B.post self.now.bounds) }
+    fn type_path(&self, tokens: &mut Cursor<'_>) -> Parsed<Type>
+        requires { R.reads_within self.now.parts self.now.depth }
         ensures { Reads type_depth (self.now.depth + 1) (types.type_path (within self.now.depth) tokens.old) result tokens.new }
     {
         let start = tokens.here();
@@ -259,8 +253,8 @@ impl<
 
     /// `(T)`, `(A, B)`, `()`
     #[tactic(auto, unfolding(syn_grammar::specs::Types::type_in_parentheses), using(syn_grammar::proofs::Depths::depths))]
-    fn type_in_parentheses(&self, tokens: &mut Cursor<'_>) -> Front<Type>
-        requires { Nests self.now.depth (T.pre self.now.ty) (T.post self.now.ty) (E.pre self.now.expr) (E.post self.now.expr) (B.pre self.now.bounds) (B.post self.now.bounds) }
+    fn type_in_parentheses(&self, tokens: &mut Cursor<'_>) -> Parsed<Type>
+        requires { R.reads_within self.now.parts self.now.depth }
         ensures { Reads type_depth (self.now.depth + 1) (types.type_in_parentheses (within self.now.depth) tokens.old) result tokens.new }
     {
         let span = tokens.here();
@@ -271,8 +265,8 @@ impl<
 
     /// `[T]`, `[T; n]`
     #[tactic(auto, unfolding(syn_grammar::specs::Types::type_in_brackets), using(syn_grammar::proofs::Depths::depths))]
-    fn type_in_brackets(&self, tokens: &mut Cursor<'_>) -> Front<Type>
-        requires { Nests self.now.depth (T.pre self.now.ty) (T.post self.now.ty) (E.pre self.now.expr) (E.post self.now.expr) (B.pre self.now.bounds) (B.post self.now.bounds) }
+    fn type_in_brackets(&self, tokens: &mut Cursor<'_>) -> Parsed<Type>
+        requires { R.reads_within self.now.parts self.now.depth }
         ensures { Reads type_depth (self.now.depth + 1) (types.type_in_brackets (within self.now.depth) tokens.old) result tokens.new }
     {
         let span = tokens.here();
@@ -281,11 +275,11 @@ impl<
         })
     }
 
-    /// A type. A `dyn` or `impl` has several bounds where `many` says so, and else one.
+    /// A type. A `dyn` or `impl` has several bounds where `allow_plus` says so, and else one.
     #[tactic(auto, unfolding(syn_grammar::specs::Types::type_step), using(syn_grammar::proofs::Depths::depths))]
-    pub(crate) fn type_step(&self, tokens: &mut Cursor<'_>, many: bool) -> Front<Type>
-        requires { Nests self.now.depth (T.pre self.now.ty) (T.post self.now.ty) (E.pre self.now.expr) (E.post self.now.expr) (B.pre self.now.bounds) (B.post self.now.bounds) }
-        ensures { Reads type_depth (self.now.depth + 1) (types.type_step (within self.now.depth) many tokens.old) result tokens.new }
+    pub(crate) fn type_step(&self, tokens: &mut Cursor<'_>, allow_plus: bool) -> Parsed<Type>
+        requires { R.reads_within self.now.parts self.now.depth }
+        ensures { Reads type_depth (self.now.depth + 1) (types.type_step (within self.now.depth) allow_plus tokens.old) result tokens.new }
     {
         match type_start(tokens.rest()) {
             TypeStart::Parenthesis => self.type_in_parentheses(tokens),
@@ -303,8 +297,8 @@ impl<
             TypeStart::Reference => self.type_reference(tokens),
             TypeStart::Pointer => self.type_pointer(tokens),
             TypeStart::FnPtr => self.type_fn_ptr(tokens),
-            TypeStart::TraitObject => self.type_trait_object(tokens, many),
-            TypeStart::ImplTrait => self.type_impl_trait(tokens, many),
+            TypeStart::TraitObject => self.type_trait_object(tokens, allow_plus),
+            TypeStart::ImplTrait => self.type_impl_trait(tokens, allow_plus),
             TypeStart::Qualified => self.type_qualified(tokens),
             TypeStart::Path => self.type_path(tokens),
             TypeStart::Nothing => Err(ReadFail::Syntax),

@@ -4,7 +4,7 @@ use Rattle.std.proofs.lemmas.List.{append-nil}
 use Rattle.tok_types.specs.declared.tree.Delimiter.{Delimiter}
 use Rattle.tok_types.specs.declared.tree.Delimiter.TheVariants as delimiter
 use Rattle.tok_types.specs.declared.tree.TokenTree.{TokenTree}
-use Rattle.tok_core.specs.Endings.{same_delimiter}
+use Rattle.tok_types.specs.Delimiter.{same_delimiter}
 use Rattle.tok_core.specs.Flat.{Flat, flat_tree, flat_trees, opening, closing}
 use Rattle.tok_core.specs.Nests.{flat_frame, flat_frames, open_over}
 use Rattle.tok_core.specs.declared.nest.Frame.{Frame}

@@ -7,7 +7,7 @@ use Rattle.tok_types.specs.declared.span.Span.{Span}
 use Rattle.tok_types.specs.declared.span.Span.TheVariants.{CallSite}
 use Rattle.tok_types.specs.declared.tree.Delimiter.{Delimiter}
 use Rattle.tok_types.specs.declared.tree.TokenStream.{TokenStream}
-use Rattle.tok_core.specs.Bare.{SameButSpans, flat_at}
+use Rattle.tok_core.specs.Erased.{SameButSpans, flat_at}
 use Rattle.tok_core.specs.Endings.{open_after, open_after_one, done, deep, wrong, EndsAt, Refused}
 use Rattle.tok_core.specs.Flat.{Flat, token, opening, closing, flat_stream, stream_view}
 use Rattle.tok_core.specs.Printing.{stream_text}

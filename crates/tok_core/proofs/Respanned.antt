@@ -8,7 +8,7 @@ use Rattle.tok_types.specs.declared.tree.TokenStream.{TokenStream, roll-TokenStr
 use Rattle.tok_types.specs.declared.tree.TokenTree.{TokenTree, roll-TokenTree, the_lemmas}
 use Rattle.tok_types.specs.declared.tree.TokenTree.TheFolds.{fold-Group, ind-TokenStream, map-TokenTree}
 use Rattle.tok_types.specs.declared.tree.TokenTree.TheOpen.{TokenTree-F, Group-F, TokenStream-F}
-use Rattle.tok_core.specs.Bare.{SameButSpans, token_at, flat_at}
+use Rattle.tok_core.specs.Erased.{SameButSpans, token_at, flat_at}
 use Rattle.tok_core.specs.Flat.{opening, closing, start_of, end_of, Tree, Trees, leaf, branch, no_trees, more_trees, trees_of, tree_step, group_step, stream_step, tree_view, stream_view, flat_of, flats_of, flat_stream}
 use Rattle.tok_types.specs.Respan.{group_at, tree_at, stream_at}
 use Rattle.tok_core.proofs.Trees.{flat_stream-same}
@@ -61,10 +61,10 @@ module _ (s : Span) where
   abbrev SureStream : Type 0
   SureStream = (a : TokenStream) × IsStreamAt a
 
-  abbrev bare_tree : TokenTree-F SureTree SureGroup SureStream → TokenTree-F TokenTree Group TokenStream
-  bare_tree = map-TokenTree SureTree SureGroup SureStream TokenTree Group TokenStream (λ e. e.0) (λ e. e.0) (λ e. e.0)
+  abbrev erased_tree : TokenTree-F SureTree SureGroup SureStream → TokenTree-F TokenTree Group TokenStream
+  erased_tree = map-TokenTree SureTree SureGroup SureStream TokenTree Group TokenStream (λ e. e.0) (λ e. e.0) (λ e. e.0)
 
-  tree_step-at : (y : TokenTree-F SureTree SureGroup SureStream) → IsTreeAt (roll-TokenTree (bare_tree y))
+  tree_step-at : (y : TokenTree-F SureTree SureGroup SureStream) → IsTreeAt (roll-TokenTree (erased_tree y))
   tree_step-at (TokenTree-F.Ident it) = search (rules, the_lemmas)
   tree_step-at (TokenTree-F.Lifetime it) = search (rules, the_lemmas)
   tree_step-at (TokenTree-F.Punct it) = search (rules, the_lemmas)

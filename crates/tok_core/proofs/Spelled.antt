@@ -19,7 +19,7 @@ use Rattle.tok_types.specs.declared.span.Span.TheVariants.{CallSite, At}
 use Rattle.tok_types.specs.declared.tree.Delimiter.{Delimiter}
 use Rattle.tok_types.specs.declared.tree.Delimiter.TheVariants as delimiter
 use Rattle.tok_types.specs.declared.tree.Punct.{Punct}
-use Rattle.tok_core.specs.Bare.{flat_at}
+use Rattle.tok_core.specs.Erased.{flat_at}
 use Rattle.tok_core.specs.Flat.{Flat, token, ident, lifetime, punct, literal, opening, closing}
 use Rattle.tok_core.specs.Printing.{between}
 use Rattle.tok_core.specs.Readable.{IsSpelled, IsVisible, mark_next, IsJoined, begins_comment, EachWithRest}

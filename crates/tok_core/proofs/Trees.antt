@@ -124,13 +124,13 @@ SureGroup = (g : Group) × IsGroupBack g
 abbrev SureStream : Type 0
 SureStream = (s : TokenStream) × IsStreamBack s
 
-abbrev bare_tree : TokenTree-F SureTree SureGroup SureStream → TokenTree-F TokenTree Group TokenStream
-bare_tree = map-TokenTree SureTree SureGroup SureStream TokenTree Group TokenStream (λ e. e.0) (λ e. e.0) (λ e. e.0)
+abbrev erased_tree : TokenTree-F SureTree SureGroup SureStream → TokenTree-F TokenTree Group TokenStream
+erased_tree = map-TokenTree SureTree SureGroup SureStream TokenTree Group TokenStream (λ e. e.0) (λ e. e.0) (λ e. e.0)
 
 abbrev seen_tree : TokenTree-F TokenTree Group TokenStream → TokenTree-F Tree Tree Trees
 seen_tree = map-TokenTree TokenTree Group TokenStream Tree Tree Trees tree_view group_view stream_view
 
-tree_step-back : (y : TokenTree-F SureTree SureGroup SureStream) → tree_back (tree_step (seen_tree (bare_tree y))) ≡ roll-TokenTree (bare_tree y)
+tree_step-back : (y : TokenTree-F SureTree SureGroup SureStream) → tree_back (tree_step (seen_tree (erased_tree y))) ≡ roll-TokenTree (erased_tree y)
 tree_step-back (TokenTree-F.Ident it) = sym (rolls-Ident it)
 tree_step-back (TokenTree-F.Lifetime it) = sym (rolls-Lifetime it)
 tree_step-back (TokenTree-F.Punct it) = sym (rolls-Punct it)
@@ -144,7 +144,7 @@ trees_back-view (sure ∷ sures) = cc (sure.1, trees_back-view sures)
 stream_back-view : (s : TokenStream) → IsStreamBack s
 stream_back-view = ind-TokenStream IsTreeBack IsGroupBack IsStreamBack
     (λ x y is. subst (λ x. IsTreeBack (roll-TokenTree x)) is
-    (ap tree_back (fold-roll-TokenTree Tree Tree Trees tree_step group_step stream_step (bare_tree y)) ∙ tree_step-back y))
+    (ap tree_back (fold-roll-TokenTree Tree Tree Trees tree_step group_step stream_step (erased_tree y)) ∙ tree_step-back y))
     (λ x y is.
     let inner = subst (λ (x : Group-F TokenTree Group TokenStream). IsStreamBack x.stream) is y.stream.1 in
     ap tree_back (fold-roll-Group Tree Tree Trees tree_step group_step stream_step x)

@@ -4,8 +4,8 @@ use Rattle.tok_scan.specs.Characters.{Characters}
 use Rattle.tok_scan.specs.Pieces.{IsPieceAt}
 use Rattle.tok_scan.specs.declared.kind.Kind.{Kind}
 use Rattle.tok_scan.specs.declared.kind.Kind.TheVariants as kind
+use Rattle.tok_types.specs.Delimiter.{same_delimiter}
 use Rattle.tok_types.specs.declared.tree.Delimiter.{Delimiter}
-use Rattle.tok_types.specs.declared.tree.Delimiter.TheVariants as delimiter
 use Rattle.tok_types.specs.declared.tree.TokenStream.{TokenStream}
 use Rattle.tok_core.specs.Flat.{Flat, token, opening, closing, flat_stream, stream_view, depths_of}
 use Rattle.tok_core.specs.Spells.{Piece, Stand, tokens_of}
@@ -19,14 +19,6 @@ limit = 128
 -- Groups nest at most that deep.
 abbrev pub IsWithin : TokenStream → Type 0
 IsWithin tokens = depths_of (stream_view tokens) ≤ limit
-
--- whether the two are one delimiter
-abbrev pub same_delimiter : Delimiter → Delimiter → Bool
-same_delimiter delimiter.Parenthesis delimiter.Parenthesis = true
-same_delimiter delimiter.Bracket delimiter.Bracket = true
-same_delimiter delimiter.Brace delimiter.Brace = true
-same_delimiter delimiter.None delimiter.None = true
-same_delimiter _ _ = false
 
 -- whether the innermost of the open delimiters, which is the first, is this one
 abbrev pub is_top : Delimiter → List Delimiter → Bool

@@ -1,4 +1,4 @@
-pub mod Bare
+pub mod Erased
 pub mod Endings
 pub mod Flat
 pub mod Nests
@@ -6,3 +6,19 @@ pub mod Printing
 pub mod Quoted
 pub mod Readable
 pub mod Spells
+pub mod Types
+pub use Rattle.tok_scan.specs.Characters
+pub use Rattle.tok_scan.specs.Closings
+pub use Rattle.tok_scan.specs.Comments
+pub use Rattle.tok_scan.specs.Escapes
+pub use Rattle.tok_scan.specs.Numbers
+pub use Rattle.tok_scan.specs.Pieces
+pub use Rattle.tok_scan.specs.Scan
+pub use Rattle.tok_scan.specs.Strings
+pub use Rattle.tok_types.specs.Ascii
+pub use Rattle.tok_types.specs.Delimiter
+pub use Rattle.tok_types.specs.Ident
+pub use Rattle.tok_types.specs.Names
+pub use Rattle.tok_types.specs.Respan
+pub use Rattle.tok_types.specs.Span
+pub use Rattle.tok_types.specs.Tokens

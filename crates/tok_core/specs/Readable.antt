@@ -2,6 +2,7 @@
 use Rattle.std.specs.Prelude.{◌≡◌, ℕ, Bool, true, false, ◌&&◌, ◌||◌, ◌==◌, if◌then◌else◌, List, [], ◌∷◌}
 use Rattle.std.specs.List.{AllByRecursion}
 use Rattle.std.specs.Str.{encode_utf8_all}
+use Rattle.tok_types.specs.Ascii.{slash, star}
 use Rattle.tok_scan.specs.Characters.{Characters, is_mark}
 use Rattle.tok_scan.specs.Pieces.{IsPieceAt}
 use Rattle.tok_scan.specs.declared.kind.Kind.{Kind}
@@ -52,7 +53,7 @@ IsJoined f fs = is_joint f ≡ true → mark_next fs ≡ true
 
 -- a joint `/` stands before `/` or `*`
 abbrev pub begins_comment : Flat → List Flat → Bool
-begins_comment (token (punct it)) (token (punct next) ∷ fs) = it.joint && it.ch == 47 && (next.ch == 47 || next.ch == 42)
+begins_comment (token (punct it)) (token (punct next) ∷ fs) = it.joint && it.ch == slash && (next.ch == slash || next.ch == star)
 begins_comment _ _ = false
 
 -- It holds of each token, with those after it.

@@ -1,6 +1,7 @@
 -- Which tokens a text spells.
 use Rattle.std.specs.Prelude.{◌≡◌, ℕ, ◌+◌, ◌-◌, true, false, ◌&&◌, ◌==◌, if◌then◌else◌, List, [], ◌∷◌, ◌++◌, length, take, drop, slice_index, slice_range, codes, Some}
 use Rattle.std.specs.Str.{encode_utf8_all}
+use Rattle.tok_types.specs.Ascii.{carriage_return, hash, letter_r}
 use Rattle.tok_scan.specs.Characters.{Characters}
 use Rattle.tok_scan.specs.Pieces.{IsPieceAt}
 use Rattle.tok_scan.specs.declared.kind.Kind.{Kind}
@@ -38,7 +39,7 @@ IsAtItsBytes text p = slice_range text p.start p.end ≡ encode_utf8_all p.text
 abbrev pub without_return : Characters → Characters
 without_return text =
     let front = length text - 1 in
-    if slice_index text front == 13 then take front text else text
+    if slice_index text front == carriage_return then take front text else text
 
 -- what the tokens of a piece keep of its characters where `after` follows: all, but of a documentation
 -- comment a carriage return before its line feed
@@ -49,7 +50,7 @@ kept k text after = text
 -- the identifier that is written so: raw after `r#`
 abbrev pub ident_of : Characters → Span → Ident
 ident_of text span =
-    if slice_index text 0 == 114 && slice_index text 1 == 35
+    if slice_index text 0 == letter_r && slice_index text 1 == hash
     then record { text = encode_utf8_all (drop 2 text); raw = true; span = span }
     else record { text = encode_utf8_all text; raw = false; span = span }
 

@@ -3,7 +3,7 @@ ghost use Rattle.std.specs.Prelude.{◌≡◌, ℕ, List, [], chars, map};
 ghost use Rattle.std.specs.List.{AllByRecursion};
 ghost use Rattle.std.specs.Str.{IsUtf8};
 ghost use Rattle.tok_scan.specs.Characters.{Characters};
-ghost use Rattle.tok_core.specs.Bare.{flat_at};
+ghost use Rattle.tok_core.specs.Erased.{flat_at};
 ghost use Rattle.tok_core.specs.Flat.{flat_stream};
 ghost use Rattle.tok_types.specs.Respan.{stream_at};
 ghost use Rattle.tok_core.specs.Spells.{IsAtItsBytes, Piece, Spells, Stand};

@@ -21,9 +21,9 @@ pub use laws::{
 };
 pub use printing::{read_again, to_text};
 pub use quoting::quoted;
-pub use reading::lex;
+pub use reading::{MAX_LEN, lex};
 pub use spans::respan;
 pub use tok_types::{
-    Boxed, Delimiter, Group, Ident, Items, Lifetime, Literal, Mem, Punct, Span, Text, TokenStream,
-    TokenTree, TryClone,
+    Boxed, Delimiter, Group, Ident, IdentError, Items, Lifetime, Literal, Mem, Punct, Span, Text,
+    TokenStream, TokenTree, TryClone,
 };

@@ -1,6 +1,7 @@
 //! The trees of a text that is read in part.
 ghost use Rattle.std.specs.Prelude.{◌≡◌, ◌++◌, [], ◌∷◌, ◌<◌, Some, true, false, drop, length, IfOk, IfErr};
-ghost use Rattle.tok_core.specs.Endings.{is_top, open_after, same_delimiter};
+ghost use Rattle.tok_core.specs.Endings.{is_top, open_after};
+ghost use Rattle.tok_types.specs.Delimiter.{same_delimiter};
 ghost use Rattle.tok_core.specs.Flat as flat;
 ghost use Rattle.tok_core.specs.Flat.{flat_stream, flat_tree};
 ghost use Rattle.tok_core.specs.Spells.{doc_tokens, token_of};
@@ -15,7 +16,6 @@ use tok_types::{Delimiter, Items, Mem, Span, TokenStream, TokenTree};
 const MAX_OPEN: usize = 128;
 
 /// An open group: where it starts, and the trees before it.
-#[derive(Drop)]
 struct Frame {
     delimiter: Delimiter,
     start: u32,
@@ -24,10 +24,41 @@ struct Frame {
 
 /// The trees so far: of each open group, the outermost first, those before it, and those after the
 /// last delimiter.
-#[derive(Drop)]
 pub(crate) struct Nest {
     frames: Items<Frame>,
     trees: Items<TokenTree>,
+}
+
+impl Frame {
+    fn into_parts(self) -> (Delimiter, u32, Items<TokenTree>)
+        ensures { result ≡ (self.delimiter, self.start, self.trees) }
+    {
+        let Frame {
+            delimiter,
+            start,
+            trees,
+        } = self;
+        (delimiter, start, trees)
+    }
+}
+
+impl Drop for Frame {
+    fn drop(self) {
+        let Self {
+            delimiter: _,
+            start: _,
+            trees: _trees,
+        } = self;
+    }
+}
+
+impl Drop for Nest {
+    fn drop(self) {
+        let Self {
+            frames: _frames,
+            trees: _trees,
+        } = self;
+    }
 }
 
 fn same_delimiter(a: Delimiter, b: Delimiter) -> bool
@@ -105,11 +136,7 @@ impl Nest {
         if !same_delimiter(delimiter, frame.delimiter) {
             return Err(LexError::Syntax { at: start });
         }
-        let Frame {
-            delimiter: opened,
-            start: first,
-            trees: mut outer,
-        } = frame;
+        let (opened, first, mut outer) = frame.into_parts();
         let span = Span::At {
             source,
             start: first,

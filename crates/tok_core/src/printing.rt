@@ -1,13 +1,13 @@
 //! The text of tokens.
 ghost use Rattle.std.specs.Prelude.{◌≡◌, ◌≤◌, ◌++◌, true, chars, length, map, IfOk, OnOk, MatchResult};
-ghost use Rattle.tok_core.specs.Bare.{SameButSpans};
+ghost use Rattle.tok_core.specs.Erased.{SameButSpans};
 ghost use Rattle.tok_core.specs.Flat.{tree_view, trees_of};
 ghost use Rattle.tok_core.specs.Readable.{IsReadable};
 ghost use Rattle.tok_core.specs.Printing.{stream_text, text_of, texts_of, tree_joins};
 ghost use Rattle.tok_core.specs.Spells.{Spells};
 
 use crate::error::LexError;
-use crate::reading::lex;
+use crate::reading::{MAX_LEN, lex};
 use std::alloc::Global;
 use tok_scan::{closing, opening};
 use tok_types::{Mem, Text, TokenStream, TokenTree};
@@ -29,9 +29,9 @@ pub fn to_text(alloc: Global, tokens: &TokenStream) -> Mem<Text>
 ///
 /// It can where each token has a text of its kind, each joint mark stands directly before a mark of
 /// its own list and begins no comment with it, no group is invisible, and at most 128 groups are
-/// open at once. The text takes at most 16 MiB.
+/// open at once. The text takes at most [`MAX_LEN`] bytes.
 pub fn read_again(alloc: Global, source: u32, tokens: &TokenStream) -> Result<TokenStream, LexError>
-    requires { length (stream_text tokens.now) ≤ 16777216 }
+    requires { length (stream_text tokens.now) ≤ MAX_LEN }
     ensures same { IsReadable tokens.now
         → MatchResult result (λ read. SameButSpans read tokens.now) (λ e. e ≡ LexError.NoMemory) }
     ensures spelled { IfOk result (Spells source (chars (stream_text tokens.now))) }

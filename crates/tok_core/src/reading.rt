@@ -1,3 +1,5 @@
+//! From a text to its tokens.
+
 ghost use Rattle.std.specs.Prelude.{◌≡◌, ◌≤◌, ℕ, length, IfOk, IfErr, Ok, Err};
 ghost use Rattle.std.specs.Str.{chars, encode_utf8_all};
 ghost use Rattle.tok_core.specs.Endings.{Answers, Closes, EndsAt, IsWithin, Refused, deep, wrong};
@@ -33,7 +35,7 @@ fn without_return(text: &[char]) -> &[char]
 }
 
 fn read(alloc: Global, source: u32, text: &[char]) -> Result<TokenStream, LexError>
-    requires { length (encode_utf8_all text.now) ≤ 16777216 }
+    requires { length (encode_utf8_all text.now) ≤ MAX_LEN }
     ensures spelled { IfOk result (Spells source text.now) }
     ensures closed { IfOk result Closes }
     ensures err { IfErr result (Refused source text.now) }
@@ -58,12 +60,15 @@ fn read(alloc: Global, source: u32, text: &[char]) -> Result<TokenStream, LexErr
     nest.finish(at)
 }
 
-/// The tokens of a text of at most 16 MiB. Their spans are bytes of the text, which has the number
+/// How long a text may be, in bytes: 16 MiB.
+pub const MAX_LEN: usize = 16 << 20;
+
+/// The tokens of a text of at most [`MAX_LEN`] bytes. Their spans are bytes of the text, which has the number
 /// `source`.
 ///
 /// The first byte at which the text breaks a rule is told: see [`LexError`].
 pub fn lex(alloc: Global, source: u32, text: &str) -> Result<TokenStream, LexError>
-    requires { length text.now ≤ 16777216 }
+    requires { length text.now ≤ MAX_LEN }
 
     // What is read is spelled so, and an error comes where it says.
     ensures spelled { IfOk result (Spells source (chars text.now)) }

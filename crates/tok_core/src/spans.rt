@@ -1,3 +1,5 @@
+//! Tokens with one span everywhere.
+
 ghost use Rattle.std.specs.Prelude.{◌≡◌, map};
 ghost use Rattle.tok_types.specs.Respan.{stream_at, tree_at};
 

@@ -2,6 +2,7 @@
 use Rattle.std.specs.Prelude.{ℕ, zero, suc, ◌+◌, ◌-◌, ◌^◌, Bool, true, false, ◌||◌, ◌==◌, if◌then◌else◌, [], ◌∷◌, drop, take, map, length, nat_lt, slice_index}
 use Rattle.std.specs.List.{prefix_len}
 use Rattle.std.specs.Str.{encode_utf8_all}
+use Rattle.tok_types.specs.Ascii.{backslash, double_quote, letter_b, letter_r, letter_u, letter_x, line_feed, single_quote}
 use Rattle.tok_scan.specs.Characters.{Characters}
 use Rattle.tok_scan.specs.Escapes.{digits_value, in_hex, is_scalar}
 use Rattle.tok_scan.specs.Numbers.{base_of, begins_base, in_digits}
@@ -23,16 +24,16 @@ or_zero n = if nat_lt n 256 then n else 0
 -- the character for which an escape stands: what follows its backslash begins the text
 abbrev pub escaped : Characters → ℕ
 escaped text =
-    if slice_index text 0 == 120 then or_mark (digits_value 16 0 (slice_index text 1 ∷ slice_index text 2 ∷ []))
-    else (if slice_index text 0 == 117 then or_mark (digits_value 16 0 (take (prefix_len in_hex (drop 2 text)) (drop 2 text)))
-    else short_value (slice_index text 0))
+    if slice_index text 0 == letter_x then or_mark (digits_value 16 0 (slice_index text 1 ∷ slice_index text 2 ∷ []))
+    else if slice_index text 0 == letter_u then or_mark (digits_value 16 0 (take (prefix_len in_hex (drop 2 text)) (drop 2 text)))
+    else short_value (slice_index text 0)
 
 -- of a string's content, whose rest this is: what it stands for, where the first `left` characters belong to an item that is read
 abbrev pub unescaped : Bool → ℕ → Characters → Characters
 unescaped byte left [] = []
 unescaped byte (suc left) (c ∷ cs) = unescaped byte left cs
 unescaped byte zero (c ∷ cs) =
-    if c == 92 then (if slice_index cs 0 == 10 then unescaped byte (item_length byte cs) cs else escaped cs ∷ unescaped byte (item_length byte cs) cs)
+    if c == backslash then (if slice_index cs 0 == line_feed then unescaped byte (item_length byte cs) cs else escaped cs ∷ unescaped byte (item_length byte cs) cs)
     else c ∷ unescaped byte 0 cs
 
 -- what stands between the quotes of a string, or of a raw form after its letters
@@ -43,7 +44,7 @@ content text =
 
 -- the character between apostrophes
 abbrev pub ticked : Characters → ℕ
-ticked text = if slice_index text 1 == 92 then escaped (drop 2 text) else slice_index text 1
+ticked text = if slice_index text 1 == backslash then escaped (drop 2 text) else slice_index text 1
 
 -- the number where it has at most 128 bits, as that of a literal has
 abbrev pub or_none : ℕ → ℕ
@@ -69,14 +70,14 @@ number text = if begins_base text then based (base_of (slice_index text 1)) text
 -- what a literal stands for that begins with `b`
 abbrev pub prefixed : Characters → Value
 prefixed text =
-    if slice_index text 1 == 34 then value.ByteStr (map or_zero (unescaped true 0 (content (drop 1 text))))
-    else (if slice_index text 1 == 39 then value.Byte (or_zero (ticked (drop 1 text)))
-    else value.ByteStr (map or_zero (content (drop 2 text))))
+    if slice_index text 1 == double_quote then value.ByteStr (map or_zero (unescaped true 0 (content (drop 1 text))))
+    else if slice_index text 1 == single_quote then value.Byte (or_zero (ticked (drop 1 text)))
+    else value.ByteStr (map or_zero (content (drop 2 text)))
 
 -- what a literal stands for
 abbrev pub value_of : Characters → Value
 value_of text =
-    if slice_index text 0 == 34 then value.Str (encode_utf8_all (unescaped false 0 (content text)))
-    else (if slice_index text 0 == 39 then value.Char (ticked text)
-    else (if slice_index text 0 == 114 then value.Str (encode_utf8_all (content (drop 1 text)))
-    else (if slice_index text 0 == 98 then prefixed text else number text)))
+    if slice_index text 0 == double_quote then value.Str (encode_utf8_all (unescaped false 0 (content text)))
+    else if slice_index text 0 == single_quote then value.Char (ticked text)
+    else if slice_index text 0 == letter_r then value.Str (encode_utf8_all (content (drop 1 text)))
+    else if slice_index text 0 == letter_b then prefixed text else number text

@@ -1,3 +1,5 @@
+//! The value of a literal, by its text.
+
 ghost use Rattle.std.specs.Prelude.{◌≡◌, ◌↔◌, true, false, [], length, IfOk, IfSome, IfNone};
 ghost use Rattle.std.specs.Str.{chars, encode_utf8_all};
 ghost use Rattle.tok_scan.specs.Pieces.{IsPiece};

@@ -1,6 +1,7 @@
 -- Where raw forms can end: at each place of a text, the most `#` behind a `"` from there on.
 use Rattle.std.specs.Prelude.{◌≡◌, ◌⊎◌, ℕ, ◌+◌, ◌==◌, Bool, true, false, if◌then◌else◌, min, max, nat_le, List, [], ◌∷◌}
 use Rattle.std.specs.List.{prefix_len}
+use Rattle.tok_types.specs.Ascii.{double_quote, hash}
 use Rattle.tok_scan.specs.Characters.{Characters}
 use Rattle.tok_scan.specs.Strings.{fits, is_hash}
 use Rattle.tok_scan.specs.declared.ends.Closing.{Closing}
@@ -9,8 +10,8 @@ use Rattle.tok_scan.specs.declared.ends.Closing.{Closing}
 abbrev pub most_hashes : Bool → Characters → ℕ
 most_hashes byte [] = 0
 most_hashes byte (c ∷ cs) =
-    if c == 34 then max (min (prefix_len is_hash cs) 255) (most_hashes byte cs)
-    else (if fits byte c then most_hashes byte cs else 0)
+    if c == double_quote then max (min (prefix_len is_hash cs) 255) (most_hashes byte cs)
+    else if fits byte c then most_hashes byte cs else 0
 
 -- of both forms
 abbrev pub closing_of : Characters → Closing
@@ -27,11 +28,11 @@ most_of byte closing = if byte then closing.bytes else closing.text
 
 -- a number of `#`, up to 255, with one more character in front
 abbrev pub more_hashes : ℕ → ℕ → ℕ
-more_hashes hashes c = if c == 35 then min (hashes + 1) 255 else 0
+more_hashes hashes c = if c == hash then min (hashes + 1) 255 else 0
 
 -- the most in one form, with one more character in front of so many `#`
 abbrev pub more_most : Bool → ℕ → ℕ → ℕ → ℕ
-more_most byte most hashes c = if c == 34 then max hashes most else (if fits byte c then most else 0)
+more_most byte most hashes c = if c == double_quote then max hashes most else if fits byte c then most else 0
 
 -- nothing is known, or where raw forms can end at each place of the text
 abbrev pub AreClosings : List Closing → Characters → Type 0

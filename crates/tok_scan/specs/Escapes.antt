@@ -2,6 +2,7 @@
 use Rattle.std.specs.Prelude.{◌≡◌, ◌⊎◌, ℕ, ◌+◌, ◌*◌, Bool, true, false, ◌&&◌, ◌||◌, ◌==◌, nat_le, nat_lt, if◌then◌else◌, [], ◌∷◌, ◌++◌, codes}
 use Rattle.std.specs.List.{list_all, list_any, count_by}
 use Rattle.std.specs.Char.{digit_value, is_ascii_hexdigit}
+use Rattle.tok_types.specs.Ascii.{left_brace, letter_u, letter_x, right_brace, underscore}
 use Rattle.tok_scan.specs.Characters.{Characters, begins}
 
 -- the letters of the short escapes
@@ -14,12 +15,12 @@ is_pair byte a b = is_ascii_hexdigit a && is_ascii_hexdigit b && (byte || nat_le
 
 -- among hexadecimal digits: one, or a `_`
 abbrev pub in_hex : ℕ → Bool
-in_hex c = is_ascii_hexdigit c || c == 95
+in_hex c = is_ascii_hexdigit c || c == underscore
 
 -- the number that digits write in a base, `_` left out, after digits that write `before`
 abbrev pub digits_value : ℕ → ℕ → Characters → ℕ
 digits_value base before [] = before
-digits_value base before (c ∷ cs) = digits_value base (if c == 95 then before else before * base + digit_value c) cs
+digits_value base before (c ∷ cs) = digits_value base (if c == underscore then before else before * base + digit_value c) cs
 
 -- the number of a character
 abbrev pub is_scalar : ℕ → Bool
@@ -34,5 +35,5 @@ is_number_of_character digits =
 abbrev pub IsEscape : Bool → Characters → Type 0
 IsEscape byte e =
     ((c : ℕ) × (e ≡ c ∷ []) × (is_short c ≡ true))
-    ⊎ (((a : ℕ) × (b : ℕ) × (e ≡ 120 ∷ a ∷ b ∷ []) × (is_pair byte a b ≡ true))
-    ⊎ ((digits : Characters) × (e ≡ 117 ∷ 123 ∷ (digits ++ 125 ∷ [])) × (byte ≡ false) × (is_number_of_character digits ≡ true)))
+    ⊎ (((a : ℕ) × (b : ℕ) × (e ≡ letter_x ∷ a ∷ b ∷ []) × (is_pair byte a b ≡ true))
+    ⊎ ((digits : Characters) × (e ≡ letter_u ∷ left_brace ∷ (digits ++ right_brace ∷ [])) × (byte ≡ false) × (is_number_of_character digits ≡ true)))

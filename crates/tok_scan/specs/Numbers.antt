@@ -2,6 +2,7 @@
 use Rattle.std.specs.Prelude.{◌≡◌, ◌⊎◌, ◌<◌, ℕ, ◌^◌, Bool, true, false, not, ◌&&◌, ◌||◌, ◌==◌, if◌then◌else◌, [], ◌∷◌, ◌++◌, length, slice_index, drop, nat_lt}
 use Rattle.std.specs.List.{list_all, list_any}
 use Rattle.std.specs.Char.{is_digit}
+use Rattle.tok_types.specs.Ascii.{digit_0, dot, letter_E, letter_b, letter_e, letter_o, letter_x, minus, plus, underscore}
 use Rattle.tok_types.specs.Names.{starts_name, is_name}
 use Rattle.tok_scan.specs.Characters.{Characters, begins}
 use Rattle.tok_scan.specs.Escapes.{digits_value}
@@ -12,7 +13,7 @@ is_decimal c = is_digit c 10
 
 -- among digits of the base: one, or a `_`
 abbrev pub in_digits : ℕ → ℕ → Bool
-in_digits base c = is_digit c base || c == 95
+in_digits base c = is_digit c base || c == underscore
 
 -- a decimal digit, any more of them and `_`, and nothing further of these where `after` follows
 pub record IsDecimalRun (text after : Characters) : Type 0 where
@@ -22,26 +23,26 @@ pub record IsDecimalRun (text after : Characters) : Type 0 where
 
 -- what may not follow the `.` of a fraction: `.`, `_`, and what a name begins with
 abbrev pub is_after_dot : ℕ → Bool
-is_after_dot c = c == 46 || starts_name c
+is_after_dot c = c == dot || starts_name c
 
 -- a fraction begins here
 abbrev pub begins_fraction : Characters → Bool
-begins_fraction text = slice_index text 0 == 46 && not (begins is_after_dot (drop 1 text))
+begins_fraction text = slice_index text 0 == dot && not (begins is_after_dot (drop 1 text))
 
 -- no fraction, where none begins; or `.` and digits or none
 abbrev pub IsFraction : Characters → Characters → Type 0
 IsFraction text after =
     ((text ≡ []) × (begins_fraction after ≡ false))
-    ⊎ (((text ≡ 46 ∷ []) × (begins is_after_dot after ≡ false) × (begins is_decimal after ≡ false))
-    ⊎ ((digits : Characters) × (text ≡ 46 ∷ digits) × IsDecimalRun digits after))
+    ⊎ (((text ≡ dot ∷ []) × (begins is_after_dot after ≡ false) × (begins is_decimal after ≡ false))
+    ⊎ ((digits : Characters) × (text ≡ dot ∷ digits) × IsDecimalRun digits after))
 
 -- `e` or `E`
 abbrev pub is_exponent_letter : ℕ → Bool
-is_exponent_letter c = c == 101 || c == 69
+is_exponent_letter c = c == letter_e || c == letter_E
 
 -- `+` or `-`
 abbrev pub is_sign : ℕ → Bool
-is_sign c = c == 43 || c == 45
+is_sign c = c == plus || c == minus
 
 -- digits and `_`, at least one digit among them, and nothing further of these where `after` follows
 pub record IsExponentRun (text after : Characters) : Type 0 where
@@ -66,11 +67,11 @@ is_suffix (c ∷ cs) = is_name (c ∷ cs)
 
 -- the base that `0` and this letter announce: `x`, `o`, `b`
 abbrev pub base_of : ℕ → ℕ
-base_of c = if c == 120 then 16 else (if c == 111 then 8 else (if c == 98 then 2 else 0))
+base_of c = if c == letter_x then 16 else if c == letter_o then 8 else if c == letter_b then 2 else 0
 
 -- a base is announced here
 abbrev pub begins_base : Characters → Bool
-begins_base text = slice_index text 0 == 48 && nat_lt 0 (base_of (slice_index text 1))
+begins_base text = slice_index text 0 == digit_0 && nat_lt 0 (base_of (slice_index text 1))
 
 -- a number in decimal digits: an integer of at most 128 bits, or what has a fraction or an exponent
 pub record IsDecimalNumber (text after : Characters) : Type 0 where
@@ -91,7 +92,7 @@ pub record IsBasedNumber (text after : Characters) : Type 0 where
   pub letter : ℕ
   pub digits : Characters
   pub suffix : Characters
-  pub parts : text ≡ 48 ∷ letter ∷ (digits ++ suffix)
+  pub parts : text ≡ digit_0 ∷ letter ∷ (digits ++ suffix)
   pub is_base : 0 < base_of letter
   pub some : list_any (λ c. is_digit c (base_of letter)) digits ≡ true
   pub are_digits : list_all (in_digits (base_of letter)) digits ≡ true

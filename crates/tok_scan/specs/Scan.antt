@@ -2,6 +2,7 @@
 use Rattle.std.specs.Prelude.{ℕ, zero, suc, ◌+◌, ◌*◌, ◌^◌, Bool, true, false, not, ◌&&◌, ◌||◌, if◌then◌else◌, ◌==◌, nat_le, nat_lt, [], ◌∷◌, drop, take, slice_index, Option, Some, None}
 use Rattle.std.specs.List.{prefix_len, list_any}
 use Rattle.std.specs.Char.{is_digit, digit_value}
+use Rattle.tok_types.specs.Ascii.{backslash, double_quote, hash, left_brace, left_bracket, left_parenthesis, letter_b, letter_r, letter_u, letter_x, line_feed, right_brace, right_bracket, right_parenthesis, single_quote, slash, star, underscore}
 use Rattle.tok_types.specs.Names.{starts_name, continues_name, is_reserved}
 use Rattle.tok_scan.specs.Characters.{Characters, begins, is_white, is_mark, continues}
 use Rattle.tok_scan.specs.Comments.{is_in_line, documents, comment_end}
@@ -23,23 +24,23 @@ found k n = Some (record { kind = k; length = n })
 -- how a piece begins that opens or closes a group
 abbrev pub delimiter_head : ℕ → Head
 delimiter_head c =
-    if c == 40 then head.Open delimiter.Parenthesis
-    else (if c == 41 then head.Close delimiter.Parenthesis
-    else (if c == 91 then head.Open delimiter.Bracket
-    else (if c == 93 then head.Close delimiter.Bracket
-    else (if c == 123 then head.Open delimiter.Brace
-    else (if c == 125 then head.Close delimiter.Brace else head.Other)))))
+    if c == left_parenthesis then head.Open delimiter.Parenthesis
+    else if c == right_parenthesis then head.Close delimiter.Parenthesis
+    else if c == left_bracket then head.Open delimiter.Bracket
+    else if c == right_bracket then head.Close delimiter.Bracket
+    else if c == left_brace then head.Open delimiter.Brace
+    else if c == right_brace then head.Close delimiter.Brace else head.Other
 
 -- how a piece begins whose first character this is
 abbrev pub head_of : ℕ → Head
 head_of c =
     if starts_name c then head.Name
-    else (if is_white c then head.White
-    else (if is_decimal c then head.Digit
-    else (if c == 34 then head.Quote
-    else (if c == 39 then head.Tick
-    else (if c == 47 then head.Slash
-    else (if is_mark c then head.Mark else delimiter_head c))))))
+    else if is_white c then head.White
+    else if is_decimal c then head.Digit
+    else if c == double_quote then head.Quote
+    else if c == single_quote then head.Tick
+    else if c == slash then head.Slash
+    else if is_mark c then head.Mark else delimiter_head c
 
 -- ---- comments
 
@@ -55,8 +56,8 @@ comment (Some end) = found kind.Comment end
 -- what begins with `/`
 abbrev pub slashed : Characters → Option Found
 slashed text =
-    if slice_index text 1 == 47 then found (if documents text then kind.Doc else kind.Comment) (2 + prefix_len is_in_line (drop 2 text))
-    else (if slice_index text 1 == 42 then comment (comment_end 1 2 (drop 2 text)) else found (kind.Mark (goes_on (drop 1 text))) 1)
+    if slice_index text 1 == slash then found (if documents text then kind.Doc else kind.Comment) (2 + prefix_len is_in_line (drop 2 text))
+    else if slice_index text 1 == star then comment (comment_end 1 2 (drop 2 text)) else found (kind.Mark (goes_on (drop 1 text))) 1
 
 -- ---- between quotes
 
@@ -64,27 +65,27 @@ slashed text =
 abbrev pub unicode_length : Characters → ℕ
 unicode_length text =
     let n = prefix_len in_hex (drop 2 text) in
-    if slice_index text (2 + n) == 125 && is_number_of_character (take n (drop 2 text)) then 3 + n else 0
+    if slice_index text (2 + n) == right_brace && is_number_of_character (take n (drop 2 text)) then 3 + n else 0
 
 -- the number of characters of the escape behind a backslash, or 0
 unfoldable pub escape_length : Bool → Characters → ℕ
 escape_length byte text =
     if is_short (slice_index text 0) then 1
-    else (if slice_index text 0 == 120 && is_pair byte (slice_index text 1) (slice_index text 2) then 3
-    else (if not byte && (slice_index text 0 == 117 && slice_index text 1 == 123) then unicode_length text else 0))
+    else if slice_index text 0 == letter_x && is_pair byte (slice_index text 1) (slice_index text 2) then 3
+    else if not byte && (slice_index text 0 == letter_u && slice_index text 1 == left_brace) then unicode_length text else 0
 
 -- the same in a string, where a line feed and blanks may stand there
 abbrev pub item_length : Bool → Characters → ℕ
-item_length byte text = if slice_index text 0 == 10 then 1 + prefix_len is_blank (drop 1 text) else escape_length byte text
+item_length byte text = if slice_index text 0 == line_feed then 1 + prefix_len is_blank (drop 1 text) else escape_length byte text
 
 -- in a string, whose rest this is: the place after its last `"`, where the rest begins at `from` and an item with its first `left` characters
 abbrev pub string_end : Bool → ℕ → ℕ → Characters → Option ℕ
 string_end byte left from [] = None
 string_end byte (suc left) from (c ∷ cs) = string_end byte left (from + 1) cs
 string_end byte zero from (c ∷ cs) =
-    if c == 34 then Some (from + 1)
-    else (if c == 92 then (if item_length byte cs == 0 then None else string_end byte (item_length byte cs) (from + 1) cs)
-    else (if fits byte c then string_end byte 0 (from + 1) cs else None))
+    if c == double_quote then Some (from + 1)
+    else if c == backslash then (if item_length byte cs == 0 then None else string_end byte (item_length byte cs) (from + 1) cs)
+    else if fits byte c then string_end byte 0 (from + 1) cs else None
 
 -- the end of the string that begins with `"`
 abbrev pub string_length : Bool → Characters → Option ℕ
@@ -94,20 +95,20 @@ string_length byte text = string_end byte 0 1 (drop 1 text)
 abbrev pub raw_end : Bool → ℕ → ℕ → Characters → Option ℕ
 raw_end byte n from [] = None
 raw_end byte n from (c ∷ cs) =
-    if closes n (c ∷ cs) then Some (from + (1 + n)) else (if fits byte c then raw_end byte n (from + 1) cs else None)
+    if closes n (c ∷ cs) then Some (from + (1 + n)) else if fits byte c then raw_end byte n (from + 1) cs else None
 
 -- the end of the raw form whose first `#` or `"` begins the text
 abbrev pub raw_length : Bool → Characters → Option ℕ
 raw_length byte text =
     let n = prefix_len is_hash text in
-    if slice_index text n == 34 && nat_le n 255 then raw_end byte n (n + 1) (drop (n + 1) text) else None
+    if slice_index text n == double_quote && nat_le n 255 then raw_end byte n (n + 1) (drop (n + 1) text) else None
 
 -- the end of the character or byte that begins with `'`
 abbrev pub ticked_length : Bool → Characters → Option ℕ
 ticked_length byte text =
-    if slice_index text 1 == 92
-    then (let n = escape_length byte (drop 2 text) in if nat_lt 0 n && slice_index text (2 + n) == 39 then Some (3 + n) else None)
-    else (if is_single byte (slice_index text 1) && slice_index text 2 == 39 then Some 3 else None)
+    if slice_index text 1 == backslash
+    then (let n = escape_length byte (drop 2 text) in if nat_lt 0 n && slice_index text (2 + n) == single_quote then Some (3 + n) else None)
+    else if is_single byte (slice_index text 1) && slice_index text 2 == single_quote then Some 3 else None
 
 -- as many more
 abbrev pub plus : ℕ → Option ℕ → Option ℕ
@@ -117,12 +118,12 @@ plus n (Some m) = Some (n + m)
 -- the end of the literal that begins with `r` or `b`
 abbrev pub prefixed_length : Characters → Option ℕ
 prefixed_length text =
-    if slice_index text 0 == 114 then plus 1 (raw_length false (drop 1 text))
-    else (if slice_index text 0 == 98
-    then (if slice_index text 1 == 34 then plus 1 (string_length true (drop 1 text))
-    else (if slice_index text 1 == 39 then plus 1 (ticked_length true (drop 1 text))
-    else (if slice_index text 1 == 114 then plus 2 (raw_length true (drop 2 text)) else None)))
-    else None)
+    if slice_index text 0 == letter_r then plus 1 (raw_length false (drop 1 text))
+    else if slice_index text 0 == letter_b
+    then (if slice_index text 1 == double_quote then plus 1 (string_length true (drop 1 text))
+    else if slice_index text 1 == single_quote then plus 1 (ticked_length true (drop 1 text))
+    else if slice_index text 1 == letter_r then plus 2 (raw_length true (drop 2 text)) else None)
+    else None
 
 -- a literal that ends there
 abbrev pub literal : Option ℕ → Option Found
@@ -135,7 +136,7 @@ literal (Some end) = found kind.Literal end
 abbrev pub raw_name_length : Characters → Option ℕ
 raw_name_length text =
     let n = prefix_len continues_name (drop 2 text) in
-    if slice_index text 0 == 114 && slice_index text 1 == 35 && begins starts_name (drop 2 text) && not (is_reserved (take n (drop 2 text)))
+    if slice_index text 0 == letter_r && slice_index text 1 == hash && begins starts_name (drop 2 text) && not (is_reserved (take n (drop 2 text)))
     then Some (2 + n) else None
 
 -- the identifier that begins the text, or the raw one that ends there
@@ -166,7 +167,7 @@ small n = if nat_lt n (2 ^ 128) then Some n else None
 
 -- a number with one more digit, or with `_`
 abbrev pub with_digit : ℕ → ℕ → ℕ → ℕ
-with_digit base value c = if c == 95 then value else value * base + digit_value c
+with_digit base value c = if c == underscore then value else value * base + digit_value c
 
 -- the number of characters of the fraction that begins the text
 abbrev pub fraction_length : Characters → ℕ

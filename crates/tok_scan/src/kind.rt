@@ -1,3 +1,5 @@
+//! The kinds of pieces that a text is cut into.
+
 use tok_types::Delimiter;
 
 /// What a piece of a text is.

@@ -1,3 +1,5 @@
+//! Identifiers and lifetimes.
+
 ghost use Rattle.std.specs.Prelude.{◌≡◌, ◌++◌, IfOk, IfErr, OnOk};
 
 use crate::error::IdentError;

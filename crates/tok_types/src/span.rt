@@ -1,3 +1,5 @@
+//! Spans: where tokens stand.
+
 ghost use Rattle.std.specs.Prelude.{◌≡◌};
 
 use base_core::{Mem, TryClone};

@@ -1,3 +1,5 @@
+//! Tokens: marks, literals, groups and lists of them.
+
 use crate::ident::{Ident, Lifetime};
 use crate::span::Span;
 use base_core::{Items, Text};

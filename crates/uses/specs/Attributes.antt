@@ -1,18 +1,12 @@
 -- An attribute with another path, and the documentation in attributes.
 use Rattle.std.specs.Prelude.{◌≡◌, ℕ, Bool, false, not, if◌then◌else◌, List, [], ◌++◌, codes, Option, Some, None}
-use Rattle.tok_types.specs.declared.ident.Ident.{Ident}
-use Rattle.node_expr.specs.declared.expr.Expr.{Expr, out-Expr}
-use Rattle.node_expr.specs.declared.expr.Expr.TheOpen.{Expr-F}
-use Rattle.node_expr.specs.declared.lit.Lit.TheVariants as lit
-use Rattle.node_expr.specs.declared.lit.LitStr.{LitStr}
-use Rattle.node_expr.specs.declared.path.Path.{Path}
-use Rattle.node_expr.specs.Kinds.{string_in}
-use Rattle.node_expr.specs.Layers.{ExprLayer}
-use Rattle.node_expr.specs.PathIdent.{ident_of}
-use Rattle.node_core.specs.declared.attr.Attribute.{Attribute}
-use Rattle.node_core.specs.declared.attr.Meta.{Meta}
-use Rattle.node_core.specs.declared.attr.Meta.TheVariants as meta
-use Rattle.syn_grammar.specs.Words.{same_text}
+use Rattle.syn_core.specs.Kinds.{string_in}
+use Rattle.syn_core.specs.Layers.{ExprLayer}
+use Rattle.syn_core.specs.Nodes.{Attribute, Expr, Expr-F, LitStr, Meta, Path, out-Expr}
+use Rattle.syn_core.specs.Nodes.meta as meta
+use Rattle.syn_core.specs.PathIdent.{ident_of}
+use Rattle.syn_core.specs.Tokens.{Ident}
+use Rattle.std.specs.Str.{bytes_eq}
 
 abbrev pub renamed_meta : Meta → Path → Meta
 renamed_meta (meta.Path old) path = meta.Path path
@@ -27,7 +21,7 @@ renamed attribute path = record attribute { meta = renamed_meta attribute.meta p
 
 -- whether the identifier is `doc`
 abbrev pub is_doc : Ident → Bool
-is_doc ident = if same_text ident.text (codes "doc") then not ident.raw else false
+is_doc ident = if bytes_eq ident.text (codes "doc") then not ident.raw else false
 
 abbrev pub is_doc_path : Option Ident → Bool
 is_doc_path None = false

@@ -1,19 +1,15 @@
 -- The item that a text is, and the names of its fields.
 use Rattle.std.specs.Prelude.{◌≡◌, ℕ, List, [], ◌∷◌, flat_map, codes, Option, Some, None, Result, Ok, Err}
 use Rattle.std.specs.Str.{chars}
-use Rattle.tok_types.specs.declared.ident.Ident.{Ident}
-use Rattle.tok_types.specs.declared.tree.TokenStream.{TokenStream}
-use Rattle.tok_core.specs.Spells.{Spells}
-use Rattle.tok_core.specs.Endings.{Refused}
-use Rattle.node_core.specs.declared.data.Data.{Data}
-use Rattle.node_core.specs.declared.data.Data.TheVariants as bodies
-use Rattle.node_core.specs.declared.data.Field.{Field}
-use Rattle.node_core.specs.declared.data.Fields.{Fields}
-use Rattle.node_core.specs.declared.data.Fields.TheVariants as kinds
-use Rattle.node_core.specs.declared.derive.DeriveInput.{DeriveInput}
-use Rattle.syn_items.specs.Trees.{derive_input_of}
-use Rattle.syn_core.specs.Parses.{fault_over}
 use Rattle.syn_core.specs.declared.fail.ParseFail.TheVariants as parse
+use Rattle.syn_core.specs.ItemTrees.{derive_input_of}
+use Rattle.syn_core.specs.Nodes.{Data, DeriveInput, Field, Fields}
+use Rattle.syn_core.specs.Nodes.body as bodies
+use Rattle.syn_core.specs.Nodes.fields as kinds
+use Rattle.syn_core.specs.Parses.{fault_over}
+use Rattle.syn_core.specs.Tokens.{Ident, TokenStream}
+use Rattle.tok_core.specs.Endings.{Refused}
+use Rattle.tok_core.specs.Spells.{Spells}
 use Rattle.uses.specs.declared.fail.TextFail.{TextFail}
 use Rattle.uses.specs.declared.fail.TextFail.TheVariants as fail
 

@@ -2,15 +2,14 @@
 
 ghost use Rattle.std.specs.Prelude.{◌≡◌, IfOk, flat_map};
 ghost use Rattle.std.specs.Option.{option_copied};
-ghost use Rattle.node_expr.specs.declared.expr.Expr.{out-Expr};
 ghost use Rattle.print_core.specs.Items.{attribute_tokens};
 ghost use Rattle.print_core.specs.Marks.{contents};
+ghost use Rattle.syn_core.specs.Nodes.{out-Expr};
 ghost use Rattle.uses.specs.Attributes as spec;
 
-use node_core::{Attribute, Expr, Lit, LitStr, Meta, Path};
 use print_core::ToTokens;
 use std::alloc::Global;
-use tok_core::{Ident, Mem, Text, TokenStream};
+use syn_core::{Attribute, Expr, Ident, Lit, LitStr, Mem, Meta, Path, Text, TokenStream};
 
 /// Puts another path before what the attribute holds: `#[old(a = 1)]` becomes `#[new(a = 1)]`.
 pub fn rename(attribute: &mut Attribute, path: Path)

@@ -1,14 +1,14 @@
 //! Collecting all faults of an input in one pass.
 
 ghost use Rattle.std.specs.Prelude.{◌≡◌, ◌++◌, IfOk, OnOk, flat_map};
-ghost use Rattle.error_fault.specs.Outcome.{Value, settle};
-ghost use Rattle.error_core.specs.Told.{held};
 ghost use Rattle.error_core.specs.Answers.{Answers};
+ghost use Rattle.error_core.specs.Outcome.{Value, settle};
+ghost use Rattle.error_core.specs.ErrorView.{held};
 ghost use Rattle.uses.specs.Faults as spec;
 
 use error_core::{Accumulator, Error, Fail, Result};
-use node_core::{Field, Items, Mem, Span};
 use std::alloc::Global;
+use syn_core::{Field, Items, Mem, Span};
 
 /// The fields, where each has a name; else a fault for each that has none, at its place.
 pub fn named_fields(alloc: Global, fields: Items<Field>) -> Result<Items<Field>>

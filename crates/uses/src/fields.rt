@@ -4,14 +4,13 @@ ghost use Rattle.std.specs.Prelude.{◌≡◌, ◌≤◌, IfOk, flat_map, length
 ghost use Rattle.uses.specs.Fields as spec;
 
 use crate::fail::TextFail;
-use node_core::{Data, DeriveInput, Field, Fields};
 use std::alloc::Global;
-use syn_core::parse_derive_input;
-use tok_core::{Ident, Items, Mem, TryClone, lex};
+use syn_core::{Data, DeriveInput, Field, Fields, Ident, Items, Mem, TryClone, parse_derive_input};
+use tok_core::{MAX_LEN, lex};
 
 /// The item that the text is: a struct, an enum or a union.
 pub fn item_of(alloc: Global, text: &str) -> Result<DeriveInput, TextFail>
-    requires { length text.now ≤ 16777216 }
+    requires { length text.now ≤ MAX_LEN }
     ensures { spec.ReadsItem text.now result }
 {
     let tokens = lex(alloc, 0, text)?;
@@ -21,7 +20,7 @@ pub fn item_of(alloc: Global, text: &str) -> Result<DeriveInput, TextFail>
 
 /// The names of the fields of the struct or union that the text is, in order.
 pub fn fields_of(alloc: Global, text: &str) -> Result<Items<Ident>, TextFail>
-    requires { length text.now ≤ 16777216 }
+    requires { length text.now ≤ MAX_LEN }
     ensures { spec.ReadsNames text.now result }
 {
     let item = item_of(alloc, text)?;

@@ -1,3 +1,5 @@
+//! Clones of attributes.
+
 use crate::attr::{Attribute, Meta, MetaList, MetaNameValue};
 use std::alloc::Global;
 use tok_types::{Mem, TryClone};

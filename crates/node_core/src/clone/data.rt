@@ -1,3 +1,5 @@
+//! Clones of fields, variants and bodies.
+
 use crate::data::{
     Data, DataEnum, DataStruct, DataUnion, Field, Fields, FieldsNamed, FieldsUnnamed, Variant,
     Visibility,

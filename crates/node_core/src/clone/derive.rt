@@ -1,3 +1,5 @@
+//! Clones of whole items.
+
 use crate::derive::DeriveInput;
 use std::alloc::Global;
 use tok_types::{Mem, TryClone};

@@ -1,3 +1,5 @@
+//! Clones of parameters and `where` clauses.
+
 use crate::generics::{
     ConstParam, GenericParam, Generics, LifetimeParam, TypeParam, WhereClause, WherePredicate,
 };

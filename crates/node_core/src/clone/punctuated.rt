@@ -1,3 +1,5 @@
+//! Clones of lists with marks.
+
 use crate::punctuated::{Comma, Punctuated};
 use std::alloc::Global;
 use std::marker::PhantomData;

@@ -1,3 +1,5 @@
+//! Clones of expressions.
+
 ghost use Rattle.std.specs.Prelude.{◌≡◌, IfOk};
 
 use crate::clone::path::{clone_generic_arguments, clone_qself};

@@ -1,3 +1,5 @@
+//! Clones of bounds.
+
 ghost use Rattle.std.specs.Prelude.{◌≡◌, IfOk};
 
 use crate::generics::{TraitBound, TypeParamBound};

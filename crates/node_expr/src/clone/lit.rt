@@ -1,3 +1,5 @@
+//! Clones of literals.
+
 use crate::lit::{Lit, LitBool, LitByte, LitByteStr, LitChar, LitFloat, LitInt, LitStr};
 use std::alloc::Global;
 use tok_types::{Mem, TryClone};

@@ -1,3 +1,5 @@
+//! Clones of paths and their arguments.
+
 ghost use Rattle.std.specs.Prelude.{◌≡◌, IfOk};
 
 use crate::clone::generics::clone_bounds;

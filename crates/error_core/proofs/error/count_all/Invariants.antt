@@ -1,5 +1,5 @@
 use Rattle.std.proofs.Common.{◌≡◌, length, sum_by, take}
-use Rattle.error_core.specs.Told.{leaves}
+use Rattle.error_core.specs.ErrorView.{leaves}
 use Rattle.error_core.proofs.error.count_all.Given as goal
 
 abbrev pub invariant-loop-error : goal.invariant-loop-error

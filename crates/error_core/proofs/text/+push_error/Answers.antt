@@ -2,7 +2,7 @@ use Rattle.std.proofs.Common.{◌≡◌, ◌++◌, codes, arith, ap, ◌∙◌, 
 use Rattle.std.specs.List.{join_by}
 use Rattle.std.proofs.lemmas.List.{take_all}
 use Rattle.error_fault.specs.FaultText.{path_text}
-use Rattle.error_core.specs.Told.{error_text}
+use Rattle.error_core.specs.ErrorView.{error_text}
 use Rattle.error_core.proofs.TextLemmas.{OnOk-root, error_text-of_many}
 use Rattle.error_core.proofs.text.+push_error.Goals as goal
 

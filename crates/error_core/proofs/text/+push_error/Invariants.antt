@@ -2,7 +2,7 @@ use Rattle.std.proofs.Common.{◌≡◌, ◌++◌, take, codes}
 use Rattle.std.specs.List.{join_by}
 use denote.Shadow.{shadow}
 use denote.Text.{Utf8}
-use Rattle.error_core.specs.Told.{error_text}
+use Rattle.error_core.specs.ErrorView.{error_text}
 use Rattle.error_core.proofs.TextLemmas.{gap}
 use Rattle.error_core.proofs.text.+push_error.Given as goal
 

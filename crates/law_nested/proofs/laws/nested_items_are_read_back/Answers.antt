@@ -1,4 +1,4 @@
-use Rattle.law_nested.proofs.Shuts.{no-expr-shut}
+use Rattle.law_nested.proofs.StayBad.{no-expr-shut}
 use Rattle.law_nested.proofs.Wholes.{nested-back}
 use Rattle.law_nested.proofs.laws.nested_items_are_read_back.Goals as goal
 

@@ -5,7 +5,7 @@ use Rattle.law_prefix.proofs.Within.{front-of, within-fronts}
 use Rattle.law_prefix.proofs.laws.fronts_are_read_again.Goals as goal
 
 pub returns-clause-ty : goal.returns-clause-ty
-returns-clause-ty c = λ depth many. front-of ((within-fronts depth).ty many)
+returns-clause-ty c = λ depth allow_plus. front-of ((within-fronts depth).ty allow_plus)
 
 pub returns-clause-expr : goal.returns-clause-expr
 returns-clause-expr c = λ depth level. front-of ((within-fronts depth).expr level)

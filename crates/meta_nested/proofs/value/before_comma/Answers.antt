@@ -1,6 +1,6 @@
 use Rattle.std.proofs.Common.{arith, ◌∙◌, ap, sym}
 use Rattle.std.proofs.lemmas.List.{take_rest}
-use Rattle.law_prefix.specs.Alike.{stops}
+use Rattle.law_prefix.specs.SameLookahead.{stops}
 use Rattle.meta_nested.proofs.Commas.{split_at-more}
 use Rattle.meta_nested.proofs.value.before_comma.Goals as goal
 

@@ -2,7 +2,7 @@ use Rattle.std.proofs.Common.{codes}
 use Rattle.syn_grammar.specs.Grammar.{max_depth}
 use Rattle.law_round_trip.proofs.Wholes.{type_of-back}
 use Rattle.law_round_trip.proofs.Within.{within-backs}
-use Rattle.syn_reread.proofs.Back.{comes-back}
+use Rattle.syn_reread.proofs.RoundTrips.{comes-back}
 use Rattle.syn_reread.proofs.reread.reread_type.Goals as goal
 
 pub returns : goal.returns

@@ -2,7 +2,7 @@ use Rattle.std.proofs.Common.{codes}
 use Rattle.syn_grammar.specs.Grammar.{max_depth}
 use Rattle.law_round_trip.proofs.Within.{within-backs}
 use Rattle.law_round_trip_items.proofs.Wholes.{where_of-back}
-use Rattle.syn_reread.proofs.Back.{comes-back}
+use Rattle.syn_reread.proofs.RoundTrips.{comes-back}
 use Rattle.syn_reread.proofs.reread.reread_where.Goals as goal
 
 pub returns : goal.returns

@@ -5,10 +5,10 @@ use Rattle.syn_rules.proofs.recursion.+parts.Goals as goal
 
 pub read_type-returns-then-depth-eq0 : goal.read_type-returns-then-depth-eq0
 unfolding within
-read_type-returns-then-depth-eq0 t c = let none : c.args.depth ≡ 0 = omega arith in ap (λ depth. (within depth).ty c.args.many c.args.tokens.now) none
+read_type-returns-then-depth-eq0 t c = let none : c.args.depth ≡ 0 = omega arith in ap (λ depth. (within depth).ty c.args.allow_plus c.args.tokens.now) none
 
 pub read_type-returns : goal.read_type-returns
-read_type-returns t c = ty-within c.args.depth c.args.many _ _ _ (omega arith) c.type_step.ensures
+read_type-returns t c = ty-within c.args.depth c.args.allow_plus _ _ _ (omega arith) c.type_step.ensures
 
 pub read_expr-returns-then-depth-eq0 : goal.read_expr-returns-then-depth-eq0
 unfolding within

@@ -1,7 +1,7 @@
 use Rattle.std.proofs.Common.{rules, ◌≡◌, [], length, arith, ◌∙◌, sym}
 use Rattle.std.specs.Vec.Iter.{into_iter_items}
 use Rattle.error_fault.specs.Faults.{siblings}
-use Rattle.error_core.specs.Told.{leaves}
+use Rattle.error_core.specs.ErrorView.{leaves}
 use Rattle.error_core.specs.View.{of_many}
 use Rattle.error_core.proofs.ToldLemmas.{siblings_in_field, siblings_done, siblings_counted, all_taken}
 use Rattle.error_core.proofs.error.Error.+add_sibling_alts_for_unknown_field.Goals as goal

@@ -1,7 +1,7 @@
 use Rattle.std.proofs.Common.{◌≡◌, ◌++◌, length}
 use Rattle.std.specs.Vec.Iter.{into_iter_items}
 use Rattle.error_fault.specs.Faults.{siblings}
-use Rattle.error_core.specs.Told.{held}
+use Rattle.error_core.specs.ErrorView.{held}
 use Rattle.error_core.proofs.error.Error.+add_sibling_alts_for_unknown_field.Given as goal
 
 abbrev pub decreases-add_sibling_alts_for_unknown_field : goal.decreases-add_sibling_alts_for_unknown_field

@@ -1,6 +1,6 @@
 use Rattle.std.proofs.Common.{◌≡◌, ◌++◌, map}
 use Rattle.std.specs.Vec.Iter.{into_iter_items}
-use Rattle.error_core.specs.Told.{One}
+use Rattle.error_core.specs.ErrorView.{One}
 use Rattle.error_core.proofs.error.Error.flatten.Given as goal
 
 abbrev pub invariant-loop-fault : goal.invariant-loop-fault

@@ -1,5 +1,5 @@
 use Rattle.std.proofs.Common.{◌≡◌, ◌≤◌, length, sum_by, arith, ap, ◌∙◌}
-use Rattle.error_core.specs.Told.{leaves}
+use Rattle.error_core.specs.ErrorView.{leaves}
 use Rattle.error_core.proofs.ToldLemmas.{counted_joined, leaves_joined}
 use Rattle.error_core.proofs.error.Error.multiple.Goals as goal
 

@@ -18,4 +18,4 @@ returns-clause-state c =
     rw c.in-Meta.is
     (on_ok_weaker c.push-in-None.result
     (step-unknown c.args.receiver.now c.args.self.now.slots c.args.self.now.faults c.in-Meta.meta c.in_ok-name-in-Meta.name c.push-in-None.new.self (c.in_ok-name-in-Meta.ensures ∙ ap path_text c.meta_path.ensures) (rw c.as_str.ensures at c.in-None.ensures.first))
-    (rw (c.in_ok-fault-in-None.ensures, c.meta_span.ensures, c.as_set.ensures, c.as_str-in-None.ensures) at c.push-in-None.ensures.ok))
+    (rw (c.in_ok-fault-in-None.ensures, c.spanned-in-None.ensures, c.as_set.ensures, c.as_str-in-None.ensures) at c.push-in-None.ensures.ok))

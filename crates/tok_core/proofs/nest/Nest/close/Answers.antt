@@ -1,5 +1,6 @@
 use Rattle.std.proofs.Common.{◌≡◌, true, [], ◌∷◌, ◌++◌, Some, drop, refl, sym, ap, ◌∙◌}
-use Rattle.tok_core.specs.Endings.{is_top, same_delimiter}
+use Rattle.tok_core.specs.Endings.{is_top}
+use Rattle.tok_types.specs.Delimiter.{same_delimiter}
 use Rattle.tok_core.specs.Flat.{closing}
 use Rattle.tok_core.specs.Nests.{flat_nest}
 use Rattle.tok_core.proofs.Nesting.{flat_nest-close, open_over-close, same_delimiter-true}
@@ -23,7 +24,9 @@ returns-clause-one_less c =
 pub returns-clause-flat : goal.returns-clause-flat
 returns-clause-flat c =
     let frame = c.in-Some.frame in
+    let outer = rw c.into_parts-opened.ensures at c.in_ok-push.ensures.ok in
+    let group = rw c.into_parts-opened.ensures at c.group.ensures in
     let yes : same_delimiter c.args.delimiter frame.delimiter ≡ true = cc in
     flat_nest-close c.args.source c.args.end c.args.self.frames c.pop.new.self frame c.args.self.trees c.push.new.self c.group.result
-    c.in-Some.ensures c.in_ok-push.ensures.ok c.group.ensures
+    c.in-Some.ensures outer group
     ∙ ap (λ d. flat_nest c.args.source c.args.self ++ closing d (Some (c.args.source, c.args.end)) ∷ []) (sym (same_delimiter-true c.args.delimiter frame.delimiter yes))

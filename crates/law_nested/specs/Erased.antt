@@ -1,0 +1,36 @@
+-- Nested items without their places: the same item, with every span at the call site.
+use Rattle.std.specs.Prelude.{map, option_map}
+use Rattle.tok_types.specs.declared.span.Span.{Span}
+use Rattle.tok_types.specs.declared.span.Span.TheVariants.{CallSite}
+use Rattle.error_fault.specs.declared.fault.Fault.{Fault}
+use Rattle.error_core.specs.ErrorView.{ErrorView, One, Several, Part}
+use Rattle.meta_nested.specs.declared.nested.MetaNameValueInvalidExpr.{MetaNameValueInvalidExpr}
+use Rattle.meta_nested.specs.declared.nested.NestedMeta.{NestedMeta}
+use Rattle.meta_nested.specs.declared.nested.NestedMeta.TheVariants as nested
+use Rattle.law_spans.specs.Erased.{erased_lit, erased_path, erased_stream}
+use Rattle.law_spans_items.specs.Erased.{erased_meta}
+
+-- ---- errors
+
+abbrev pub erased_place : Span → Span
+erased_place place = CallSite
+
+abbrev pub erased_fault : Fault → Fault
+erased_fault it = record { kind = it.kind; path = it.path; span = option_map erased_place it.span }
+
+abbrev pub erased_part : Part → Part
+erased_part it = record { span = option_map erased_place it.span; shown = it.shown; first = erased_fault it.first; more = map erased_fault it.more }
+
+abbrev pub erased_error : ErrorView → ErrorView
+erased_error (One fault) = One (erased_fault fault)
+erased_error (Several path span first second more) = Several path (option_map erased_place span) (erased_part first) (erased_part second) (map erased_part more)
+
+-- ---- items
+
+abbrev pub erased_bad : MetaNameValueInvalidExpr → MetaNameValueInvalidExpr
+erased_bad it = record { path = erased_path it.path; eq_span = CallSite; value = erased_stream it.value; error = erased_error it.error }
+
+abbrev pub erased_nested : NestedMeta → NestedMeta
+erased_nested (nested.Meta it) = nested.Meta (erased_meta it)
+erased_nested (nested.Lit it) = nested.Lit (erased_lit it)
+erased_nested (nested.NameValueInvalidExpr it) = nested.NameValueInvalidExpr (erased_bad it)
