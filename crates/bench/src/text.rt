@@ -1,4 +1,4 @@
-//! The texts of the workloads.
+//! The texts that are parsed.
 
 use std::alloc::Global;
 use tok_core::Mem;
@@ -6,6 +6,8 @@ use tok_core::Mem;
 /// What a text is read as.
 #[derive(Clone, Copy)]
 pub(crate) enum List {
+    /// Nothing but tokens.
+    Tokens,
     Exprs,
     Paths,
     Items,
@@ -137,7 +139,13 @@ fn deep_exprs(alloc: Global, workload: &str, size: usize) -> Mem<String> {
 }
 
 /// The unit, again and again, between the head and the tail.
-fn filled(alloc: Global, head: &str, unit: &str, tail: &str, size: usize) -> Mem<String> {
+pub(crate) fn filled(
+    alloc: Global,
+    head: &str,
+    unit: &str,
+    tail: &str,
+    size: usize,
+) -> Mem<String> {
     let mut text = String::new(alloc);
     text.push_str(head)?;
     for _ in 0..size.saturating_sub(head.len()).saturating_sub(tail.len()) / unit.len().max(1) {

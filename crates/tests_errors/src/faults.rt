@@ -1,102 +1,78 @@
-use error_fault::{Fault, FaultKind, Items, Mem, Span, Text, TryClone, fault_line};
+//! Faults are written as lines.
+
+use crate::rows::{Tested, expects, first_word, kind_of, names, row_of, span_of};
+use error_fault::{Fault, FaultKind, Mem, Span, Text, TryClone, fault_line};
 use std::alloc::Global;
-use std::test::Fail;
 
-fn at(start: u32, end: u32) -> Span {
-    Span::At {
-        source: 1,
-        start,
-        end,
+// The kind of a fault, its place, the fields that it is in, the last the outermost, what it is about, and its
+// line. A fault without a place has none as the first faults of a struct.
+const ROWS: &str = r#"missing | none |  | name => - Missing field `name`
+duplicate | 14..19 | m | hello => 14..19 Duplicate field `hello` at m
+unknown | 27..36 |  | nom name => 27..36 Unknown field: `nom`. Available values: `name`
+unknown | 10..15 | mode | quick slow fast => 10..15 Unknown field: `quick`. Available values: `fast`, `slow` at mode
+unknown | call |  | k a b c d e f g h i j => call Unknown field: `k`
+custom | 9..12 | n[0] | number too large to fit in target type => 9..12 number too large to fit in target type at n[0]
+format | 5..11 | flag | list => 5..11 Unexpected meta-item format `list` at flag
+type | 22..23 | hello m | int => 22..23 Unexpected type `int` at m/hello
+shape | none |  | enum struct with named fields => - Unsupported shape `enum`. Expected struct with named fields.
+torn | call |  |  => call a\\\nb"#;
+
+fn fault(alloc: Global, kind: &str, about: &str, span: Span) -> Mem<Fault> {
+    let (first, others) = first_word(about);
+    match kind {
+        "missing" => Fault::missing_field(alloc, about),
+        "duplicate" => Fault::duplicate_field(alloc, about, span),
+        "unknown" => {
+            Fault::unknown_field_with_alts(alloc, first, names(alloc, others)?.as_slice(), span)
+        }
+        "custom" => Fault::custom(alloc, about, span),
+        "torn" => Fault::custom(alloc, "a\\\nb", span),
+        "format" => Fault::unexpected_format(alloc, about, span),
+        "type" => {
+            let kind = FaultKind::UnexpectedType(Text::from_str(alloc, about)?);
+            Ok(Fault::at_span(alloc, kind, span))
+        }
+        "shape" => shape(alloc, first, others),
+        _ => Fault::custom(alloc, "of no kind", span),
     }
 }
 
-fn names(alloc: Global, all: &[&str]) -> Mem<Items<Text>> {
-    let mut names = Items::new(alloc);
-    for name in all {
-        names.push(Text::from_str(alloc, *name)?)?;
+fn shape(alloc: Global, observed: &str, expected: &str) -> Mem<Fault> {
+    let observed = Text::from_str(alloc, observed)?;
+    let expected = Some(Text::from_str(alloc, expected)?);
+    Ok(Fault::new(alloc, FaultKind::UnsupportedShape { observed, expected }))
+}
+
+fn located(alloc: Global, fault: Fault, fields: &str) -> Mem<Fault> {
+    let mut fault = fault;
+    for field in fields.split(' ') {
+        if !field.is_empty() {
+            fault = fault.located(alloc, field)?;
+        }
     }
-    Ok(names)
+    Ok(fault)
 }
 
-fn unknown(alloc: Global, name: &str, alts: &[&str], span: Span) -> Mem<Fault> {
-    let alts = names(alloc, alts)?;
-    Fault::unknown_field_with_alts(alloc, name, alts.as_slice(), span)
+/// The line of a copy of the fault.
+fn line(alloc: Global, fault: &Fault) -> Mem<Text> {
+    fault_line(alloc, &fault.try_clone(alloc)?)
 }
 
-/// Whether the copy of the fault is shown as this line.
-fn shows(alloc: Global, fault: Mem<Fault>, line: &str) -> Mem<bool> {
-    let copy = fault?.try_clone(alloc)?;
-    Ok(fault_line(alloc, &copy)?.is(line))
-}
-
-#[test]
-fn fields_that_are_missing_double_or_unknown(rt: HostRuntime) -> Result<(), Fail> {
-    let alloc = rt.alloc();
-    let missing = Fault::missing_field(alloc, "name");
-    assert!(rt; shows(alloc, missing, "- Missing field `name`")?);
-    let duplicate = Fault::duplicate_field(alloc, "hello", at(14, 19))?.located(alloc, "m");
-    assert!(rt; shows(alloc, duplicate, "14..19 Duplicate field `hello` at m")?);
-    let unknown_one = unknown(alloc, "nom", &["name"], at(27, 36));
-    assert!(rt;
-        shows(
-            alloc,
-            unknown_one,
-            "27..36 Unknown field: `nom`. Available values: `name`"
-        )?
-    );
-    let unknown_two = unknown(alloc, "quick", &["slow", "fast"], at(10, 15))?.located(
-        alloc, "mode",
-    );
-    assert!(rt;
-        shows(
-            alloc,
-            unknown_two,
-            "10..15 Unknown field: `quick`. Available values: `fast`, `slow` at mode"
-        )?
-    );
-    let ten = ["a", "b", "c", "d", "e", "f", "g", "h", "i", "j"];
-    let unknown_ten = unknown(alloc, "k", &ten, Span::CallSite);
-    assert!(rt; shows(alloc, unknown_ten, "call Unknown field: `k`")?);
-    Ok(())
+/// Whether the row tells the line of its fault.
+fn is_told(alloc: Global, row: &str) -> Tested<()> {
+    let (columns, told) = row_of(row)?;
+    let (kind, rest) = kind_of(columns)?;
+    let (span, rest) = kind_of(rest)?;
+    let (fields, about) = kind_of(rest)?;
+    let fault = fault(alloc, kind, about, span_of(span))?;
+    let fault = located(alloc, fault, fields)?;
+    expects(row, line(alloc, &fault)?.as_str(), told)
 }
 
 #[test]
-fn other_faults_and_their_places(rt: HostRuntime) -> Result<(), Fail> {
-    let alloc = rt.alloc();
-    let large = "number too large to fit in target type";
-    let custom = Fault::custom(alloc, large, at(9, 12))?.located(alloc, "n[0]");
-    assert!(rt;
-        shows(
-            alloc,
-            custom,
-            "9..12 number too large to fit in target type at n[0]"
-        )?
-    );
-    let format = Fault::unexpected_format(alloc, "list", at(5, 11))?.located(alloc, "flag");
-    assert!(rt;
-        shows(
-            alloc,
-            format,
-            "5..11 Unexpected meta-item format `list` at flag"
-        )?
-    );
-    let int = FaultKind::UnexpectedType(Text::from_str(alloc, "int")?);
-    let inner = Fault::at_span(alloc, int, at(22, 23)).located(alloc, "hello")?;
-    let inner = inner.located(alloc, "m");
-    assert!(rt; shows(alloc, inner, "22..23 Unexpected type `int` at m/hello")?);
-    let shape = FaultKind::UnsupportedShape {
-        observed: Text::from_str(alloc, "enum")?,
-        expected: Some(Text::from_str(alloc, "struct with named fields")?),
-    };
-    let shape = Ok(Fault::new(alloc, shape));
-    assert!(rt;
-        shows(
-            alloc,
-            shape,
-            "- Unsupported shape `enum`. Expected struct with named fields."
-        )?
-    );
-    let torn = Fault::custom(alloc, "a\\\nb", Span::CallSite);
-    assert!(rt; shows(alloc, torn, "call a\\\\\\nb")?);
+fn faults_are_written_as_lines(rt: HostRuntime) -> Tested<()> {
+    for row in ROWS.lines() {
+        is_told(rt.alloc(), row)?;
+    }
     Ok(())
 }

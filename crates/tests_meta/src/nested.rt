@@ -1,14 +1,16 @@
 //! The parser of nested items reads, prints and refuses lists.
 
 use meta_nested::NestedMeta;
-use node_core::{Expr, Meta, SynError};
+use node_core::{Expr, Meta, Path};
 use node_span::Spanned;
 use print_core::ToTokens;
 use std::alloc::Global;
 use std::hash::Hash;
 use std::test::Fail;
-use syn_core::ParseFail;
-use tests_checks::{Tested, comes_back, hash, listed, printing, row_of, tokens};
+use syn_core::{Parse, ParseFail, parse_path};
+use tests_checks::{
+    Tested, comes_back, counts, given, hash, kind_of, listed, no_kind, printing, row_of, tokens,
+};
 use tok_core::{Items, Span, Text, TryClone, to_text};
 
 // Lists, and their items: each with its kind, its place and its text. The value of `value` is an
@@ -88,13 +90,14 @@ a = #[b] => 4..5 unexpected attribute inside of attribute
 a, b = c d, e = #[f] g, h i => 16..17 unexpected attribute inside of attribute
 true = #[] => 7..8 unexpected attribute inside of attribute"#;
 
-fn parse(alloc: Global, text: &str) -> Tested<Result<Items<NestedMeta>, SynError>> {
-    match NestedMeta::parse_meta_list(alloc, &tokens(alloc, 0, text)?) {
-        Ok(items) => Ok(Ok(items)),
-        Err(ParseFail::Syn(error)) => Ok(Err(error)),
-        Err(ParseFail::NoMemory) => Err(Fail::new(format_args!("no memory is left"))),
-    }
-}
+// A bad value ends at its first comma, but the tokens behind it, once they are printed, may close what it
+// opens: `[x,]` is no type, and its printing `[x]` is one.
+const CLOSED: &str =
+    "a = b::<c, d = [x,] > -1 => bad 0..9 a = b ::< c 4..5;value 11..24 d = [x] > - 1;";
+
+// Lists that are equal, and others that are not: places make no difference.
+const PAIRS: &str = r#"equal | a, b(c), d = 1, e = f g, "x" => a,b(c),d=1,e=f g,"x"
+other | a, b(c), d = 1, e = f g, "x" => a, b(c), d = 1, e = f h, "x""#;
 
 fn push_place(alloc: Global, text: &mut Text, span: Span) -> Tested<()> {
     if let Span::At { start, end, .. } = span {
@@ -138,108 +141,142 @@ fn told(alloc: Global, items: &[NestedMeta]) -> Tested<Text> {
     Ok(text)
 }
 
+/// What is told of the items, or the place and the text of the fault.
+fn told_of(alloc: Global, parsed: Parse<Items<NestedMeta>>) -> Tested<Text> {
+    match parsed {
+        Ok(items) => told(alloc, items.as_slice()),
+        Err(ParseFail::Syn(error)) => {
+            let mut fault = Text::new(alloc);
+            push_place(alloc, &mut fault, error.first.0)?;
+            fault.push(' ')?;
+            fault.push_str(error.first.1.as_str())?;
+            Ok(fault)
+        }
+        Err(ParseFail::NoMemory) => Err(Fail::new(format_args!("no memory is left"))),
+    }
+}
+
+fn expects(alloc: Global, row: &str, found: Parse<Items<NestedMeta>>, told: &str) -> Tested<()> {
+    let found = told_of(alloc, found)?;
+    if found.is(told) {
+        return Ok(());
+    }
+    Err(Fail::new(format_args!("{row} is {}", found.as_str())))
+}
+
+fn copied<N: TryClone + Drop>(alloc: Global, parsed: Parse<N>) -> Parse<N> {
+    match parsed?.try_clone(alloc) {
+        Ok(copy) => Ok(copy),
+        Err(_) => Err(ParseFail::NoMemory),
+    }
+}
+
+/// Whether the row tells the list and its copy, or the fault.
+fn is_told(alloc: Global, row: &str) -> Tested<()> {
+    let (text, told) = row_of(row);
+    let tokens = tokens(alloc, 0, text)?;
+    expects(
+        alloc,
+        row,
+        NestedMeta::parse_meta_list(alloc, &tokens),
+        told,
+    )?;
+    let copy = copied(alloc, NestedMeta::parse_meta_list(alloc, &tokens));
+    expects(alloc, row, copy, told)
+}
+
+/// Whether the printing of the list is read as the same list, or as one of so many items.
+fn is_read_back(alloc: Global, row: &str, items: Option<&str>) -> Tested<()> {
+    let (text, _) = row_of(row);
+    let here = tokens(alloc, 0, text)?;
+    let list = listed(NestedMeta::parse_meta_list(alloc, &here));
+    let printing = printing(alloc, list, text)?;
+    let again = NestedMeta::parse_meta_list(alloc, &printing);
+    match items {
+        None => comes_back(NestedMeta::parse_meta_list(alloc, &here), again, text),
+        Some(items) => counts(again, text, items),
+    }
+}
+
 #[test]
-fn nested_items(rt: HostRuntime) -> Tested<()> {
+fn lists_are_read_printed_and_refused(rt: HostRuntime) -> Tested<()> {
     let alloc = rt.alloc();
     for row in READ.lines() {
-        let (text, expected) = row_of(row);
-        let Ok(items) = parse(alloc, text)? else {
-            return Err(Fail::new(format_args!("{text} is refused")));
-        };
-        let found = told(alloc, items.as_slice())?;
-        assert_eq!(rt; found.as_str(), expected, "{text}");
+        is_told(alloc, row)?;
+        is_read_back(alloc, row, None)?;
     }
-    Ok(())
-}
-
-#[test]
-fn refused_lists_have_their_fault(rt: HostRuntime) -> Tested<()> {
-    let alloc = rt.alloc();
     for row in REFUSED.lines() {
-        let (text, expected) = row_of(row);
-        let Err(error) = parse(alloc, text)? else {
-            return Err(Fail::new(format_args!("{text} is read")));
-        };
-        let mut fault = Text::new(alloc);
-        push_place(alloc, &mut fault, error.first.0)?;
-        fault.push(' ')?;
-        fault.push_str(error.first.1.as_str())?;
-        assert_eq!(rt; fault.as_str(), expected, "{text}");
+        is_told(alloc, row)?;
     }
-    Ok(())
+    is_told(alloc, CLOSED)?;
+    is_read_back(alloc, CLOSED, Some("1"))
 }
 
-/// Whether a copy equals its source, and another reading too, which hashes alike.
-fn are_alike<N: TryClone + PartialEq + Hash + Drop>(
+/// Whether two readings are equal; then they hash alike. A copy of the first equals it.
+fn are_equal<N: TryClone + PartialEq + Hash + Drop>(
     alloc: Global,
-    one: &N,
-    other: &N,
+    first: Parse<N>,
+    second: Parse<N>,
+    row: &str,
 ) -> Tested<bool> {
+    let one = given(first, row)?;
+    let other = given(second, row)?;
     let copy = one.try_clone(alloc)?;
-    Ok(copy == *one && *other == *one && hash(other) == hash(one))
+    let equal = other == one;
+    if copy == one && (!equal || hash(&other) == hash(&one)) {
+        return Ok(equal);
+    }
+    Err(Fail::new(format_args!("{row}: a copy differs, or equals hash apart")))
 }
 
 #[test]
 fn places_and_faults_make_no_difference(rt: HostRuntime) -> Tested<()> {
     let alloc = rt.alloc();
-    let Ok(items) = parse(alloc, "a, b(c), d = 1, e = f g, \"x\"")? else {
-        return Err(Fail::new(format_args!("the list is refused")));
-    };
-    let Ok(other) = parse(alloc, "a,b(c),d=1,e=f g,\"x\"")? else {
-        return Err(Fail::new(format_args!("the list is refused")));
-    };
-    assert!(rt; are_alike(alloc, &items, &other)?);
-    let copy = items.try_clone(alloc)?;
-    let places = told(alloc, items.as_slice())?;
-    assert_eq!(rt; told(alloc, copy.as_slice())?.as_str(), places.as_str());
-    let Ok(different) = parse(alloc, "a, b(c), d = 1, e = f h, \"x\"")? else {
-        return Err(Fail::new(format_args!("the list is refused")));
-    };
-    assert!(rt; different != items);
-    Ok(())
-}
-
-#[test]
-fn printed_items_are_read_back(rt: HostRuntime) -> Tested<()> {
-    let alloc = rt.alloc();
-    for row in READ.lines() {
-        let (text, _) = row_of(row);
-        let here = tokens(alloc, 0, text)?;
-        let printing = printing(
+    for row in PAIRS.lines() {
+        let (kind, rest) = kind_of(row)?;
+        let (one, other) = row_of(rest);
+        let one = tokens(alloc, 0, one)?;
+        let other = tokens(alloc, 0, other)?;
+        let equal = are_equal(
             alloc,
-            listed(NestedMeta::parse_meta_list(alloc, &here)),
-            text,
+            NestedMeta::parse_meta_list(alloc, &one),
+            NestedMeta::parse_meta_list(alloc, &other),
+            row,
         )?;
-        comes_back(
-            NestedMeta::parse_meta_list(alloc, &here),
-            NestedMeta::parse_meta_list(alloc, &printing),
-            text,
-        )?;
+        if equal != (kind == "equal") {
+            return no_kind(row);
+        }
     }
     Ok(())
 }
 
-// A bad value ends at its first comma, but the tokens behind it, once they are printed, may close what it
-// opens: `[x,]` is no type, and its printing `[x]` is one.
+/// The path that the one item of a list is.
+fn one_path(alloc: Global, parsed: Parse<Items<NestedMeta>>) -> Parse<Path> {
+    let items = parsed?;
+    match items.as_slice() {
+        [NestedMeta::Meta(Meta::Path(path))] => match path.try_clone(alloc) {
+            Ok(path) => Ok(path),
+            Err(_) => Err(ParseFail::NoMemory),
+        },
+        _ => Err(ParseFail::at(alloc, Span::CallSite, "it is no path alone")),
+    }
+}
+
+// The crate's own test, by its name there.
 #[test]
-fn a_bad_value_may_be_closed_by_what_is_printed_behind_it(rt: HostRuntime) -> Tested<()> {
+fn absolute_path(rt: HostRuntime) -> Tested<()> {
     let alloc = rt.alloc();
-    let text = "a = b::<c, d = [x,] > -1";
-    let Ok(items) = parse(alloc, text)? else {
-        return Err(Fail::new(format_args!("{text} is refused")));
-    };
-    let found = told(alloc, items.as_slice())?;
-    assert_eq!(rt;
-        found.as_str(),
-        "bad 0..9 a = b ::< c 4..5;value 11..24 d = [x] > - 1;"
-    );
-    let items = Ok(items);
-    let tokens = listed(items)?.to_token_stream(alloc)?;
-    let Ok(again) = NestedMeta::parse_meta_list(alloc, &tokens) else {
-        return Err(Fail::new(format_args!("its printing is refused")));
-    };
-    assert_eq!(rt; again.len(), 1);
-    Ok(())
+    let text = "::prost::Message";
+    let tokens = tokens(alloc, 0, text)?;
+    let item = one_path(alloc, NestedMeta::parse_meta_list(alloc, &tokens));
+    comes_back(item, parse_path(alloc, &tokens), text)
+}
+
+fn first_kind(items: &[NestedMeta]) -> &str {
+    match items {
+        [first, ..] => kind(first),
+        [] => "none",
+    }
 }
 
 /// How a value of so many minus signs and a name is read.
@@ -249,8 +286,9 @@ fn deep(alloc: Global, levels: usize) -> Tested<bool> {
         text.push_str("- ")?;
     }
     text.push_str("b, c")?;
-    match parse(alloc, text.as_str())? {
-        Ok(items) => Ok(items.first().is_some_and(|item| kind(item) == "value ")),
+    let tokens = tokens(alloc, 0, text.as_str())?;
+    match NestedMeta::parse_meta_list(alloc, &tokens) {
+        Ok(items) => Ok(first_kind(items.as_slice()) == "value "),
         Err(_) => Ok(false),
     }
 }

@@ -1,3 +1,5 @@
+//! Attributes of the first form are read.
+
 use base_core::{Items, Mem, Text};
 use node_core::{Expr, Lit, Meta};
 use run_first::{NestedMeta, parse_meta_list};

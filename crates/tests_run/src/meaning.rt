@@ -1,3 +1,5 @@
+//! Items are read as a declaration means them.
+
 use error_fault::fault_line;
 use meaning_core::{Outcome, Receiver, Value};
 use node_core::{

@@ -1,3 +1,5 @@
+//! The tool is run over sources and sinks in memory.
+
 use darling_run::run_tool;
 use edge_core::{MemorySink, MemorySource};
 use std::alloc::Global;
@@ -7,6 +9,14 @@ const DECLARATION: &str = "\
 #[derive(FromDeriveInput)]
 #[darling(attributes(my))]
 struct Opts { name: String }
+%%
+";
+
+// The declaration of a struct without fields.
+const EMPTY: &str = "\
+#[derive(FromDeriveInput)]
+#[darling(attributes(my))]
+struct Opts {}
 %%
 ";
 
@@ -109,8 +119,8 @@ fn input(alloc: Global, list: &str) -> Result<String, Fail> {
 }
 
 /// What is written of these subjects, and the program's number.
-fn written(alloc: Global, subjects: &str) -> Result<(u8, Vec<u8>), Fail> {
-    let input = format!(in alloc; "{DECLARATION}{subjects}")?;
+fn written(alloc: Global, declaration: &str, subjects: &str) -> Result<(u8, Vec<u8>), Fail> {
+    let input = format!(in alloc; "{declaration}{subjects}")?;
     end_of(alloc, &["run"], input.into_bytes(), 0, 0)
 }
 
@@ -152,12 +162,12 @@ fn items_are_read(rt: HostRuntime) -> Result<(), Fail> {
 fn any_items_are_read(rt: HostRuntime) -> Result<(), Fail> {
     let alloc = rt.alloc();
     for (subjects, output) in ITEMS {
-        let (number, text) = written(alloc, subjects)?;
+        let (number, text) = written(alloc, DECLARATION, subjects)?;
         assert_eq!(rt; number, 0, "{subjects}");
         assert!(rt; text.as_slice() == output.as_bytes(), "{subjects}");
     }
     for (subjects, line) in NO_ITEMS {
-        let (number, text) = written(alloc, subjects)?;
+        let (number, text) = written(alloc, DECLARATION, subjects)?;
         assert_eq!(rt; number, 3, "{subjects}");
         assert!(rt; text.as_slice() == line.as_bytes(), "{subjects}");
     }
@@ -180,10 +190,10 @@ fn deep(alloc: Global, levels: usize) -> Result<String, Fail> {
 #[test]
 fn more_than_128_open_delimiters_are_too_deep(rt: HostRuntime) -> Result<(), Fail> {
     let alloc = rt.alloc();
-    let (number, text) = written(alloc, deep(alloc, 127)?.as_str())?;
+    let (number, text) = written(alloc, EMPTY, deep(alloc, 127)?.as_str())?;
     assert_eq!(rt; number, 0);
-    assert!(rt; text.as_slice() == b"err S 1\n  - Missing field `name`\n".as_slice());
-    let (number, text) = written(alloc, deep(alloc, 128)?.as_str())?;
+    assert!(rt; text.as_slice() == b"ok S Opts {}\n".as_slice());
+    let (number, text) = written(alloc, EMPTY, deep(alloc, 128)?.as_str())?;
     assert_eq!(rt; number, 3);
     assert!(rt; text.as_slice() == b"refused: too deep in part 2 at 130\n".as_slice());
     let first = format!(in alloc; "\"\n%%\n{}", deep(alloc, 128)?.as_str())?;

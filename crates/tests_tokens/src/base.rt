@@ -1,11 +1,13 @@
+//! Texts, lists and boxes.
+
+use crate::rows::Tested;
 use base_core::{Boxed, Items, Text, TryClone};
 use std::alloc::Global;
 use std::cmp::Ordering;
 use std::collections::HashSet;
-use std::test::Fail;
 
 /// The items `a`, `bc` and the empty text.
-fn three(alloc: Global) -> Result<Items<Text>, Fail> {
+fn three(alloc: Global) -> Tested<Items<Text>> {
     let mut items = Items::of(alloc, Text::from_str(alloc, "a")?)?;
     let mut second = Text::new(alloc);
     second.push('b')?;
@@ -16,7 +18,7 @@ fn three(alloc: Global) -> Result<Items<Text>, Fail> {
 }
 
 #[test]
-fn a_list_of_texts_and_its_copy(rt: HostRuntime) -> Result<(), Fail> {
+fn a_list_of_texts_and_its_copy(rt: HostRuntime) -> Tested<()> {
     let alloc = rt.alloc();
     let mut items = three(alloc)?;
     let copy = items.try_clone(alloc)?;
@@ -32,7 +34,7 @@ fn a_list_of_texts_and_its_copy(rt: HostRuntime) -> Result<(), Fail> {
 }
 
 #[test]
-fn texts_have_an_order_and_a_hash(rt: HostRuntime) -> Result<(), Fail> {
+fn texts_have_an_order_and_a_hash(rt: HostRuntime) -> Tested<()> {
     let alloc = rt.alloc();
     let short = Text::from_str(alloc, "a")?;
     let long = Text::from_str(alloc, "ab")?;
@@ -44,7 +46,7 @@ fn texts_have_an_order_and_a_hash(rt: HostRuntime) -> Result<(), Fail> {
 }
 
 #[test]
-fn a_box_and_its_copy(rt: HostRuntime) -> Result<(), Fail> {
+fn a_box_and_its_copy(rt: HostRuntime) -> Tested<()> {
     let alloc = rt.alloc();
     let boxed = Boxed::new(alloc, (Some('x'), 5u32))?;
     let copy = boxed.try_clone(alloc)?;

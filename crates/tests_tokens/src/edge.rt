@@ -1,5 +1,7 @@
+//! Bytes are read and written whole, over memory and over std.
 ghost use Rattle.std.specs.Prelude.{◌≡◌, IfOk, IsOk, IsErrOf};
 
+use crate::rows::{Tested, expects, kind_of, no_kind, row_of};
 use edge_core::{
     MemorySink, MemorySource, PlainSink, PlainSource, ReadAll, Sink, Source, StdSink, StdSource,
     WriteFault, read_all, write_all,
@@ -11,75 +13,98 @@ use std::test::Fail;
 
 const TEXT: &[u8] = b"twenty bytes of text";
 
-#[test]
-fn messages(rt: HostRuntime) -> Result<(), Fail> {
-    let errors = [
-        (ReadAll::ReadFault, "ReadFault"),
-        (ReadAll::TooLong, "TooLong"),
-        (ReadAll::NoMemory, "NoMemory"),
-    ];
-    for (error, message) in errors {
-        let text = format!(in rt.alloc(); "{error}")?;
-        assert_eq!(rt; text.as_str(), message);
+// `read`: the pieces, the call that fails, the limit, and the bytes or the fault. `again`: the bytes that a second
+// read has, behind a fault. `write`: the pieces, the call that fails, the room, and the bytes that are taken, of
+// which `all` are the whole text.
+const ROWS: &str = "read | 3 0 20 => twenty bytes of text
+read | 3 0 19 => TooLong
+read | 100 0 0 => TooLong
+read | 8 2 20 => ReadFault
+read | 1 21 20 => ReadFault
+read | 1 22 20 => twenty bytes of text
+again | 8 2 20 => ytes of text
+write | 8 2 100 => 8 twenty b
+write | 8 4 100 => all twenty bytes of text
+write | 100 2 100 => all twenty bytes of text
+write | 8 0 20 => all twenty bytes of text
+write | 8 0 10 => 10 twenty byt
+write | 8 0 0 => 0 ";
+
+fn number(text: &str) -> Tested<usize> {
+    match text.parse::<usize>() {
+        Ok(number) => Ok(number),
+        Err(_) => Err(Fail::new(format_args!("{text} is no number"))),
     }
-    Ok(())
 }
 
-#[test]
-fn reads_from_memory(rt: HostRuntime) -> Result<(), Fail> {
-    // The pieces, the call that fails, the limit, and the answer.
-    let cases = [
-        (3, 0, 20, "twenty bytes of text"),
-        (3, 0, 19, "TooLong"),
-        (100, 0, 0, "TooLong"),
-        (8, 2, 20, "ReadFault"),
-        (1, 21, 20, "ReadFault"),
-        (1, 22, 20, "twenty bytes of text"),
-    ];
-    for (piece, failing, limit, answer) in cases {
-        let bytes = TEXT.to_vec(rt.alloc())?;
-        let fails = [failing].to_vec(rt.alloc())?;
-        let mut source = MemorySource::new(bytes, piece, fails);
-        match read_all(rt.alloc(), &mut source, limit) {
-            Ok(bytes) => assert_eq!(rt; bytes.as_slice(), answer.as_bytes()),
-            Err(error) => {
-                let text = format!(in rt.alloc(); "{error}")?;
-                assert_eq!(rt; text.as_str(), answer);
-            }
-        }
+/// The pieces, of which none is empty, the call that fails, and the limit or the room.
+fn numbers(text: &str) -> Tested<(usize, u64, usize)> {
+    let Some((piece, rest)) = text.split_once(' ') else {
+        return Err(Fail::new(format_args!("{text} is one number")));
+    };
+    let Some((failing, most)) = rest.split_once(' ') else {
+        return Err(Fail::new(format_args!("{text} has two numbers")));
+    };
+    Ok((number(piece)?, number(failing)? as u64, number(most)?))
+}
+
+fn is_same(row: &str, found: &[u8], expected: &str) -> Tested<()> {
+    if found == expected.as_bytes() {
+        return Ok(());
     }
-    Ok(())
+    Err(Fail::new(format_args!("{row} has other bytes")))
+}
+
+/// What is read, by a second call where `again` is true.
+fn reads(alloc: Global, row: &str, again: bool) -> Tested<()> {
+    let (_, rest) = kind_of(row)?;
+    let (settings, answer) = row_of(rest)?;
+    let (piece, failing, limit) = numbers(settings)?;
+    if piece == 0 {
+        return no_kind(row);
+    }
+    let fails = [failing].to_vec(alloc)?;
+    let mut source = MemorySource::new(TEXT.to_vec(alloc)?, piece, fails);
+    if again && read_all(alloc, &mut source, limit as u64).is_ok() {
+        return Err(Fail::new(format_args!("{row} has no fault")));
+    }
+    match read_all(alloc, &mut source, limit as u64) {
+        Ok(bytes) => is_same(row, bytes.as_slice(), answer),
+        Err(error) => expects(row, format!(in alloc; "{error}")?.as_str(), answer),
+    }
+}
+
+/// How many bytes are taken, and which.
+fn writes(alloc: Global, row: &str) -> Tested<()> {
+    let (_, rest) = kind_of(row)?;
+    let (settings, answer) = row_of(rest)?;
+    let (piece, failing, room) = numbers(settings)?;
+    let Some((taken, bytes)) = answer.split_once(' ') else {
+        return no_kind(row);
+    };
+    if piece == 0 {
+        return no_kind(row);
+    }
+    let fails = [failing].to_vec(alloc)?;
+    let mut sink = MemorySink::new(alloc, piece, room, fails)?;
+    let written = match write_all(&mut sink, TEXT) {
+        Ok(()) => format!(in alloc; "all")?,
+        Err(WriteFault { sent }) => format!(in alloc; "{sent}")?,
+    };
+    is_same(row, sink.bytes(), bytes)?;
+    expects(row, written.as_str(), taken)
 }
 
 #[test]
-fn reads_on_after_a_fault(rt: HostRuntime) -> Result<(), Fail> {
-    let fails = [2].to_vec(rt.alloc())?;
-    let mut source = MemorySource::new(TEXT.to_vec(rt.alloc())?, 8, fails);
-    assert!(rt; read_all(rt.alloc(), &mut source, 20).is_err());
-    let rest = read_all(rt.alloc(), &mut source, 20)?;
-    assert_eq!(rt; rest.as_slice(), b"ytes of text".as_slice());
-    Ok(())
-}
-
-#[test]
-fn writes_to_memory(rt: HostRuntime) -> Result<(), Fail> {
-    // The pieces, the room, the call that fails, and how many bytes are taken.
-    let cases = [
-        (8, 100, 2, 8),
-        (8, 100, 4, 20),
-        (100, 100, 2, 20),
-        (8, 20, 0, 20),
-        (8, 10, 0, 10),
-        (8, 0, 0, 0),
-    ];
-    for (piece, room, failing, taken) in cases {
-        let fails = [failing].to_vec(rt.alloc())?;
-        let mut sink = MemorySink::new(rt.alloc(), piece, room, fails)?;
-        match write_all(&mut sink, TEXT) {
-            Ok(()) => assert_eq!(rt; taken, 20),
-            Err(WriteFault { sent }) => assert_eq!(rt; sent, taken),
+fn over_memory(rt: HostRuntime) -> Tested<()> {
+    for row in ROWS.lines() {
+        let (kind, _) = kind_of(row)?;
+        match kind {
+            "read" => reads(rt.alloc(), row, false)?,
+            "again" => reads(rt.alloc(), row, true)?,
+            "write" => writes(rt.alloc(), row)?,
+            _ => return no_kind(row),
         }
-        assert_eq!(rt; sink.bytes(), &TEXT[..taken]);
     }
     Ok(())
 }
@@ -100,7 +125,7 @@ fn write_plain(sink: &mut PlainSink, bytes: &[u8]) -> Result<(), WriteFault>
 }
 
 #[test]
-fn plain_past_the_room(rt: HostRuntime) -> Result<(), Fail> {
+fn plain_past_the_room(rt: HostRuntime) -> Tested<()> {
     let mut sink = PlainSink::new(rt.alloc(), 6)?;
     write_plain(&mut sink, b"")?;
     write_plain(&mut sink, TEXT)?;
@@ -156,7 +181,7 @@ impl Write for Third {
 }
 
 #[test]
-fn over_std(rt: HostRuntime) -> Result<(), Fail> {
+fn over_std(rt: HostRuntime) -> Tested<()> {
     assert_eq!(rt; copy_by_std(rt.alloc(), TEXT)?.as_slice(), TEXT);
 
     let mut cursor = StdSource::new(Cursor::new(TEXT));

@@ -1,142 +1,134 @@
+//! Texts are lexed, or refused at their place, and tokens are printed.
+
+use crate::rows::{Tested, expects, kind_of, no_kind, row_of, spelled};
 use std::alloc::Global;
 use std::test::Fail;
 use tok_core::*;
 
-// Texts with their tokens: a joint mark has `_` behind; an identifier stands in `i`, a raw one in `r`, a
-// lifetime in `l` and a literal in `t`.
-const READ: [(&str, &str); 60] = [
-    ("", ""),
-    ("r#type", "r(type)"),
-    ("'a", "l(a)"),
-    ("'a'", "t('a')"),
-    ("1..2", "t(1) ._ . t(2)"),
-    ("1f32", "t(1f32)"),
-    ("1e5", "t(1e5)"),
-    ("///x", "# [ i(doc) = t(\"x\") ]"),
-    ("r#self", "i(r) # i(self)"),
-    ("r#1", "i(r) # t(1)"),
-    ("r##", "i(r) #_ #"),
-    ("br#x", "i(br) # i(x)"),
-    ("b'a", "i(b) l(a)"),
-    ("'r#a", "l(r#a)"),
-    ("'a\"x\"", "l(a) t(\"x\")"),
-    ("1u8\"x\"", "t(1u8) t(\"x\")"),
-    ("'a'b", "l(a) l(b)"),
-    ("\"a\rb\"", "t(\"a\rb\")"),
-    ("r\"a\rb\"", "t(r\"a\rb\")"),
-    ("=///x", "=_ # [ i(doc) = t(\"x\") ]"),
-    ("= //x", "="),
-    ("1e_-5", "t(1e_) - t(5)"),
-    ("////x", ""),
-    ("///x\r\ny", "# [ i(doc) = t(\"x\") ] i(y)"),
-    ("///x\r", "# [ i(doc) = t(\"x\\r\") ]"),
-    ("/// \"\\\t", "# [ i(doc) = t(\" \\\"\\\\\\t\") ]"),
-    ("//!x\n/**x*/", ""),
-    ("a/* /* */ */b", "i(a) i(b)"),
-    ("/", "/"),
-    ("+ += +/**/=", "+ +_ = + ="),
-    ("_ _a é", "i(_) i(_a) i(é)"),
-    ("'_ 'é", "l(_) l(é)"),
-    (
-        "'é' '\"' '\\'' '\\x7F' '\\u{1_0}'",
-        "t('é') t('\"') t('\\'') t('\\x7F') t('\\u{1_0}')",
-    ),
-    ("b'x' b'\\xFF' b'\\''", "t(b'x') t(b'\\xFF') t(b'\\'')"),
-    (
-        "\"\" \"\\n\\r\\t\\\\\\0\\'\\\"\"",
-        "t(\"\") t(\"\\n\\r\\t\\\\\\0\\'\\\"\")",
-    ),
-    ("\"a\\\n \t\r\n b\"", "t(\"a\\\n \t\r\n b\")"),
-    ("b\"a\\xFF\"", "t(b\"a\\xFF\")"),
-    (
-        "r\"\\\" r#\"\"\"# r##\"\"#\"##",
-        "t(r\"\\\") t(r#\"\"\"#) t(r##\"\"#\"##)",
-    ),
-    ("br\"\\\" br#\"\"\"#", "t(br\"\\\") t(br#\"\"\"#)"),
-    (
-        "0 00 1_000 7usize 7é",
-        "t(0) t(00) t(1_000) t(7usize) t(7é)",
-    ),
-    (
-        "0x_1F 0o17u8 0b_1 0xe+1",
-        "t(0x_1F) t(0o17u8) t(0b_1) t(0xe) + t(1)",
-    ),
-    (
-        "340282366920938463463374607431768211455",
-        "t(340282366920938463463374607431768211455)",
-    ),
-    ("1. 1.5 1.5_ 1._5", "t(1.) t(1.5) t(1.5_) t(1) . i(_5)"),
-    ("1.a 1.é", "t(1) . i(a) t(1) . i(é)"),
-    (
-        "1e+5 1E-5 1e_5 1.5e5f64",
-        "t(1e+5) t(1E-5) t(1e_5) t(1.5e5f64)",
-    ),
-    ("1e 1e+ 1.e5", "t(1e) t(1e) + t(1) . i(e5)"),
-    ("1f64 1.f", "t(1f64) t(1) . i(f)"),
-    ("(a [b] {})", "( i(a) [ i(b) ] { } )"),
-    (
-        "#[a = \"b\"],::x\r\n{}",
-        "# [ i(a) = t(\"b\") ] ,_ :_ : i(x) { }",
-    ),
-    ("'a 'b'", "l(a) t('b')"),
-    ("a\u{85}b\u{200E}c\u{2028}d\u{b}", "i(a) i(b) i(c) i(d)"),
-    ("r", "i(r)"),
-    ("b", "i(b)"),
-    ("br", "i(br)"),
-    (
-        "~ ? $ @ % ^ ! & | < > . , ; : # * -",
-        "~ ? $ @ % ^ ! & | < > . , ; : # * -",
-    ),
-    ("->", "-_ >"),
-    ("&&a", "&_ & i(a)"),
-    ("a.0.1", "i(a) . t(0.1)"),
-    ("'\\u{10FFFF}'", "t('\\u{10FFFF}')"),
-    ("fn_ r#fn", "i(fn_) r(fn)"),
-];
+/// How long the text of a row is at most.
+const LONGEST: usize = 1000;
 
-// Texts that are refused, with the place.
-const REFUSED: [(&str, u32); 40] = [
-    ("\"\\u{110000}\"", 0),
-    ("r#\"abc", 2),
-    ("b\"", 0),
-    ("br\"", 0),
-    ("r\"", 0),
-    ("ab\"x\"", 0),
-    ("r#ab\"x\"", 0),
-    ("'ab'", 3),
-    ("\"a\"b", 0),
-    ("'''", 0),
-    ("'\n'", 0),
-    ("'\r'", 0),
-    ("'\t'", 0),
-    ("b'\n'", 1),
-    ("\u{A0}", 0),
-    ("a \u{3000}", 2),
-    ("\u{FEFF}a", 0),
-    ("\0", 0),
-    ("a /*", 2),
-    ("/*/", 0),
-    ("/* /* */", 0),
-    ("\"", 0),
-    ("\"a\\", 0),
-    ("\"\\q\"", 0),
-    ("\"\\x80\"", 0),
-    ("\"\\u{}\"", 0),
-    ("\"\\u{_1}\"", 0),
-    ("\"\\u{1234567}\"", 0),
-    ("\"\\u{D800}\"", 0),
-    ("b\"\\u{1}\"", 0),
-    ("b\"é\"", 0),
-    ("br\"é\"", 0),
-    ("0b2", 0),
-    ("0x", 0),
-    ("340282366920938463463374607431768211456", 0),
-    ("1\u{B7}", 0),
-    ("[a", 2),
-    ("(]", 1),
-    ("a)", 1),
-    ("é(}", 3),
-];
+// Texts with what is told of them. `lex`: the tokens, or the fault and its place. A joint mark has `_`
+// behind; an identifier stands in `i`, a raw one in `r`, a lifetime in `l` and a literal in `t`. `open`: the
+// fault where these groups are opened so many times. `print`: the text of the tokens, which is lexed as the same tokens. `quote`:
+// the text as a string. `comment`: the one place of all its tokens.
+const ROWS: &str = r###"lex |  => 
+lex | r#type => r(type)
+lex | 'a => l(a)
+lex | 'a' => t('a')
+lex | 1..2 => t(1) ._ . t(2)
+lex | 1f32 => t(1f32)
+lex | 1e5 => t(1e5)
+lex | ///x => # [ i(doc) = t("x") ]
+lex | r#self => i(r) # i(self)
+lex | r#1 => i(r) # t(1)
+lex | r## => i(r) #_ #
+lex | br#x => i(br) # i(x)
+lex | b'a => i(b) l(a)
+lex | 'r#a => l(r#a)
+lex | 'a"x" => l(a) t("x")
+lex | 1u8"x" => t(1u8) t("x")
+lex | 'a'b => l(a) l(b)
+lex | "a‹D›b" => t("a‹D›b")
+lex | r"a‹D›b" => t(r"a‹D›b")
+lex | =///x => =_ # [ i(doc) = t("x") ]
+lex | = //x => =
+lex | 1e_-5 => t(1e_) - t(5)
+lex | ////x => 
+lex | ///x‹D›‹A›y => # [ i(doc) = t("x") ] i(y)
+lex | ///x‹D› => # [ i(doc) = t("x\r") ]
+lex | /// "\‹9› => # [ i(doc) = t(" \"\\\t") ]
+lex | //!x‹A›/**x*/ => 
+lex | a/* /* */ */b => i(a) i(b)
+lex | / => /
+lex | + += +/**/= => + +_ = + =
+lex | _ _a é => i(_) i(_a) i(é)
+lex | '_ 'é => l(_) l(é)
+lex | 'é' '"' '\'' '\x7F' '\u{1_0}' => t('é') t('"') t('\'') t('\x7F') t('\u{1_0}')
+lex | b'x' b'\xFF' b'\'' => t(b'x') t(b'\xFF') t(b'\'')
+lex | "" "\n\r\t\\\0\'\"" => t("") t("\n\r\t\\\0\'\"")
+lex | "a\‹A› ‹9›‹D›‹A› b" => t("a\‹A› ‹9›‹D›‹A› b")
+lex | b"a\xFF" => t(b"a\xFF")
+lex | r"\" r#"""# r##""#"## => t(r"\") t(r#"""#) t(r##""#"##)
+lex | br"\" br#"""# => t(br"\") t(br#"""#)
+lex | 0 00 1_000 7usize 7é => t(0) t(00) t(1_000) t(7usize) t(7é)
+lex | 0x_1F 0o17u8 0b_1 0xe+1 => t(0x_1F) t(0o17u8) t(0b_1) t(0xe) + t(1)
+lex | 340282366920938463463374607431768211455 => t(340282366920938463463374607431768211455)
+lex | 1. 1.5 1.5_ 1._5 => t(1.) t(1.5) t(1.5_) t(1) . i(_5)
+lex | 1.a 1.é => t(1) . i(a) t(1) . i(é)
+lex | 1e+5 1E-5 1e_5 1.5e5f64 => t(1e+5) t(1E-5) t(1e_5) t(1.5e5f64)
+lex | 1e 1e+ 1.e5 => t(1e) t(1e) + t(1) . i(e5)
+lex | 1f64 1.f => t(1f64) t(1) . i(f)
+lex | (a [b] {}) => ( i(a) [ i(b) ] { } )
+lex | #[a = "b"],::x‹D›‹A›{} => # [ i(a) = t("b") ] ,_ :_ : i(x) { }
+lex | 'a 'b' => l(a) t('b')
+lex | a‹85›b‹200E›c‹2028›d‹B› => i(a) i(b) i(c) i(d)
+lex | r => i(r)
+lex | b => i(b)
+lex | br => i(br)
+lex | ~ ? $ @ % ^ ! & | < > . , ; : # * - => ~ ? $ @ % ^ ! & | < > . , ; : # * -
+lex | -> => -_ >
+lex | &&a => &_ & i(a)
+lex | a.0.1 => i(a) . t(0.1)
+lex | '\u{10FFFF}' => t('\u{10FFFF}')
+lex | fn_ r#fn => i(fn_) r(fn)
+lex | "\u{110000}" => Syntax 0
+lex | r#"abc => Syntax 2
+lex | b" => Syntax 0
+lex | br" => Syntax 0
+lex | r" => Syntax 0
+lex | ab"x" => Syntax 0
+lex | r#ab"x" => Syntax 0
+lex | 'ab' => Syntax 3
+lex | "a"b => Syntax 0
+lex | ''' => Syntax 0
+lex | '‹A›' => Syntax 0
+lex | '‹D›' => Syntax 0
+lex | '‹9›' => Syntax 0
+lex | b'‹A›' => Syntax 1
+lex | ‹A0› => Syntax 0
+lex | a ‹3000› => Syntax 2
+lex | ‹FEFF›a => Syntax 0
+lex | ‹0› => Syntax 0
+lex | a /* => Syntax 2
+lex | /*/ => Syntax 0
+lex | /* /* */ => Syntax 0
+lex | " => Syntax 0
+lex | "a\ => Syntax 0
+lex | "\q" => Syntax 0
+lex | "\x80" => Syntax 0
+lex | "\u{}" => Syntax 0
+lex | "\u{_1}" => Syntax 0
+lex | "\u{1234567}" => Syntax 0
+lex | "\u{D800}" => Syntax 0
+lex | b"\u{1}" => Syntax 0
+lex | b"é" => Syntax 0
+lex | br"é" => Syntax 0
+lex | 0b2 => Syntax 0
+lex | 0x => Syntax 0
+lex | 340282366920938463463374607431768211456 => Syntax 0
+lex | 1· => Syntax 0
+lex | [a => Syntax 2
+lex | (] => Syntax 1
+lex | a) => Syntax 1
+lex | é(} => Syntax 3
+open | 128 [ => Syntax 128
+open | 129 [ => TooDeep 128
+open | 128 ( => Syntax 128
+open | 129 ( => TooDeep 128
+open | 128 { => Syntax 128
+open | 129 { => TooDeep 128
+open | 43 ([{ => TooDeep 128
+print |  => 
+print | a+=b => a += b
+print | f(a,b) => f (a , b)
+print | #[x] => # [x]
+print | &'a r#type => & 'a r#type
+print | 'r#a{ }( [ ] ) => 'r#a {} ([])
+print | ///x"‹A›1. => # [doc = "x\""] 1.
+print | a::b /**/ -1 => a :: b - 1
+quote | \"‹A›‹D›‹9›‹0›é' => "\\\"\n\r\t\0é'"
+comment | ///x => 0..4"###;
 
 #[cycle(shown)]
 fn push_token(text: &mut String, tree: &TokenTree) -> Mem<()> {
@@ -178,110 +170,103 @@ fn push_tokens(text: &mut String, trees: &[TokenTree]) -> Mem<()> {
     Ok(())
 }
 
-fn shown(alloc: Global, tokens: &TokenStream) -> Mem<String> {
+/// The tokens of the text, or the fault and its place.
+fn lexed(alloc: Global, text: &str) -> Tested<String> {
+    if text.len() > LONGEST {
+        return Err(Fail::new("the text is too long"));
+    }
+    let mut shown = String::new(alloc);
+    match lex(alloc, 0, text) {
+        Ok(tokens) => push_tokens(&mut shown, tokens.trees.as_slice())?,
+        Err(LexError::TooDeep { at }) => return Ok(format!(in alloc; "TooDeep {at}")?),
+        Err(LexError::Syntax { at }) => return Ok(format!(in alloc; "Syntax {at}")?),
+        Err(LexError::NoMemory) => return Err(Fail::new("no memory is left")),
+    }
+    Ok(shown)
+}
+
+/// What is told of a text of so many times these opening delimiters.
+fn opened(alloc: Global, groups: &str) -> Tested<String> {
+    let Some((times, opening)) = groups.split_once(' ') else {
+        return Err(Fail::new("no delimiters are opened"));
+    };
+    let Ok(times) = times.parse::<usize>() else {
+        return Err(Fail::new("the number of groups is no number"));
+    };
     let mut text = String::new(alloc);
-    push_tokens(&mut text, tokens.trees.as_slice())?;
-    Ok(text)
-}
-
-#[test]
-fn reads_every_kind_of_token(rt: HostRuntime) -> Result<(), Fail> {
-    for (text, tokens) in READ {
-        assert!(rt; text.len() < 100);
-        let read = shown(rt.alloc(), &lex(rt.alloc(), 0, text)?)?;
-        assert!(rt; read.as_str().trim_end() == tokens, "{text}");
+    for _time in 0..times {
+        text.push_str(opening)?;
     }
-    Ok(())
+    lexed(alloc, text.as_str())
 }
 
-#[test]
-fn refuses_where_the_text_is_wrong(rt: HostRuntime) -> Result<(), Fail> {
-    for (text, place) in REFUSED {
-        assert!(rt; text.len() < 100);
-        let read = lex(rt.alloc(), 0, text);
-        assert!(rt;
-            matches!(read, Err(LexError::Syntax { at }) if at == place),
-            "{text}"
-        );
+/// The tokens of a short text.
+pub fn tokens(alloc: Global, text: &str) -> Tested<TokenStream> {
+    if text.len() > LONGEST {
+        return Err(Fail::new("the text is too long"));
     }
-    Ok(())
+    Ok(lex(alloc, 0, text)?)
 }
 
-#[test]
-fn refuses_the_group_that_is_too_deep(rt: HostRuntime) -> Result<(), Fail> {
-    let mut text = String::new(rt.alloc());
-    for _ in 0..128 {
-        text.push('[')?;
+/// The text of the tokens, which is lexed as the same tokens.
+fn printed(alloc: Global, text: &str) -> Tested<Text> {
+    let tokens = tokens(alloc, text)?;
+    let printed = to_text(alloc, &tokens)?;
+    if printed.len() > LONGEST {
+        return Err(Fail::new("the printing is too long"));
     }
-    assert_eq!(rt; text.len(), 128);
-    let unclosed = lex(rt.alloc(), 0, text.as_str());
-    assert!(rt; matches!(unclosed, Err(LexError::Syntax { at: 128 })));
-    text.push('[')?;
-    assert_eq!(rt; text.len(), 129);
-    let deep = lex(rt.alloc(), 0, text.as_str());
-    assert!(rt; matches!(deep, Err(LexError::TooDeep { at: 128 })));
-    Ok(())
-}
-
-// Texts, with the text of their tokens.
-const PRINTED: [(&str, &str); 8] = [
-    ("", ""),
-    ("a+=b", "a += b"),
-    ("f(a,b)", "f (a , b)"),
-    ("#[x]", "# [x]"),
-    ("&'a r#type", "& 'a r#type"),
-    ("'r#a{ }( [ ] )", "'r#a {} ([])"),
-    ("///x\"\n1.", "# [doc = \"x\\\"\"] 1."),
-    ("a::b /**/ -1", "a :: b - 1"),
-];
-
-#[test]
-fn prints_tokens_that_are_read_again(rt: HostRuntime) -> Result<(), Fail> {
-    let alloc = rt.alloc();
-    for (text, printed) in PRINTED {
-        let tokens = lex(alloc, 0, text)?;
-        assert!(rt; to_text(alloc, &tokens)?.is(printed), "{text}");
-        assert!(rt; read_again(alloc, 1, &tokens)? == tokens, "{text}");
+    if read_again(alloc, 1, &tokens)? == tokens {
+        return Ok(printed);
     }
-    let text = quoted(alloc, "\\\"\n\r\t\0é'")?;
-    assert!(rt; text.is("\"\\\\\\\"\\n\\r\\t\\0é'\""));
-    Ok(())
+    Err(Fail::new("the printing has other tokens"))
+}
+
+/// The place that a comment has in common with each token that it stands for.
+fn comment(alloc: Global, text: &str) -> Tested<String> {
+    let tokens = tokens(alloc, text)?;
+    if let [TokenTree::Punct(mark), TokenTree::Group(group)] = tokens.trees.as_slice() {
+        let inner = group.stream.trees.as_slice();
+        if let [
+            TokenTree::Ident(name),
+            TokenTree::Punct(equal),
+            TokenTree::Literal(text),
+        ] = inner
+        {
+            let span = mark.span;
+            let outer = group.span == span && name.span == span;
+            if let Span::At {
+                source: 0,
+                start,
+                end,
+            } = span
+            {
+                if outer && equal.span == span && text.span == span {
+                    return Ok(format!(in alloc; "{start}..{end}")?);
+                }
+            }
+        }
+    }
+    Err(Fail::new("the comment stands for other tokens, or at more than one place"))
+}
+
+/// Whether the row tells what becomes of its text.
+fn is_told(alloc: Global, row: &str) -> Tested<()> {
+    let (kind, rest) = kind_of(row)?;
+    let (text, told) = row_of(rest)?;
+    match kind {
+        "lex" => expects(row, lexed(alloc, text)?.as_str().trim_end(), told),
+        "open" => expects(row, opened(alloc, text)?.as_str(), told),
+        "print" => expects(row, printed(alloc, text)?.as_str(), told),
+        "quote" => expects(row, quoted(alloc, text)?.as_str(), told),
+        "comment" => expects(row, comment(alloc, text)?.as_str(), told),
+        _ => no_kind(row),
+    }
 }
 
 #[test]
-fn a_comment_has_one_span(rt: HostRuntime) -> Result<(), Fail> {
-    let tokens = lex(rt.alloc(), 0, "///x")?;
-    let span = Span::At {
-        source: 0,
-        start: 0,
-        end: 4,
-    };
-    let [TokenTree::Punct(mark), TokenTree::Group(group)] = tokens.trees.as_slice() else {
-        return Err(Fail::new("the comment stands for other tokens"));
-    };
-    assert!(rt; mark.span == span && group.span == span);
-    let [
-        TokenTree::Ident(name),
-        TokenTree::Punct(equal),
-        TokenTree::Literal(text),
-    ] = group.stream.trees.as_slice()
-    else {
-        return Err(Fail::new("the group has other tokens"));
-    };
-    assert!(rt; name.span == span && equal.span == span && text.span == span);
-    Ok(())
-}
-
-#[test]
-fn errors_have_their_names(rt: HostRuntime) -> Result<(), Fail> {
-    let alloc = rt.alloc();
-    let errors = [
-        (LexError::TooDeep { at: 1 }, "TooDeep"),
-        (LexError::Syntax { at: 1 }, "Syntax"),
-        (LexError::NoMemory, "NoMemory"),
-    ];
-    for (error, text) in &errors {
-        assert!(rt; format!(in alloc; "{error}")?.as_str() == *text);
+fn texts_are_lexed_and_tokens_printed(rt: HostRuntime) -> Tested<()> {
+    for row in ROWS.lines() {
+        is_told(rt.alloc(), spelled(rt.alloc(), row)?.as_str())?;
     }
     Ok(())
 }

@@ -6,9 +6,13 @@ mod base;
 #[cfg(test)]
 mod edge;
 #[cfg(test)]
+mod faults;
+#[cfg(test)]
 mod lex;
 #[cfg(test)]
 mod lit;
+#[cfg(test)]
+mod rows;
 #[cfg(test)]
 mod scan;
 #[cfg(test)]

@@ -1,9 +1,56 @@
+//! Literals have their values.
+
+use crate::rows::{Tested, expects, row_of, spelled};
 use std::alloc::Global;
-use std::test::Fail;
 use tok_lit::*;
 
+// Texts with the kinds and the values of the literals that they are.
+const ROWS: &str = r###""" => string 
+"a 'é'" => string a 'é'
+"\n\r\t\\\'\"" => string ‹A›‹D›‹9›\'"
+"\x41\u{1_F600}" => string A😀
+"a\‹A› ‹9›‹D›‹A› b\n" => string ab‹A›
+r"\n" => string \n
+r##"a"#b"## => string a"#b
+b"a\xff\0" => bytes [97, 255, 0]
+br#"\""# => bytes [92, 34]
+b'\x80' => byte 128
+b'a' => byte 97
+'é' => character é
+'\'' => character '
+'\u{e9}' => character é
+0 => integer 0
+1_000_u8 => integer 1000
+0xfF_f32 => integer 1048370
+0o17 => integer 15
+0b1_01i8 => integer 5
+340282366920938463463374607431768211455 => integer 340282366920938463463374607431768211455
+1e_ => integer 1
+1. => float
+1.5e-3 => float
+1E5f32 => float
+1f64 => float
+1f32 => float
+1e5 => float
+1f32_ => integer 1
+ => none
+a => none
+true => none
+'a => none
+"a => none
+"a"b => none
+ 1 => none
+1  => none
+-1 => none
+b'é' => none
+"\xff" => none
+"\u{110000}" => none
+r#"a" => none
+0x => none
+340282366920938463463374607431768211456 => none"###;
+
 /// The kind and the value, as one text.
-fn shown(alloc: Global, text: &str) -> Result<String, Fail> {
+fn shown(alloc: Global, text: &str) -> Tested<String> {
     Ok(match value_of(alloc, text)? {
         Some(Value::Str(value)) => format!(in alloc; "string {}", value.as_str())?,
         Some(Value::ByteStr(value)) => format!(in alloc; "bytes {:?}", value.as_slice())?,
@@ -15,73 +62,16 @@ fn shown(alloc: Global, text: &str) -> Result<String, Fail> {
     })
 }
 
-#[test]
-fn values_of_quoted_literals(rt: HostRuntime) -> Result<(), Fail> {
-    for (text, value) in [
-        ("\"\"", "string "),
-        ("\"a 'é'\"", "string a 'é'"),
-        ("\"\\n\\r\\t\\\\\\'\\\"\"", "string \n\r\t\\'\""),
-        ("\"\\x41\\u{1_F600}\"", "string A😀"),
-        ("\"a\\\n \t\r\n b\\n\"", "string ab\n"),
-        ("r\"\\n\"", "string \\n"),
-        ("r##\"a\"#b\"##", "string a\"#b"),
-        ("b\"a\\xff\\0\"", "bytes [97, 255, 0]"),
-        ("br#\"\\\"\"#", "bytes [92, 34]"),
-        ("b'\\x80'", "byte 128"),
-        ("b'a'", "byte 97"),
-        ("'é'", "character é"),
-        ("'\\''", "character '"),
-        ("'\\u{e9}'", "character é"),
-    ] {
-        assert_eq!(rt; shown(rt.alloc(), text)?.as_str(), value);
-    }
-    Ok(())
+/// Whether the row tells the value of its text.
+fn is_told(alloc: Global, row: &str) -> Tested<()> {
+    let (text, value) = row_of(row)?;
+    expects(row, shown(alloc, text)?.as_str(), value)
 }
 
 #[test]
-fn values_of_numbers(rt: HostRuntime) -> Result<(), Fail> {
-    for (text, value) in [
-        ("0", "integer 0"),
-        ("1_000_u8", "integer 1000"),
-        ("0xfF_f32", "integer 1048370"),
-        ("0o17", "integer 15"),
-        ("0b1_01i8", "integer 5"),
-        (
-            "340282366920938463463374607431768211455",
-            "integer 340282366920938463463374607431768211455",
-        ),
-        ("1e_", "integer 1"),
-        ("1.", "float"),
-        ("1.5e-3", "float"),
-        ("1E5f32", "float"),
-        ("1f64", "float"),
-        ("1f32_", "integer 1"),
-    ] {
-        assert_eq!(rt; shown(rt.alloc(), text)?.as_str(), value);
-    }
-    Ok(())
-}
-
-#[test]
-fn other_texts_have_no_value(rt: HostRuntime) -> Result<(), Fail> {
-    for text in [
-        "",
-        "a",
-        "true",
-        "'a",
-        "\"a",
-        "\"a\"b",
-        " 1",
-        "1 ",
-        "-1",
-        "b'é'",
-        "\"\\xff\"",
-        "\"\\u{110000}\"",
-        "r#\"a\"",
-        "0x",
-        "340282366920938463463374607431768211456",
-    ] {
-        assert_eq!(rt; shown(rt.alloc(), text)?.as_str(), "none");
+fn values_of_literals(rt: HostRuntime) -> Tested<()> {
+    for row in ROWS.lines() {
+        is_told(rt.alloc(), spelled(rt.alloc(), row)?.as_str())?;
     }
     Ok(())
 }

@@ -1,164 +1,156 @@
-use std::test::Fail;
+//! The piece that a text begins with is found.
+
+use crate::rows::{Tested, expects, kind_of, no_kind, row_of, spelled};
+use std::alloc::Global;
 use tok_scan::*;
+use tok_types::Mem;
 
-#[test]
-fn finds_the_longest_piece(rt: HostRuntime) -> Result<(), Fail> {
-    for (text, kind, length) in [
-        ("\r\n", Kind::White, 1),
-        ("\u{200e}", Kind::White, 1),
-        ("// a\nb", Kind::Comment, 4),
-        ("////x", Kind::Comment, 5),
-        ("//!x", Kind::Comment, 4),
-        ("///x\r\n", Kind::Doc, 5),
-        ("///", Kind::Doc, 3),
-        ("/**/*/", Kind::Comment, 4),
-        ("/* /* */ */ */", Kind::Comment, 11),
-        ("/*/*/**/*/*/", Kind::Comment, 12),
-        ("a_1=b", Kind::Ident, 3),
-        ("_ \"", Kind::Ident, 1),
-        ("été·x", Kind::Ident, 5),
-        ("r#type", Kind::RawIdent, 6),
-        ("r#self", Kind::Ident, 1),
-        ("r#selfish", Kind::RawIdent, 9),
-        ("r##", Kind::Ident, 1),
-        ("br#x", Kind::Ident, 2),
-        ("b'a", Kind::Ident, 1),
-        ("r#\"abc", Kind::Ident, 1),
-        ("#", Kind::Mark { joint: false }, 1),
-        ("::x", Kind::Mark { joint: true }, 1),
-        ("= =", Kind::Mark { joint: false }, 1),
-        ("=///x", Kind::Mark { joint: true }, 1),
-        ("=//x", Kind::Mark { joint: false }, 1),
-        ("=////x", Kind::Mark { joint: false }, 1),
-        ("/=", Kind::Mark { joint: true }, 1),
-        ("((", Kind::Open(Delimiter::Parenthesis), 1),
-        ("]", Kind::Close(Delimiter::Bracket), 1),
-    ] {
-        let text = characters(rt.alloc(), text)?;
-        assert_eq!(rt; piece(&text), Some(Found { kind, length }));
+// Texts with what is told of them. `piece`: the kind and the length of the piece that the text begins with. `raw`:
+// the same, once it is known which raw strings end. `text`: its bytes, and itself.
+const ROWS: &str = r###"piece | ‹D›‹A› => White 1
+piece | ‹200E› => White 1
+piece | // a‹A›b => Comment 4
+piece | ////x => Comment 5
+piece | //!x => Comment 4
+piece | ///x‹D›‹A› => Doc 5
+piece | /// => Doc 3
+piece | /**/*/ => Comment 4
+piece | /* /* */ */ */ => Comment 11
+piece | /*/*/**/*/*/ => Comment 12
+piece | a_1=b => Ident 3
+piece | _ " => Ident 1
+piece | été·x => Ident 5
+piece | r#type => RawIdent 6
+piece | r#self => Ident 1
+piece | r#selfish => RawIdent 9
+piece | r## => Ident 1
+piece | br#x => Ident 2
+piece | b'a => Ident 1
+piece | r#"abc => Ident 1
+piece | # => Mark { joint: false } 1
+piece | ::x => Mark { joint: true } 1
+piece | = = => Mark { joint: false } 1
+piece | =///x => Mark { joint: true } 1
+piece | =//x => Mark { joint: false } 1
+piece | =////x => Mark { joint: false } 1
+piece | /= => Mark { joint: true } 1
+piece | (( => Open(Parenthesis) 1
+piece | ] => Close(Bracket) 1
+piece | """" => Literal 2
+piece | "a 'b' ~", => Literal 9
+piece | "\n\"\u{1_0ffff}\x7f"  => Literal 21
+piece | "\‹A› ‹9›‹D›‹A› x" => Literal 10
+piece | "é‹D›" => Literal 4
+piece | b"\xff\‹A›" => Literal 9
+piece | r"\"" => Literal 4
+piece | r##"a"#b"##; => Literal 11
+piece | br#""# => Literal 6
+piece | b'\xff' => Literal 7
+piece | 'a' => Literal 3
+piece | '\'' => Literal 4
+piece | '\u{0}' => Literal 7
+piece | 'é' => Literal 3
+piece | 0 => Literal 1
+piece | 1..2 => Literal 1
+piece | 1.f => Literal 1
+piece | 1. => Literal 2
+piece | 1.  => Literal 2
+piece | 1.5.0 => Literal 3
+piece | 1.5e-1_0f32) => Literal 11
+piece | 1e5 => Literal 3
+piece | 1e_-5 => Literal 3
+piece | 1e+_5 => Literal 5
+piece | 1e+ => Literal 2
+piece | 1_000u8  => Literal 7
+piece | 0xFF_u8 => Literal 7
+piece | 0b101 => Literal 5
+piece | 0o_17usize => Literal 10
+piece | 0x1f32 => Literal 6
+piece | 0_x => Literal 3
+piece | 340282366920938463463374607431768211455 => Literal 39
+piece | 340282366920938463463374607431768211456.0 => Literal 41
+piece | 'a => Lifetime 2
+piece | 'ab' => Lifetime 3
+piece | 'a'b => Lifetime 2
+piece | 'r#a => Lifetime 4
+piece | 'r#self => Lifetime 2
+piece | 'a"x" => Lifetime 2
+piece | '_ => Lifetime 2
+piece |  => none
+piece | ‹A0› => none
+piece | ‹FEFF›a => none
+piece | a"b" => none
+piece | "a => none
+piece | "a"_ => none
+piece | "\u{110000}" => none
+piece | "\u{d800}" => none
+piece | "\u{1234567}" => none
+piece | "\u{_1}" => none
+piece | "\x80" => none
+piece | b"\u{1}" => none
+piece | b"é" => none
+piece | br"é" => none
+piece | b"a => none
+piece | r"a => none
+piece | r#"a"#b => none
+piece | ''' => none
+piece | '‹A›' => none
+piece | '\' => none
+piece | 1· => none
+piece | 1_· => none
+piece | 1e5· => none
+piece | 0x => none
+piece | 0x_ => none
+piece | 0b12 => none
+piece | 0xg => none
+piece | 340282366920938463463374607431768211456 => none
+piece | 0x1_00000000_00000000_00000000_00000000u8 => none
+piece | /* => none
+piece | /* /* */ => none
+piece | \ => none
+piece | ` => none
+raw | r#"a"# => Literal 6
+raw | r##"a"# => Ident 1
+raw | r#" r#" r#" => Ident 1
+raw | br#"é"# => Ident 2
+text | aé€🦀 => 10 aé€🦀"###;
+
+fn shown(alloc: Global, found: Option<Found>) -> Mem<String> {
+    match found {
+        Some(Found { kind, length }) => format!(in alloc; "{kind:?} {length}"),
+        None => format!(in alloc; "none"),
     }
-    Ok(())
+}
+
+/// The piece, where it is known which raw strings end.
+fn raw(alloc: Global, text: &[char]) -> Mem<String> {
+    let closings = closings(alloc, text)?;
+    shown(alloc, piece_with(text, &closings))
+}
+
+/// The bytes of the text and the text, from its characters.
+fn kept(alloc: Global, text: &[char]) -> Mem<String> {
+    let again = text_of(alloc, text)?;
+    format!(in alloc; "{} {}", byte_length(text), again.as_str())
+}
+
+/// Whether the row tells what is found in its text.
+fn is_told(alloc: Global, row: &str) -> Tested<()> {
+    let (kind, rest) = kind_of(row)?;
+    let (text, told) = row_of(rest)?;
+    let text = characters(alloc, text)?;
+    match kind {
+        "piece" => expects(row, shown(alloc, piece(&text))?.as_str(), told),
+        "raw" => expects(row, raw(alloc, &text)?.as_str(), told),
+        "text" => expects(row, kept(alloc, &text)?.as_str(), told),
+        _ => no_kind(row),
+    }
 }
 
 #[test]
-fn finds_literals(rt: HostRuntime) -> Result<(), Fail> {
-    for (text, length) in [
-        ("\"\"\"\"", 2),
-        ("\"a 'b' ~\",", 9),
-        ("\"\\n\\\"\\u{1_0ffff}\\x7f\" ", 21),
-        ("\"\\\n \t\r\n x\"", 10),
-        ("\"é\r\"", 4),
-        ("b\"\\xff\\\n\"", 9),
-        ("r\"\\\"\"", 4),
-        ("r##\"a\"#b\"##;", 11),
-        ("br#\"\"#", 6),
-        ("b'\\xff'", 7),
-        ("'a'", 3),
-        ("'\\''", 4),
-        ("'\\u{0}'", 7),
-        ("'é'", 3),
-        ("0", 1),
-        ("1..2", 1),
-        ("1.f", 1),
-        ("1.", 2),
-        ("1. ", 2),
-        ("1.5.0", 3),
-        ("1.5e-1_0f32)", 11),
-        ("1e5", 3),
-        ("1e_-5", 3),
-        ("1e+_5", 5),
-        ("1e+", 2),
-        ("1_000u8 ", 7),
-        ("0xFF_u8", 7),
-        ("0b101", 5),
-        ("0o_17usize", 10),
-        ("0x1f32", 6),
-        ("0_x", 3),
-        ("340282366920938463463374607431768211455", 39),
-        ("340282366920938463463374607431768211456.0", 41),
-    ] {
-        let text = characters(rt.alloc(), text)?;
-        let kind = Kind::Literal;
-        assert_eq!(rt; piece(&text), Some(Found { kind, length }));
+fn pieces_of_texts(rt: HostRuntime) -> Tested<()> {
+    for row in ROWS.lines() {
+        is_told(rt.alloc(), spelled(rt.alloc(), row)?.as_str())?;
     }
-    for (text, length) in [
-        ("'a", 2),
-        ("'ab'", 3),
-        ("'a'b", 2),
-        ("'r#a", 4),
-        ("'r#self", 2),
-        ("'a\"x\"", 2),
-        ("'_", 2),
-    ] {
-        let text = characters(rt.alloc(), text)?;
-        let kind = Kind::Lifetime;
-        assert_eq!(rt; piece(&text), Some(Found { kind, length }));
-    }
-    Ok(())
-}
-
-#[test]
-fn finds_no_piece(rt: HostRuntime) -> Result<(), Fail> {
-    for text in [
-        "",
-        "\u{a0}",
-        "\u{feff}a",
-        "a\"b\"",
-        "\"a",
-        "\"a\"_",
-        "\"\\u{110000}\"",
-        "\"\\u{d800}\"",
-        "\"\\u{1234567}\"",
-        "\"\\u{_1}\"",
-        "\"\\x80\"",
-        "b\"\\u{1}\"",
-        "b\"é\"",
-        "br\"é\"",
-        "b\"a",
-        "r\"a",
-        "r#\"a\"#b",
-        "'''",
-        "'\n'",
-        "'\\'",
-        "1·",
-        "1_·",
-        "1e5·",
-        "0x",
-        "0x_",
-        "0b12",
-        "0xg",
-        "340282366920938463463374607431768211456",
-        "0x1_00000000_00000000_00000000_00000000u8",
-        "/*",
-        "/* /* */",
-        "\\",
-        "`",
-    ] {
-        let text = characters(rt.alloc(), text)?;
-        assert_eq!(rt; piece(&text), None);
-    }
-    Ok(())
-}
-
-#[test]
-fn knows_which_raw_strings_end(rt: HostRuntime) -> Result<(), Fail> {
-    for (text, kind, length) in [
-        ("r#\"a\"#", Kind::Literal, 6),
-        ("r##\"a\"#", Kind::Ident, 1),
-        ("r#\" r#\" r#\"", Kind::Ident, 1),
-        ("br#\"é\"#", Kind::Ident, 2),
-    ] {
-        let text = characters(rt.alloc(), text)?;
-        let closings = closings(rt.alloc(), &text)?;
-        assert_eq!(rt; piece_with(&text, &closings), Some(Found { kind, length }));
-    }
-    Ok(())
-}
-
-#[test]
-fn keeps_the_text(rt: HostRuntime) -> Result<(), Fail> {
-    let text = characters(rt.alloc(), "aé€🦀")?;
-    assert_eq!(rt; byte_length(&text), 10);
-    assert_eq!(rt; text_of(rt.alloc(), &text)?.as_str(), "aé€🦀");
     Ok(())
 }

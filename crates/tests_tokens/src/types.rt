@@ -1,11 +1,13 @@
+//! Tokens, identifiers and places by themselves.
+
+use crate::lex::tokens;
+use crate::rows::{Tested, expects, row_of};
 use std::alloc::Global;
 use std::cmp::Ordering;
 use std::collections::HashSet;
 use std::test::Fail;
-use tok_types::{
-    Delimiter, Group, Ident, IdentError, Items, Lifetime, Literal, Mem, Punct, Span, Text,
-    TokenStream, TokenTree, TryClone,
-};
+use tok_core::respan;
+use tok_types::{Ident, Mem, Span, Text, TokenStream, TryClone};
 
 const HERE: Span = Span::At {
     source: 0,
@@ -19,29 +21,14 @@ fn ident(alloc: Global, text: &str, raw: bool, span: Span) -> Mem<Ident> {
 }
 
 /// The tokens `(a 'b = "c")`, each at `span`.
-fn sample(alloc: Global, span: Span) -> Mem<TokenStream> {
-    let mut trees = Items::new(alloc);
-    trees.push(TokenTree::Ident(ident(alloc, "a", false, span)?))?;
-    let lifetime = ident(alloc, "b", false, span)?;
-    trees.push(TokenTree::Lifetime(Lifetime { ident: lifetime }))?;
-    trees.push(TokenTree::Punct(Punct {
-        ch: '=',
-        joint: false,
-        span,
-    }))?;
-    let text = Text::from_str(alloc, "\"c\"")?;
-    trees.push(TokenTree::Literal(Literal { text, span }))?;
-    let group = Group {
-        delimiter: Delimiter::Parenthesis,
-        stream: TokenStream { trees },
-        span,
-    };
-    let trees = Items::of(alloc, TokenTree::Group(group))?;
-    Ok(TokenStream { trees })
+fn sample(alloc: Global, span: Span) -> Tested<TokenStream> {
+    let mut sample = tokens(alloc, "(a 'b = \"c\")")?;
+    respan(&mut sample, span);
+    Ok(sample)
 }
 
 #[test]
-fn tokens_are_equal_whatever_their_spans(rt: HostRuntime) -> Result<(), Fail> {
+fn tokens_are_equal_whatever_their_spans(rt: HostRuntime) -> Tested<()> {
     let alloc = rt.alloc();
     let here = sample(alloc, HERE)?;
     assert!(rt; here == sample(alloc, Span::CallSite)?);
@@ -53,7 +40,7 @@ fn tokens_are_equal_whatever_their_spans(rt: HostRuntime) -> Result<(), Fail> {
 }
 
 #[test]
-fn identifiers_are_ordered_by_text_and_then_by_raw(rt: HostRuntime) -> Result<(), Fail> {
+fn identifiers_are_ordered_by_text_and_then_by_raw(rt: HostRuntime) -> Tested<()> {
     let alloc = rt.alloc();
     let bare = ident(alloc, "a", false, HERE)?;
     let raw = ident(alloc, "a", true, Span::CallSite)?;
@@ -85,44 +72,50 @@ fn spans_join_in_one_text(rt: HostRuntime) {
     assert!(rt; Span::call_site().join(HERE) == Span::CallSite);
 }
 
-#[test]
-fn names_one_identifier(rt: HostRuntime) -> Result<(), Fail> {
-    let alloc = rt.alloc();
-    for (text, name, raw) in [
-        ("a_1", "a_1", false),
-        ("_", "_", false),
-        ("self", "self", false),
-        ("größe·", "größe·", false),
-        ("r", "r", false),
-        ("r#type", "type", true),
-        ("r#_x", "_x", true),
-    ] {
-        let made = Ident::new(alloc, text, HERE)?;
-        assert!(rt;
-            made.text.is(name) && made.raw == raw && made.span == HERE,
-            "{text}"
-        );
-        assert!(rt; made.to_text(alloc)?.is(text), "{text}");
+// Texts with the name of the identifier, and whether it is raw; else why none is made.
+const NAMES: &str = "a_1 => a_1
+_ => _
+self => self
+größe· => größe·
+r => r
+r#type => type raw
+r#_x => _x raw
+ => NotAnIdentifier
+1a => NotAnIdentifier
+a b => NotAnIdentifier
+a-b => NotAnIdentifier
+·a => NotAnIdentifier
+'a => NotAnIdentifier
+r# => NotAnIdentifier
+r#1 => NotAnIdentifier
+r#_ => NotAnIdentifier
+r#self => NotAnIdentifier
+r#Self => NotAnIdentifier
+r#super => NotAnIdentifier
+r#crate => NotAnIdentifier
+r#r#a => NotAnIdentifier";
+
+/// The identifier that is written so.
+fn named(alloc: Global, text: &str) -> Tested<String> {
+    match Ident::new(alloc, text, HERE) {
+        Ok(made) => {
+            if made.span != HERE || !made.to_text(alloc)?.is(text) {
+                return Err(Fail::new(format_args!(
+                    "{text} stands elsewhere, or is written otherwise"
+                )));
+            }
+            let raw = if made.raw { " raw" } else { "" };
+            Ok(format!(in alloc; "{}{raw}", made.text.as_str())?)
+        }
+        Err(error) => Ok(format!(in alloc; "{error}")?),
     }
-    for text in [
-        "", "1a", "a b", "a-b", "·a", "'a", "r#", "r#1", "r#_", "r#self", "r#Self", "r#super",
-        "r#crate", "r#r#a",
-    ] {
-        let refused = Ident::new(alloc, text, HERE);
-        assert!(rt;
-            matches!(&refused, Err(IdentError::NotAnIdentifier)),
-            "{text}"
-        );
-    }
-    Ok(())
 }
 
 #[test]
-fn says_why_no_identifier_is_made(rt: HostRuntime) -> Result<(), Fail> {
-    let alloc = rt.alloc();
-    let refused = format!(in alloc; "{}", IdentError::NotAnIdentifier)?;
-    assert_eq!(rt; refused.as_str(), "NotAnIdentifier");
-    let memory = format!(in alloc; "{}", IdentError::NoMemory)?;
-    assert_eq!(rt; memory.as_str(), "NoMemory");
+fn names_of_identifiers(rt: HostRuntime) -> Tested<()> {
+    for row in NAMES.lines() {
+        let (text, name) = row_of(row)?;
+        expects(row, named(rt.alloc(), text)?.as_str(), name)?;
+    }
     Ok(())
 }

@@ -3,11 +3,10 @@
 ghost use Rattle.std.specs.Prelude.{◌≤◌, length};
 
 use error_core::Fail;
-use node_core::{Data, Field, Fields, Items};
 use std::alloc::Global;
 use std::{result, test};
-use syn_core::parse_path;
-use tok_core::{TryClone, lex, to_text};
+use syn_core::{Data, Field, Fields, Items, parse_path};
+use tok_core::{MAX_LEN, TryClone, lex, to_text};
 use uses::{doc_of, fields_of, item_of, named_fields, printed_as};
 
 type Tested<T> = result::Result<T, test::Fail>;
@@ -69,7 +68,7 @@ fn an_attribute_is_printed_under_another_path(rt: HostRuntime) -> Tested<()> {
 
 /// The fields of a struct in parentheses.
 fn unnamed(alloc: Global, text: &str) -> Tested<Items<Field>>
-    requires { length text.now ≤ 16777216 }
+    requires { length text.now ≤ MAX_LEN }
 {
     let Ok(item) = item_of(alloc, text) else {
         return Err(refused());
@@ -90,8 +89,10 @@ fn each_field_without_a_name_is_a_fault(rt: HostRuntime) -> Tested<()> {
     let fields = unnamed(alloc, "struct S(u8, Vec<T>);")?;
     match named_fields(alloc, fields) {
         Ok(_) => Err(refused()),
-        Err(Fail::NoMemory) => Err(refused()),
-        Err(Fail::Faults(error)) => {
+        Err(fail) => {
+            let Some(error) = fail.into_error() else {
+                return Err(refused());
+            };
             assert!(rt; error.len() == 2);
             Ok(())
         }
