@@ -27,14 +27,17 @@ abbrev pub is_doc_path : Option Ident → Bool
 is_doc_path None = false
 is_doc_path (Some ident) = is_doc ident
 
+abbrev pub string_of_layer : ExprLayer → Option LitStr
+string_of_layer (Expr-F.Lit literal) = string_in literal
+string_of_layer _ = None
+
 -- the string that an expression is
-abbrev pub string_of : ExprLayer → Option LitStr
-string_of (Expr-F.Lit literal) = string_in literal
-string_of _ = None
+abbrev pub string_of : Expr → Option LitStr
+string_of expr = string_of_layer (out-Expr expr)
 
 -- the string of `doc = "text"`
 abbrev pub doc_meta : Meta → Option LitStr
-doc_meta (meta.NameValue pair) = if is_doc_path (ident_of pair.path) then string_of (out-Expr pair.value) else None
+doc_meta (meta.NameValue pair) = if is_doc_path (ident_of pair.path) then string_of pair.value else None
 doc_meta _ = None
 
 abbrev pub line_of : Option LitStr → List ℕ

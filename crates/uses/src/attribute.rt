@@ -4,7 +4,6 @@ ghost use Rattle.std.specs.Prelude.{◌≡◌, IfOk, flat_map};
 ghost use Rattle.std.specs.Option.{option_copied};
 ghost use Rattle.print_core.specs.Items.{attribute_tokens};
 ghost use Rattle.print_core.specs.Marks.{contents};
-ghost use Rattle.syn_core.specs.Nodes.{out-Expr};
 ghost use Rattle.uses.specs.Attributes as spec;
 
 use print_core::ToTokens;
@@ -60,7 +59,7 @@ fn doc_in(attribute: &Attribute) -> Option<&LitStr>
 }
 
 fn string_of(expr: &Expr) -> Option<&LitStr>
-    ensures { option_copied result ≡ spec.string_of (out-Expr expr.now) }
+    ensures { option_copied result ≡ spec.string_of expr.now }
 {
     match expr {
         Expr::Lit(Lit::Str(text)) => Some(text),
