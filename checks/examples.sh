@@ -1,8 +1,16 @@
 #!/bin/sh
 # Runs the tool on each examples/NAME.txt and compares what it writes with NAME.out; words choose the names.
-# The proved program runs where it is built; else its sources run unproved, as ./darling does.
+# The proved program runs where it is built; else its sources run unproved, as ./darling does, a minute for each.
+# With --proved as the first word, nothing is run where no proved program is built.
 set -u
 cd "$(dirname "$0")/.." || exit 1
+if [ "${1-}" = --proved ]; then
+    shift
+    if [ ! -x crates/darling/out/darling ]; then
+        echo "examples: no proved program is built here"
+        exit 0
+    fi
+fi
 made=$(mktemp -d)
 trap 'rm -rf "$made"' EXIT
 passed=0
