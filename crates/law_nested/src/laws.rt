@@ -9,6 +9,7 @@ ghost use Rattle.meta_nested.specs.Nested.{attribute_in, nested_of};
 ghost use Rattle.meta_nested.specs.Nodes.{nested_tokens};
 ghost use Rattle.meta_nested.specs.declared.nested.NestedMeta.{NestedMeta};
 ghost use Rattle.std.specs.Prelude.{List, Some, map, option_map, ◌≡◌};
+ghost use Rattle.syn_core.specs.OneTree.{HaveOneTree};
 ghost use Rattle.tok_types.specs.declared.tree.TokenStream.{TokenStream};
 
 /// All of the tokens without their places are read as the same nested items without their places,
@@ -28,4 +29,9 @@ pub fn nested_items_are_read_back()
     ensures nested_of { (tokens : TokenStream) (items : List NestedMeta) → nested_of tokens ≡ Some items → AllStayBad items
         → (again : List NestedMeta) × (nested_of (stream (separated nested_tokens items)) ≡ Some again) × (map erased_nested again ≡ map erased_nested items) }
     ensures shut { (tokens : TokenStream) → BeginsNoExpr tokens → IsBad tokens }
+{}
+
+/// A list of tokens is read as one list of nested items at most.
+pub fn nested_items_have_one_tree()
+    ensures nested_of { HaveOneTree nested_of }
 {}
