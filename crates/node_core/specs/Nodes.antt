@@ -1,4 +1,4 @@
--- The types of nodes, under one name: whoever writes a definition over nodes imports them from here.
+-- The types of the crates below, for definitions over them.
 pub use Rattle.node_expr.specs.declared.expr.Expr.{Expr, out-Expr, roll-Expr}
 pub use Rattle.node_expr.specs.declared.expr.Expr.TheVariants as expr
 pub use Rattle.node_expr.specs.declared.expr.Expr.TheOpen.{Expr-F, TypeParamBound-F, GenericArgument-F, PathArguments-F, Type-F, ExprPath-F, TraitBound-F, Path-F, PathSegment-F, TypeArray-F, TypePath-F}
@@ -51,34 +51,4 @@ pub use Rattle.node_expr.specs.declared.ty.ReturnType.{ReturnType}
 pub use Rattle.node_expr.specs.declared.ty.ReturnType.TheVariants as return_type
 pub use Rattle.node_expr.specs.declared.ty.NamedArg.{NamedArg}
 pub use Rattle.node_expr.specs.declared.ty.FnArg.{FnArg}
-pub use Rattle.node_core.specs.declared.attr.Attribute.{Attribute}
-pub use Rattle.node_core.specs.declared.attr.Meta.{Meta}
-pub use Rattle.node_core.specs.declared.attr.Meta.TheVariants as meta
-pub use Rattle.node_core.specs.declared.attr.MetaList.{MetaList}
-pub use Rattle.node_core.specs.declared.attr.MetaNameValue.{MetaNameValue}
-pub use Rattle.node_core.specs.declared.data.Visibility.{Visibility}
-pub use Rattle.node_core.specs.declared.data.Visibility.TheVariants as visibility
-pub use Rattle.node_core.specs.declared.data.Field.{Field}
-pub use Rattle.node_core.specs.declared.data.Fields.{Fields}
-pub use Rattle.node_core.specs.declared.data.Fields.TheVariants as fields
-pub use Rattle.node_core.specs.declared.data.FieldsNamed.{FieldsNamed}
-pub use Rattle.node_core.specs.declared.data.FieldsUnnamed.{FieldsUnnamed}
-pub use Rattle.node_core.specs.declared.data.Variant.{Variant}
-pub use Rattle.node_core.specs.declared.data.«Data».{«Data» as Data}
-pub use Rattle.node_core.specs.declared.data.«Data».TheVariants as body
-pub use Rattle.node_core.specs.declared.data.DataStruct.{DataStruct}
-pub use Rattle.node_core.specs.declared.data.DataEnum.{DataEnum}
-pub use Rattle.node_core.specs.declared.data.DataUnion.{DataUnion}
-pub use Rattle.node_core.specs.declared.derive.DeriveInput.{DeriveInput}
-pub use Rattle.node_core.specs.declared.generics.Generics.{Generics}
-pub use Rattle.node_core.specs.declared.generics.GenericParam.{GenericParam}
-pub use Rattle.node_core.specs.declared.generics.GenericParam.TheVariants as generic_param
-pub use Rattle.node_core.specs.declared.generics.LifetimeParam.{LifetimeParam}
-pub use Rattle.node_core.specs.declared.generics.TypeParam.{TypeParam}
-pub use Rattle.node_core.specs.declared.generics.ConstParam.{ConstParam}
-pub use Rattle.node_core.specs.declared.generics.WhereClause.{WhereClause}
-pub use Rattle.node_core.specs.declared.generics.WherePredicate.{WherePredicate}
-pub use Rattle.node_core.specs.declared.generics.WherePredicate.TheVariants as where_predicate
-pub use Rattle.node_core.specs.declared.punctuated.Punctuated.{Punctuated}
-pub use Rattle.node_core.specs.declared.punctuated.Comma.{Comma}
 pub use Rattle.node_error.specs.declared.error.SynError.{SynError}

@@ -6,7 +6,7 @@ pub mod Printing
 pub mod Quoted
 pub mod Readable
 pub mod Spells
-pub mod Types
+pub mod Tokens
 pub use Rattle.tok_scan.specs.Characters
 pub use Rattle.tok_scan.specs.Closings
 pub use Rattle.tok_scan.specs.Comments
@@ -21,4 +21,3 @@ pub use Rattle.tok_types.specs.Ident
 pub use Rattle.tok_types.specs.Names
 pub use Rattle.tok_types.specs.Respan
 pub use Rattle.tok_types.specs.Span
-pub use Rattle.tok_types.specs.Tokens

@@ -1,167 +1,139 @@
--- Characters that definitions name, by their codes.
-use Rattle.std.specs.Prelude.{ℕ}
+-- Characters that definitions name, each by the text of it alone.
+use Rattle.std.specs.Prelude.{ℕ, List, [], ◌∷◌, codes}
+
+-- the code of the first character of a text
+abbrev pub code_of : List ℕ → ℕ
+code_of [] = 0
+code_of (c ∷ cs) = c
 
 abbrev pub tab : ℕ
-tab = 9
+tab = code_of (codes "\t")
 
 abbrev pub line_feed : ℕ
-line_feed = 10
+line_feed = code_of (codes "\n")
 
 abbrev pub carriage_return : ℕ
-carriage_return = 13
+carriage_return = code_of (codes "\r")
 
--- `!`
 abbrev pub exclamation : ℕ
-exclamation = 33
+exclamation = code_of (codes "!")
 
--- `"`
 abbrev pub double_quote : ℕ
-double_quote = 34
+double_quote = code_of (codes "\"")
 
--- `#`
 abbrev pub hash : ℕ
-hash = 35
+hash = code_of (codes "#")
 
--- `$`
 abbrev pub dollar : ℕ
-dollar = 36
+dollar = code_of (codes "$")
 
--- `%`
 abbrev pub percent : ℕ
-percent = 37
+percent = code_of (codes "%")
 
--- `&`
 abbrev pub ampersand : ℕ
-ampersand = 38
+ampersand = code_of (codes "&")
 
--- `'`
 abbrev pub single_quote : ℕ
-single_quote = 39
+single_quote = code_of (codes "'")
 
--- `(`
 abbrev pub left_parenthesis : ℕ
-left_parenthesis = 40
+left_parenthesis = code_of (codes "(")
 
--- `)`
 abbrev pub right_parenthesis : ℕ
-right_parenthesis = 41
+right_parenthesis = code_of (codes ")")
 
--- `*`
 abbrev pub star : ℕ
-star = 42
+star = code_of (codes "*")
 
--- `+`
 abbrev pub plus : ℕ
-plus = 43
+plus = code_of (codes "+")
 
--- `,`
 abbrev pub comma : ℕ
-comma = 44
+comma = code_of (codes ",")
 
--- `-`
 abbrev pub minus : ℕ
-minus = 45
+minus = code_of (codes "-")
 
--- `.`
 abbrev pub dot : ℕ
-dot = 46
+dot = code_of (codes ".")
 
--- `/`
 abbrev pub slash : ℕ
-slash = 47
+slash = code_of (codes "/")
 
--- `:`
 abbrev pub colon : ℕ
-colon = 58
+colon = code_of (codes ":")
 
--- `;`
 abbrev pub semicolon : ℕ
-semicolon = 59
+semicolon = code_of (codes ";")
 
--- `<`
 abbrev pub less : ℕ
-less = 60
+less = code_of (codes "<")
 
--- `=`
 abbrev pub equals : ℕ
-equals = 61
+equals = code_of (codes "=")
 
--- `>`
 abbrev pub greater : ℕ
-greater = 62
+greater = code_of (codes ">")
 
--- `?`
 abbrev pub question : ℕ
-question = 63
+question = code_of (codes "?")
 
--- `@`
 abbrev pub at_sign : ℕ
-at_sign = 64
+at_sign = code_of (codes "@")
 
--- `[`
 abbrev pub left_bracket : ℕ
-left_bracket = 91
+left_bracket = code_of (codes "[")
 
--- `\`
 abbrev pub backslash : ℕ
-backslash = 92
+backslash = code_of (codes "\\")
 
--- `]`
 abbrev pub right_bracket : ℕ
-right_bracket = 93
+right_bracket = code_of (codes "]")
 
--- `^`
 abbrev pub caret : ℕ
-caret = 94
+caret = code_of (codes "^")
 
--- `_`
 abbrev pub underscore : ℕ
-underscore = 95
+underscore = code_of (codes "_")
 
--- `{`
 abbrev pub left_brace : ℕ
-left_brace = 123
+left_brace = code_of (codes "{")
 
--- `|`
 abbrev pub bar : ℕ
-bar = 124
+bar = code_of (codes "|")
 
--- `}`
 abbrev pub right_brace : ℕ
-right_brace = 125
+right_brace = code_of (codes "}")
 
--- `~`
 abbrev pub tilde : ℕ
-tilde = 126
-
--- ---- letters and digits
+tilde = code_of (codes "~")
 
 abbrev pub digit_0 : ℕ
-digit_0 = 48
+digit_0 = code_of (codes "0")
 
 abbrev pub letter_E : ℕ
-letter_E = 69
+letter_E = code_of (codes "E")
 
 abbrev pub letter_b : ℕ
-letter_b = 98
+letter_b = code_of (codes "b")
 
 abbrev pub letter_e : ℕ
-letter_e = 101
+letter_e = code_of (codes "e")
 
 abbrev pub letter_n : ℕ
-letter_n = 110
+letter_n = code_of (codes "n")
 
 abbrev pub letter_o : ℕ
-letter_o = 111
+letter_o = code_of (codes "o")
 
 abbrev pub letter_r : ℕ
-letter_r = 114
+letter_r = code_of (codes "r")
 
 abbrev pub letter_t : ℕ
-letter_t = 116
+letter_t = code_of (codes "t")
 
 abbrev pub letter_u : ℕ
-letter_u = 117
+letter_u = code_of (codes "u")
 
 abbrev pub letter_x : ℕ
-letter_x = 120
+letter_x = code_of (codes "x")

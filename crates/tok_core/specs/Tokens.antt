@@ -1,4 +1,4 @@
--- The types of tokens, under one name: whoever writes a definition over tokens imports them from here.
+-- The types of tokens, for definitions over them.
 pub use Rattle.tok_types.specs.declared.error.IdentError.{IdentError}
 pub use Rattle.tok_types.specs.declared.error.IdentError.TheVariants as ident_error
 pub use Rattle.tok_types.specs.declared.ident.Ident.{Ident}
@@ -15,3 +15,5 @@ pub use Rattle.tok_types.specs.declared.tree.TokenTree.{TokenTree, out-TokenTree
 pub use Rattle.tok_types.specs.declared.tree.TokenTree.TheFolds.{fold-TokenTree, fold-Group, fold-TokenStream}
 pub use Rattle.tok_types.specs.declared.tree.TokenTree.TheOpen.{TokenTree-F, Group-F, TokenStream-F}
 pub use Rattle.tok_types.specs.declared.tree.TokenTree.TheVariants as tree
+pub use Rattle.tok_scan.specs.declared.kind.Kind.{Kind}
+pub use Rattle.tok_scan.specs.declared.kind.Kind.TheVariants as kind
