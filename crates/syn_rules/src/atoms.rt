@@ -10,13 +10,14 @@ ghost use Rattle.syn_grammar.specs.Reads.{Reads};
 ghost use Rattle.syn_grammar.specs.Readers.{any_level};
 ghost use Rattle.syn_lists.specs.Lists.{all_depth};
 
-use crate::rules::{ANY_LEVEL, ReadParts, Rules};
+use crate::rules::ExprRules;
 use base_core::Items;
 use node_expr::{Delimiter, Expr, ExprArray, ExprPath, Lit, LitBool, Span};
 use node_make::make;
 use std::alloc::Global;
 use syn_grammar::{AtomStart, Cursor, ReadFail, Word, atom_start, is_group, lit_of, next_word};
 use syn_lists::{Parsed, items_after};
+use syn_types::{ANY_LEVEL, ReadParts};
 
 fn lit_bool(word: Word, span: Span) -> Expr
     ensures { result ≡ spec.lit_bool word span }
@@ -61,7 +62,7 @@ fn infer(tokens: &mut Cursor<'_>) -> Parsed<Expr>
     Ok((Expr::Infer { span }, 1))
 }
 
-impl<R: ReadParts> Rules<R> {
+impl<R: ReadParts> ExprRules<R> {
     /// More expressions of a list, behind those that are `found`.
     pub(crate) fn exprs(
         &self,
@@ -69,14 +70,14 @@ impl<R: ReadParts> Rules<R> {
         found: Items<Expr>,
         depth: usize,
     ) -> Parsed<Items<Expr>>
-        requires reads_within { R.reads_within self.now.parts self.now.depth }
+        requires reads_within { R.reads_within self.now.rules.parts self.now.rules.depth }
         requires depth { depth ≡ all_depth expr_depth found }
-        requires limit { depth ≤ self.now.depth }
-        ensures { Reads (all_depth expr_depth) self.now.depth (items_after ((within self.now.depth).expr any_level) found tokens.old) result tokens.new }
+        requires limit { depth ≤ self.now.rules.depth }
+        ensures { Reads (all_depth expr_depth) self.now.rules.depth (items_after ((within self.now.rules.depth).expr any_level) found tokens.old) result tokens.new }
     {
         items_after(
             tokens,
-            |tokens: &mut Cursor<'_>| self.expr(tokens, ANY_LEVEL),
+            |tokens: &mut Cursor<'_>| self.rules.expr(tokens, ANY_LEVEL),
             found,
             depth,
         )
@@ -85,18 +86,18 @@ impl<R: ReadParts> Rules<R> {
     /// What stands in `(..)`: a tuple where a comma stands, or nothing at all.
     #[tactic(auto, unfolding(syn_grammar::specs::Expressions::expr_group), using(syn_grammar::proofs::Depths::depths))]
     fn expr_group(&self, tokens: &mut Cursor<'_>, span: Span) -> Parsed<Expr>
-        requires { R.reads_within self.now.parts self.now.depth }
-        ensures { Reads expr_depth (self.now.depth + 1) (spec.expr_group (within self.now.depth) span tokens.old) result tokens.new }
+        requires { R.reads_within self.now.rules.parts self.now.rules.depth }
+        ensures { Reads expr_depth (self.now.rules.depth + 1) (spec.expr_group (within self.now.rules.depth) span tokens.old) result tokens.new }
     {
         if tokens.at_end() {
-            let elems = Items::new(self.alloc);
+            let elems = Items::new(self.rules.alloc);
             return Ok((Expr::Tuple { elems, span }, 1));
         }
-        let (first, depth) = self.expr(tokens, ANY_LEVEL)?;
+        let (first, depth) = self.rules.expr(tokens, ANY_LEVEL)?;
         if !tokens.eat_mark(',') {
-            return Ok((make::expr_paren(self.alloc, first, span)?, depth + 1));
+            return Ok((make::expr_paren(self.rules.alloc, first, span)?, depth + 1));
         }
-        let found = Items::of(self.alloc, first)?;
+        let found = Items::of(self.rules.alloc, first)?;
         let (elems, depth) = self.exprs(tokens, found, depth)?;
         Ok((Expr::Tuple { elems, span }, depth + 1))
     }
@@ -110,17 +111,17 @@ impl<R: ReadParts> Rules<R> {
         first: Expr,
         depth: usize,
     ) -> Parsed<Expr>
-        requires reads_within { R.reads_within self.now.parts self.now.depth }
+        requires reads_within { R.reads_within self.now.rules.parts self.now.rules.depth }
         requires depth { depth ≡ expr_depth first }
-        requires limit { depth ≤ self.now.depth }
-        ensures { Reads expr_depth (self.now.depth + 1) (spec.expr_elements (within self.now.depth) span first tokens.old) result tokens.new }
+        requires limit { depth ≤ self.now.rules.depth }
+        ensures { Reads expr_depth (self.now.rules.depth + 1) (spec.expr_elements (within self.now.rules.depth) span first tokens.old) result tokens.new }
     {
         if tokens.eat_mark(';') {
-            let (len, len_depth) = self.expr(tokens, ANY_LEVEL)?;
-            let repeat = make::expr_repeat(self.alloc, first, len, span)?;
+            let (len, len_depth) = self.rules.expr(tokens, ANY_LEVEL)?;
+            let repeat = make::expr_repeat(self.rules.alloc, first, len, span)?;
             return Ok((repeat, depth.max(len_depth) + 1));
         }
-        let elems = Items::of(self.alloc, first)?;
+        let elems = Items::of(self.rules.alloc, first)?;
         if !tokens.eat_mark(',') {
             return Ok((expr_array(elems, span), depth + 1));
         }
@@ -131,48 +132,48 @@ impl<R: ReadParts> Rules<R> {
     /// What stands in `[..]`.
     #[tactic(auto, unfolding(syn_grammar::specs::Expressions::expr_bracket), using(syn_grammar::proofs::Depths::depths, crate::proofs::Nodes::nodes))]
     fn expr_bracket(&self, tokens: &mut Cursor<'_>, span: Span) -> Parsed<Expr>
-        requires { R.reads_within self.now.parts self.now.depth }
-        ensures { Reads expr_depth (self.now.depth + 1) (spec.expr_bracket (within self.now.depth) span tokens.old) result tokens.new }
+        requires { R.reads_within self.now.rules.parts self.now.rules.depth }
+        ensures { Reads expr_depth (self.now.rules.depth + 1) (spec.expr_bracket (within self.now.rules.depth) span tokens.old) result tokens.new }
     {
         if tokens.at_end() {
-            let elems = Items::new(self.alloc);
+            let elems = Items::new(self.rules.alloc);
             return Ok((expr_array(elems, span), 1));
         }
-        let (first, depth) = self.expr(tokens, ANY_LEVEL)?;
+        let (first, depth) = self.rules.expr(tokens, ANY_LEVEL)?;
         self.expr_elements(tokens, span, first, depth)
     }
 
     /// What stands in `{..}`: expressions with `;` behind, and a last one without.
     #[tactic(auto, using(syn_grammar::proofs::Depths::depths))]
     fn statements(&self, tokens: &mut Cursor<'_>, span: Span) -> Parsed<Expr>
-        requires { R.reads_within self.now.parts self.now.depth }
-        ensures { Reads expr_depth (self.now.depth + 1) (spec.statements (within self.now.depth) span tokens.old) result tokens.new }
+        requires { R.reads_within self.now.rules.parts self.now.rules.depth }
+        ensures { Reads expr_depth (self.now.rules.depth + 1) (spec.statements (within self.now.rules.depth) span tokens.old) result tokens.new }
     {
-        let mut stmts = Items::new(self.alloc);
+        let mut stmts = Items::new(self.rules.alloc);
         let mut depth = 0;
         for _turn in 0..tokens.left() {
             if tokens.at_end() {
-                let block = make::expr_block(self.alloc, stmts, None, span)?;
+                let block = make::expr_block(self.rules.alloc, stmts, None, span)?;
                 return Ok((block, depth + 1));
             }
-            let (statement, statement_depth) = self.expr(tokens, ANY_LEVEL)?;
+            let (statement, statement_depth) = self.rules.expr(tokens, ANY_LEVEL)?;
             depth = depth.max(statement_depth);
             if !tokens.eat_mark(';') {
-                let block = make::expr_block(self.alloc, stmts, Some(statement), span)?;
+                let block = make::expr_block(self.rules.alloc, stmts, Some(statement), span)?;
                 return Ok((block, depth + 1));
             }
             stmts.push(statement)?;
         }
         tokens.finish()?;
-        let block = make::expr_block(self.alloc, stmts, None, span)?;
+        let block = make::expr_block(self.rules.alloc, stmts, None, span)?;
         Ok((block, depth + 1))
     }
 
     /// `{ a; b }`
     #[tactic(auto, unfolding(syn_grammar::specs::Expressions::block))]
     pub(crate) fn block(&self, tokens: &mut Cursor<'_>) -> Parsed<Expr>
-        requires { R.reads_within self.now.parts self.now.depth }
-        ensures { Reads expr_depth (self.now.depth + 1) (spec.block (within self.now.depth) tokens.old) result tokens.new }
+        requires { R.reads_within self.now.rules.parts self.now.rules.depth }
+        ensures { Reads expr_depth (self.now.rules.depth + 1) (spec.block (within self.now.rules.depth) tokens.old) result tokens.new }
     {
         let span = tokens.here();
         if !is_group(Delimiter::Brace, tokens.rest()) {
@@ -188,8 +189,8 @@ impl<R: ReadParts> Rules<R> {
     /// `(a)`, `(a, b)`
     #[tactic(auto, unfolding(syn_grammar::specs::Expressions::expr_in_parentheses))]
     fn expr_in_parentheses(&self, tokens: &mut Cursor<'_>) -> Parsed<Expr>
-        requires { R.reads_within self.now.parts self.now.depth }
-        ensures { Reads expr_depth (self.now.depth + 1) (spec.expr_in_parentheses (within self.now.depth) tokens.old) result tokens.new }
+        requires { R.reads_within self.now.rules.parts self.now.rules.depth }
+        ensures { Reads expr_depth (self.now.rules.depth + 1) (spec.expr_in_parentheses (within self.now.rules.depth) tokens.old) result tokens.new }
     {
         let span = tokens.here();
         if !is_group(Delimiter::Parenthesis, tokens.rest()) {
@@ -205,8 +206,8 @@ impl<R: ReadParts> Rules<R> {
     /// `[a, b]`, `[a; n]`
     #[tactic(auto, unfolding(syn_grammar::specs::Expressions::expr_in_brackets))]
     fn expr_in_brackets(&self, tokens: &mut Cursor<'_>) -> Parsed<Expr>
-        requires { R.reads_within self.now.parts self.now.depth }
-        ensures { Reads expr_depth (self.now.depth + 1) (spec.expr_in_brackets (within self.now.depth) tokens.old) result tokens.new }
+        requires { R.reads_within self.now.rules.parts self.now.rules.depth }
+        ensures { Reads expr_depth (self.now.rules.depth + 1) (spec.expr_in_brackets (within self.now.rules.depth) tokens.old) result tokens.new }
     {
         let span = tokens.here();
         if !is_group(Delimiter::Bracket, tokens.rest()) {
@@ -222,28 +223,28 @@ impl<R: ReadParts> Rules<R> {
     /// A group without delimiters.
     #[tactic(auto, unfolding(syn_grammar::specs::Expressions::invisible), using(syn_grammar::proofs::Depths::depths))]
     fn invisible(&self, tokens: &mut Cursor<'_>) -> Parsed<Expr>
-        requires { R.reads_within self.now.parts self.now.depth }
-        ensures { Reads expr_depth (self.now.depth + 1) (spec.invisible (within self.now.depth) tokens.old) result tokens.new }
+        requires { R.reads_within self.now.rules.parts self.now.rules.depth }
+        ensures { Reads expr_depth (self.now.rules.depth + 1) (spec.invisible (within self.now.rules.depth) tokens.old) result tokens.new }
     {
         let span = tokens.here();
         if !is_group(Delimiter::None, tokens.rest()) {
             return Err(ReadFail::Syntax);
         }
         let mut inner = tokens.contents();
-        let (found, depth) = self.expr(&mut inner, ANY_LEVEL)?;
+        let (found, depth) = self.rules.expr(&mut inner, ANY_LEVEL)?;
         inner.finish()?;
         tokens.skip();
-        Ok((make::expr_group(self.alloc, found, span)?, depth + 1))
+        Ok((make::expr_group(self.rules.alloc, found, span)?, depth + 1))
     }
 
     /// `a::b`
     #[tactic(auto, unfolding(syn_grammar::specs::Expressions::expr_path), using(syn_grammar::proofs::Depths::depths))]
     fn expr_path(&self, tokens: &mut Cursor<'_>) -> Parsed<Expr>
-        requires { R.reads_within self.now.parts self.now.depth }
-        ensures { Reads expr_depth (self.now.depth + 1) (spec.expr_path (within self.now.depth) tokens.old) result tokens.new }
+        requires { R.reads_within self.now.rules.parts self.now.rules.depth }
+        ensures { Reads expr_depth (self.now.rules.depth + 1) (spec.expr_path (within self.now.rules.depth) tokens.old) result tokens.new }
     {
         let start = tokens.here();
-        let (path, depth) = self.path(tokens, false)?;
+        let (path, depth) = self.rules.path(tokens, false)?;
         let span = tokens.upto(start);
         let path = ExprPath {
             qself: None,
@@ -256,11 +257,11 @@ impl<R: ReadParts> Rules<R> {
     /// `<T as Trait>::f`
     #[tactic(auto, unfolding(syn_grammar::specs::Expressions::expr_qualified), using(syn_grammar::proofs::Depths::depths))]
     fn expr_qualified(&self, tokens: &mut Cursor<'_>) -> Parsed<Expr>
-        requires { R.reads_within self.now.parts self.now.depth }
-        ensures { Reads expr_depth (self.now.depth + 1) (spec.expr_qualified (within self.now.depth) tokens.old) result tokens.new }
+        requires { R.reads_within self.now.rules.parts self.now.rules.depth }
+        ensures { Reads expr_depth (self.now.rules.depth + 1) (spec.expr_qualified (within self.now.rules.depth) tokens.old) result tokens.new }
     {
         let start = tokens.here();
-        let ((qself, path), depth) = self.qualified(tokens, false)?;
+        let ((qself, path), depth) = self.rules.qualified(tokens, false)?;
         let span = tokens.upto(start);
         let path = ExprPath {
             qself: Some(qself),
@@ -272,11 +273,11 @@ impl<R: ReadParts> Rules<R> {
 
     /// The atom that begins so.
     pub(crate) fn atom(&self, tokens: &mut Cursor<'_>, begins: AtomStart) -> Parsed<Expr>
-        requires { R.reads_within self.now.parts self.now.depth }
-        ensures { Reads expr_depth (self.now.depth + 1) (spec.atom_by (within self.now.depth) begins tokens.old) result tokens.new }
+        requires { R.reads_within self.now.rules.parts self.now.rules.depth }
+        ensures { Reads expr_depth (self.now.rules.depth + 1) (spec.atom_by (within self.now.rules.depth) begins tokens.old) result tokens.new }
     {
         match begins {
-            AtomStart::Literal => literal(self.alloc, tokens),
+            AtomStart::Literal => literal(self.rules.alloc, tokens),
             AtomStart::Bool => expr_bool(tokens),
             AtomStart::Path => self.expr_path(tokens),
             AtomStart::Qualified => self.expr_qualified(tokens),
@@ -292,11 +293,11 @@ impl<R: ReadParts> Rules<R> {
     /// A literal or a block.
     #[tactic(auto, unfolding(syn_grammar::specs::Expressions::constant))]
     pub(crate) fn constant(&self, tokens: &mut Cursor<'_>) -> Parsed<Expr>
-        requires { R.reads_within self.now.parts self.now.depth }
-        ensures { Reads expr_depth (self.now.depth + 1) (spec.constant (within self.now.depth) tokens.old) result tokens.new }
+        requires { R.reads_within self.now.rules.parts self.now.rules.depth }
+        ensures { Reads expr_depth (self.now.rules.depth + 1) (spec.constant (within self.now.rules.depth) tokens.old) result tokens.new }
     {
         match atom_start(tokens.rest()) {
-            AtomStart::Literal => literal(self.alloc, tokens),
+            AtomStart::Literal => literal(self.rules.alloc, tokens),
             AtomStart::Bool => expr_bool(tokens),
             AtomStart::Brace => self.block(tokens),
             _ => Err(ReadFail::Syntax),

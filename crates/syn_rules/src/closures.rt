@@ -9,11 +9,12 @@ ghost use Rattle.syn_grammar.specs.Reads.{Reads, Gives};
 ghost use Rattle.syn_grammar.specs.Steps.{Expects};
 ghost use Rattle.syn_grammar.specs.Token.{is_group};
 
-use crate::rules::{ANY_LEVEL, CONSTANT_LEVEL, ReadParts, Rules};
+use crate::rules::ExprRules;
 use node_expr::{Delimiter, Expr, TokenStream};
 use node_make::make;
 use syn_grammar::{Cursor, ReadFail, Word, is_group};
 use syn_lists::{MAX_PATTERN, Parsed, pattern, until};
+use syn_types::{ANY_LEVEL, CONSTANT_LEVEL, ReadParts};
 
 /// A block must come next. It is left where it is.
 #[tactic(auto, unfolding(syn_grammar::specs::Input::skipped))]
@@ -27,22 +28,22 @@ fn expect_block(tokens: &Cursor<'_>) -> Result<(), ReadFail>
     }
 }
 
-impl<R: ReadParts> Rules<R> {
+impl<R: ReadParts> ExprRules<R> {
     /// A type that is kept as tokens alone.
     #[tactic(auto, unfolding(syn_grammar::specs::Expressions::pass_type))]
     fn pass_type(&self, tokens: &mut Cursor<'_>, allow_plus: bool) -> Result<(), ReadFail>
-        requires { R.reads_within self.now.parts self.now.depth }
-        ensures { Gives (spec.pass_type (within self.now.depth) allow_plus tokens.old) result tokens.new }
+        requires { R.reads_within self.now.rules.parts self.now.rules.depth }
+        ensures { Gives (spec.pass_type (within self.now.rules.depth) allow_plus tokens.old) result tokens.new }
     {
-        let _ty = self.ty(tokens, allow_plus)?;
+        let _ty = self.rules.ty(tokens, allow_plus)?;
         Ok(())
     }
 
     /// A pattern, and its type where it is told.
     #[tactic(auto, unfolding(syn_grammar::specs::Expressions::closure_param))]
     fn closure_param(&self, tokens: &mut Cursor<'_>) -> Parsed<()>
-        requires { R.reads_within self.now.parts self.now.depth }
-        ensures { Reads (λ param. 0) self.now.depth (spec.closure_param (within self.now.depth) tokens.old) result tokens.new }
+        requires { R.reads_within self.now.rules.parts self.now.rules.depth }
+        ensures { Reads (λ param. 0) self.now.rules.depth (spec.closure_param (within self.now.rules.depth) tokens.old) result tokens.new }
     {
         pattern(tokens, MAX_PATTERN)?;
         if tokens.eat_colon() {
@@ -53,10 +54,10 @@ impl<R: ReadParts> Rules<R> {
 
     /// Parameters to the second `|`.
     fn closure_params(&self, tokens: &mut Cursor<'_>) -> Result<(), ReadFail>
-        requires { R.reads_within self.now.parts self.now.depth }
-        ensures { Gives (spec.closure_params (within self.now.depth) tokens.old) result tokens.new }
+        requires { R.reads_within self.now.rules.parts self.now.rules.depth }
+        ensures { Gives (spec.closure_params (within self.now.rules.depth) tokens.old) result tokens.new }
     {
-        let _params = until(self.alloc, tokens, '|', |tokens: &mut Cursor<'_>| {
+        let _params = until(self.rules.alloc, tokens, '|', |tokens: &mut Cursor<'_>| {
             self.closure_param(tokens)
         })?;
         Ok(())
@@ -65,8 +66,8 @@ impl<R: ReadParts> Rules<R> {
     /// The level of the body, behind its type where it is told: a block then.
     #[tactic(auto, unfolding(syn_grammar::specs::Expressions::closure_body))]
     fn closure_body(&self, tokens: &mut Cursor<'_>) -> Result<u8, ReadFail>
-        requires { R.reads_within self.now.parts self.now.depth }
-        ensures { Gives (spec.closure_body (within self.now.depth) tokens.old) result tokens.new }
+        requires { R.reads_within self.now.rules.parts self.now.rules.depth }
+        ensures { Gives (spec.closure_body (within self.now.rules.depth) tokens.old) result tokens.new }
     {
         if !tokens.eat_arrow() {
             return Ok(ANY_LEVEL);
@@ -79,8 +80,8 @@ impl<R: ReadParts> Rules<R> {
     /// `move |a, b: u8| body`, or with a type `|a| -> u8 { body }`
     #[tactic(auto, unfolding(syn_grammar::specs::Expressions::closure), using(syn_grammar::proofs::Depths::depths))]
     pub(crate) fn closure(&self, tokens: &mut Cursor<'_>) -> Parsed<Expr>
-        requires { R.reads_within self.now.parts self.now.depth }
-        ensures { Reads expr_depth (self.now.depth + 1) (spec.closure (within self.now.depth) tokens.old) result tokens.new }
+        requires { R.reads_within self.now.rules.parts self.now.rules.depth }
+        ensures { Reads expr_depth (self.now.rules.depth + 1) (spec.closure (within self.now.rules.depth) tokens.old) result tokens.new }
     {
         let before = tokens.rest();
         let start = tokens.here();
@@ -88,10 +89,10 @@ impl<R: ReadParts> Rules<R> {
         tokens.expect_mark('|')?;
         self.closure_params(tokens)?;
         let level = self.closure_body(tokens)?;
-        let trees = tokens.read_since(self.alloc, before)?;
-        let (body, depth) = self.expr(tokens, level)?;
+        let trees = tokens.read_since(self.rules.alloc, before)?;
+        let (body, depth) = self.rules.expr(tokens, level)?;
         let span = tokens.upto(start);
-        let closure = make::expr_closure(self.alloc, TokenStream { trees }, body, span)?;
+        let closure = make::expr_closure(self.rules.alloc, TokenStream { trees }, body, span)?;
         Ok((Expr::Closure(closure), depth + 1))
     }
 }

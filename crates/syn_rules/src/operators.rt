@@ -9,7 +9,7 @@ ghost use Rattle.syn_grammar.specs.Look.{at_level, operator_of};
 ghost use Rattle.syn_grammar.specs.Reads.{Reads, ReadsKept};
 ghost use Rattle.syn_grammar.specs.Token.{is_closed_dots};
 
-use crate::rules::{ANY_LEVEL, CONSTANT_LEVEL, ReadParts, Rules};
+use crate::rules::ExprRules;
 use node_expr::{Expr, Span, UnOp};
 use node_make::make;
 use syn_grammar::{
@@ -17,6 +17,7 @@ use syn_grammar::{
     is_dots, operand_start, operator_at,
 };
 use syn_lists::Parsed;
+use syn_types::{ANY_LEVEL, CONSTANT_LEVEL, ReadParts};
 
 /// An operand of an operator.
 const OPERAND_LEVEL: u8 = 0;
@@ -50,41 +51,41 @@ fn operator_above(tokens: &Cursor<'_>, below: u8) -> Option<Infix>
     operator_at(below + 1, tokens.rest())
 }
 
-impl<R: ReadParts> Rules<R> {
+impl<R: ReadParts> ExprRules<R> {
     /// `-a`, `!a`, `*a`
     #[tactic(auto, unfolding(syn_grammar::specs::Expressions::unary), using(syn_grammar::proofs::Depths::depths))]
     fn unary(&self, tokens: &mut Cursor<'_>, op: UnOp) -> Parsed<Expr>
-        requires { R.reads_within self.now.parts self.now.depth }
-        ensures { Reads expr_depth (self.now.depth + 1) (spec.unary (within self.now.depth) op tokens.old) result tokens.new }
+        requires { R.reads_within self.now.rules.parts self.now.rules.depth }
+        ensures { Reads expr_depth (self.now.rules.depth + 1) (spec.unary (within self.now.rules.depth) op tokens.old) result tokens.new }
     {
         let start = tokens.here();
         tokens.skip();
-        let (operand, depth) = self.expr(tokens, OPERAND_LEVEL)?;
+        let (operand, depth) = self.rules.expr(tokens, OPERAND_LEVEL)?;
         let span = tokens.upto(start);
-        let unary = make::expr_unary(self.alloc, op, operand, span)?;
+        let unary = make::expr_unary(self.rules.alloc, op, operand, span)?;
         Ok((unary, depth + 1))
     }
 
     /// `&a`, `&mut a`
     #[tactic(auto, unfolding(syn_grammar::specs::Expressions::reference), using(syn_grammar::proofs::Depths::depths))]
     fn reference(&self, tokens: &mut Cursor<'_>) -> Parsed<Expr>
-        requires { R.reads_within self.now.parts self.now.depth }
-        ensures { Reads expr_depth (self.now.depth + 1) (spec.reference (within self.now.depth) tokens.old) result tokens.new }
+        requires { R.reads_within self.now.rules.parts self.now.rules.depth }
+        ensures { Reads expr_depth (self.now.rules.depth + 1) (spec.reference (within self.now.rules.depth) tokens.old) result tokens.new }
     {
         let start = tokens.here();
         tokens.skip();
         let mutable = tokens.eat_word(Word::Mut);
-        let (operand, depth) = self.expr(tokens, OPERAND_LEVEL)?;
+        let (operand, depth) = self.rules.expr(tokens, OPERAND_LEVEL)?;
         let span = tokens.upto(start);
-        let reference = make::expr_reference(self.alloc, mutable, operand, span)?;
+        let reference = make::expr_reference(self.rules.alloc, mutable, operand, span)?;
         Ok((reference, depth + 1))
     }
 
     /// An operand of an operator.
     #[tactic(auto, unfolding(syn_grammar::specs::Expressions::operand))]
     fn operand(&self, tokens: &mut Cursor<'_>) -> Parsed<Expr>
-        requires { R.reads_within self.now.parts self.now.depth }
-        ensures { ReadsKept expr_depth (self.now.depth + 1) (spec.operand (within self.now.depth) tokens.old) result tokens.new }
+        requires { R.reads_within self.now.rules.parts self.now.rules.depth }
+        ensures { ReadsKept expr_depth (self.now.rules.depth + 1) (spec.operand (within self.now.rules.depth) tokens.old) result tokens.new }
     {
         match operand_start(tokens.rest()) {
             OperandStart::Neg => self.unary(tokens, UnOp::Neg),
@@ -106,15 +107,15 @@ impl<R: ReadParts> Rules<R> {
         depth: usize,
         op: Infix,
     ) -> Parsed<Expr>
-        requires reads_within { R.reads_within self.now.parts self.now.depth }
+        requires reads_within { R.reads_within self.now.rules.parts self.now.rules.depth }
         requires depth { depth ≡ expr_depth left }
-        requires limit { depth ≤ self.now.depth + 1 }
-        ensures { Reads expr_depth (self.now.depth + 2) (spec.right_of (within self.now.depth) start below left op tokens.old) result tokens.new }
+        requires limit { depth ≤ self.now.rules.depth + 1 }
+        ensures { Reads expr_depth (self.now.rules.depth + 2) (spec.right_of (within self.now.rules.depth) start below left op tokens.old) result tokens.new }
     {
         tokens.skip_by(op.width);
-        let (right, right_depth) = self.expr(tokens, below)?;
+        let (right, right_depth) = self.rules.expr(tokens, below)?;
         let span = tokens.upto(start);
-        let binary = make::expr_binary(self.alloc, left, op.op, right, span)?;
+        let binary = make::expr_binary(self.rules.alloc, left, op.op, right, span)?;
         Ok((binary, depth.max(right_depth) + 1))
     }
 
@@ -128,17 +129,17 @@ impl<R: ReadParts> Rules<R> {
         left: Expr,
         depth: usize,
     ) -> Parsed<Expr>
-        requires reads_within { R.reads_within self.now.parts self.now.depth }
+        requires reads_within { R.reads_within self.now.rules.parts self.now.rules.depth }
         requires depth { depth ≡ expr_depth left }
-        requires limit { depth ≤ self.now.depth + 1 }
+        requires limit { depth ≤ self.now.rules.depth + 1 }
         requires level { below < 255 }
-        ensures { ReadsKept expr_depth (self.now.depth + 1) (spec.compared (within self.now.depth) start below left tokens.old) result tokens.new }
+        ensures { ReadsKept expr_depth (self.now.rules.depth + 1) (spec.compared (within self.now.rules.depth) start below left tokens.old) result tokens.new }
     {
         let Some(op) = operator_above(tokens, below) else {
             return Ok((left, depth));
         };
         let (longer, longer_depth) = self.right_of(tokens, start, below, left, depth, op)?;
-        if longer_depth > self.depth + 1 {
+        if longer_depth > self.rules.depth + 1 {
             return Err(ReadFail::Syntax);
         }
         Ok((longer, longer_depth))
@@ -153,18 +154,18 @@ impl<R: ReadParts> Rules<R> {
         mut left: Expr,
         mut depth: usize,
     ) -> Parsed<Expr>
-        requires reads_within { R.reads_within self.now.parts self.now.depth }
+        requires reads_within { R.reads_within self.now.rules.parts self.now.rules.depth }
         requires depth { depth ≡ expr_depth left }
-        requires limit { depth ≤ self.now.depth + 1 }
+        requires limit { depth ≤ self.now.rules.depth + 1 }
         requires level { below < 255 }
-        ensures { ReadsKept expr_depth (self.now.depth + 1) (spec.chain_all (within self.now.depth) start below left tokens.old) result tokens.new }
+        ensures { ReadsKept expr_depth (self.now.rules.depth + 1) (spec.chain_all (within self.now.rules.depth) start below left tokens.old) result tokens.new }
     {
         for _turn in 0..tokens.left() {
             let Some(op) = operator_above(tokens, below) else {
                 return Ok((left, depth));
             };
             let (longer, longer_depth) = self.right_of(tokens, start, below, left, depth, op)?;
-            if longer_depth > self.depth + 1 {
+            if longer_depth > self.rules.depth + 1 {
                 return Err(ReadFail::Syntax);
             }
             left = longer;
@@ -184,11 +185,11 @@ impl<R: ReadParts> Rules<R> {
         left: Expr,
         depth: usize,
     ) -> Parsed<Expr>
-        requires reads_within { R.reads_within self.now.parts self.now.depth }
+        requires reads_within { R.reads_within self.now.rules.parts self.now.rules.depth }
         requires depth { depth ≡ expr_depth left }
-        requires limit { depth ≤ self.now.depth + 1 }
+        requires limit { depth ≤ self.now.rules.depth + 1 }
         requires level { below < 255 }
-        ensures { ReadsKept expr_depth (self.now.depth + 1) (spec.chain (within self.now.depth) start below left tokens.old) result tokens.new }
+        ensures { ReadsKept expr_depth (self.now.rules.depth + 1) (spec.chain (within self.now.rules.depth) start below left tokens.old) result tokens.new }
     {
         if below == BELOW_COMPARISONS {
             self.compared(tokens, start, below, left, depth)
@@ -199,8 +200,8 @@ impl<R: ReadParts> Rules<R> {
 
     /// Operators of this level and tighter ones. A level costs no room on the stack.
     fn binary_from(&self, tokens: &mut Cursor<'_>, start: Span, level: u8) -> Parsed<Expr>
-        requires { R.reads_within self.now.parts self.now.depth }
-        ensures { ReadsKept expr_depth (self.now.depth + 1) (spec.binary_from (within self.now.depth) start level tokens.old) result tokens.new }
+        requires { R.reads_within self.now.rules.parts self.now.rules.depth }
+        ensures { ReadsKept expr_depth (self.now.rules.depth + 1) (spec.binary_from (within self.now.rules.depth) start level tokens.old) result tokens.new }
     {
         let (mut left, mut depth) = self.operand(tokens)?;
         for below in 0..level {
@@ -213,8 +214,8 @@ impl<R: ReadParts> Rules<R> {
 
     #[tactic(auto, unfolding(syn_grammar::specs::Expressions::binary))]
     fn binary(&self, tokens: &mut Cursor<'_>, level: u8) -> Parsed<Expr>
-        requires { R.reads_within self.now.parts self.now.depth }
-        ensures { ReadsKept expr_depth (self.now.depth + 1) (spec.binary (within self.now.depth) level tokens.old) result tokens.new }
+        requires { R.reads_within self.now.rules.parts self.now.rules.depth }
+        ensures { ReadsKept expr_depth (self.now.rules.depth + 1) (spec.binary (within self.now.rules.depth) level tokens.old) result tokens.new }
     {
         let start = tokens.here();
         self.binary_from(tokens, start, level)
@@ -229,23 +230,23 @@ impl<R: ReadParts> Rules<R> {
         left: Option<Expr>,
         depth: usize,
     ) -> Parsed<Expr>
-        requires reads_within { R.reads_within self.now.parts self.now.depth }
+        requires reads_within { R.reads_within self.now.rules.parts self.now.rules.depth }
         requires depth { depth ≡ optional (option_map expr_depth left) }
-        requires limit { depth ≤ self.now.depth + 1 }
-        ensures { Reads expr_depth (self.now.depth + 2) (spec.range_from (within self.now.depth) start left tokens.old) result tokens.new }
+        requires limit { depth ≤ self.now.rules.depth + 1 }
+        ensures { Reads expr_depth (self.now.rules.depth + 2) (spec.range_from (within self.now.rules.depth) start left tokens.old) result tokens.new }
     {
         let closed = dots(tokens);
         if begins_operand(tokens.rest()) {
-            let (right, right_depth) = self.expr(tokens, OR_LEVEL)?;
+            let (right, right_depth) = self.rules.expr(tokens, OR_LEVEL)?;
             let span = tokens.upto(start);
-            let range = make::expr_range(self.alloc, left, Some(right), closed, span)?;
+            let range = make::expr_range(self.rules.alloc, left, Some(right), closed, span)?;
             return Ok((Expr::Range(range), depth.max(right_depth) + 1));
         }
         if closed {
             return Err(ReadFail::Syntax);
         }
         let span = tokens.upto(start);
-        let range = make::expr_range(self.alloc, left, None, false, span)?;
+        let range = make::expr_range(self.rules.alloc, left, None, false, span)?;
         Ok((Expr::Range(range), depth + 1))
     }
 
@@ -257,13 +258,13 @@ impl<R: ReadParts> Rules<R> {
         left: Option<Expr>,
         depth: usize,
     ) -> Parsed<Expr>
-        requires reads_within { R.reads_within self.now.parts self.now.depth }
+        requires reads_within { R.reads_within self.now.rules.parts self.now.rules.depth }
         requires depth { depth ≡ optional (option_map expr_depth left) }
-        requires limit { depth ≤ self.now.depth + 1 }
-        ensures { ReadsKept expr_depth (self.now.depth + 1) (spec.range_from (within self.now.depth) start left tokens.old) result tokens.new }
+        requires limit { depth ≤ self.now.rules.depth + 1 }
+        ensures { ReadsKept expr_depth (self.now.rules.depth + 1) (spec.range_from (within self.now.rules.depth) start left tokens.old) result tokens.new }
     {
         let (range, range_depth) = self.range_from(tokens, start, left, depth)?;
-        if range_depth > self.depth + 1 {
+        if range_depth > self.rules.depth + 1 {
             return Err(ReadFail::Syntax);
         }
         Ok((range, range_depth))
@@ -272,8 +273,8 @@ impl<R: ReadParts> Rules<R> {
     /// A range, or operators of every level.
     #[tactic(auto, unfolding(syn_grammar::specs::Expressions::range))]
     fn range(&self, tokens: &mut Cursor<'_>) -> Parsed<Expr>
-        requires { R.reads_within self.now.parts self.now.depth }
-        ensures { ReadsKept expr_depth (self.now.depth + 1) (spec.range (within self.now.depth) tokens.old) result tokens.new }
+        requires { R.reads_within self.now.rules.parts self.now.rules.depth }
+        ensures { ReadsKept expr_depth (self.now.rules.depth + 1) (spec.range (within self.now.rules.depth) tokens.old) result tokens.new }
     {
         let start = tokens.here();
         if is_dots(tokens.rest()) {
@@ -289,8 +290,8 @@ impl<R: ReadParts> Rules<R> {
     /// Any expression.
     #[tactic(auto, unfolding(syn_grammar::specs::Expressions::any))]
     fn any(&self, tokens: &mut Cursor<'_>) -> Parsed<Expr>
-        requires { R.reads_within self.now.parts self.now.depth }
-        ensures { ReadsKept expr_depth (self.now.depth + 1) (spec.any (within self.now.depth) tokens.old) result tokens.new }
+        requires { R.reads_within self.now.rules.parts self.now.rules.depth }
+        ensures { ReadsKept expr_depth (self.now.rules.depth + 1) (spec.any (within self.now.rules.depth) tokens.old) result tokens.new }
     {
         if begins_closure(tokens.rest()) {
             self.closure(tokens)
@@ -302,8 +303,8 @@ impl<R: ReadParts> Rules<R> {
     /// An expression of this level or a tighter one.
     #[tactic(auto, unfolding(syn_grammar::specs::Expressions::expr_step))]
     pub(crate) fn expr_step(&self, tokens: &mut Cursor<'_>, level: u8) -> Parsed<Expr>
-        requires { R.reads_within self.now.parts self.now.depth }
-        ensures { ReadsKept expr_depth (self.now.depth + 1) (spec.expr_step (within self.now.depth) level tokens.old) result tokens.new }
+        requires { R.reads_within self.now.rules.parts self.now.rules.depth }
+        ensures { ReadsKept expr_depth (self.now.rules.depth + 1) (spec.expr_step (within self.now.rules.depth) level tokens.old) result tokens.new }
     {
         if level == ANY_LEVEL {
             self.any(tokens)

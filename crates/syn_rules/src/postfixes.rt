@@ -14,7 +14,7 @@ ghost use Rattle.syn_grammar.specs.Reads.{Reads, ReadsKept};
 ghost use Rattle.syn_lists.specs.Lists.{all_depth};
 ghost use Rattle.syn_rules.specs.Postfixes.{goes_on};
 
-use crate::rules::{ANY_LEVEL, ReadParts, Rules};
+use crate::rules::ExprRules;
 use base_core::Items;
 use node_expr::{Delimiter, Expr, Ident, Member, Span};
 use node_make::make;
@@ -22,6 +22,7 @@ use syn_grammar::{
     AtomStart, Cursor, PostfixStart, ReadFail, is_group, is_turbofish, name_of, postfix_start,
 };
 use syn_lists::Parsed;
+use syn_types::{ANY_LEVEL, ReadParts};
 
 fn goes_on(begins: PostfixStart) -> bool
     ensures { result ≡ goes_on begins }
@@ -29,17 +30,17 @@ fn goes_on(begins: PostfixStart) -> bool
     !matches!(begins, PostfixStart::Nothing)
 }
 
-impl<R: ReadParts> Rules<R> {
+impl<R: ReadParts> ExprRules<R> {
     /// `(a, b)`
     fn args(&self, tokens: &mut Cursor<'_>) -> Parsed<Items<Expr>>
-        requires { R.reads_within self.now.parts self.now.depth }
-        ensures { Reads (all_depth expr_depth) self.now.depth (spec.args (within self.now.depth) tokens.old) result tokens.new }
+        requires { R.reads_within self.now.rules.parts self.now.rules.depth }
+        ensures { Reads (all_depth expr_depth) self.now.rules.depth (spec.args (within self.now.rules.depth) tokens.old) result tokens.new }
     {
         if !is_group(Delimiter::Parenthesis, tokens.rest()) {
             return Err(ReadFail::Syntax);
         }
         let mut inner = tokens.contents();
-        let args = self.exprs(&mut inner, Items::new(self.alloc), 0)?;
+        let args = self.exprs(&mut inner, Items::new(self.rules.alloc), 0)?;
         inner.finish()?;
         tokens.skip();
         Ok(args)
@@ -55,16 +56,23 @@ impl<R: ReadParts> Rules<R> {
         depth: usize,
         method: Ident,
     ) -> Parsed<Expr>
-        requires reads_within { R.reads_within self.now.parts self.now.depth }
+        requires reads_within { R.reads_within self.now.rules.parts self.now.rules.depth }
         requires depth { depth ≡ expr_depth receiver }
-        requires limit { depth ≤ self.now.depth + 1 }
-        ensures { Reads expr_depth (self.now.depth + 2) (spec.turbofish_call (within self.now.depth) start receiver method tokens.old) result tokens.new }
+        requires limit { depth ≤ self.now.rules.depth + 1 }
+        ensures { Reads expr_depth (self.now.rules.depth + 2) (spec.turbofish_call (within self.now.rules.depth) start receiver method tokens.old) result tokens.new }
     {
         tokens.skip_by(3);
-        let (turbofish, turbofish_depth) = self.angle_arguments(tokens)?;
+        let (turbofish, turbofish_depth) = self.rules.angle_arguments(tokens)?;
         let (args, args_depth) = self.args(tokens)?;
         let span = tokens.upto(start);
-        let call = make::expr_method_call(self.alloc, receiver, method, turbofish, args, span)?;
+        let call = make::expr_method_call(
+            self.rules.alloc,
+            receiver,
+            method,
+            turbofish,
+            args,
+            span,
+        )?;
         Ok((call, depth.max(turbofish_depth).max(args_depth) + 1))
     }
 
@@ -78,15 +86,15 @@ impl<R: ReadParts> Rules<R> {
         depth: usize,
         method: Ident,
     ) -> Parsed<Expr>
-        requires reads_within { R.reads_within self.now.parts self.now.depth }
+        requires reads_within { R.reads_within self.now.rules.parts self.now.rules.depth }
         requires depth { depth ≡ expr_depth receiver }
-        requires limit { depth ≤ self.now.depth + 1 }
-        ensures { Reads expr_depth (self.now.depth + 2) (spec.method_call (within self.now.depth) start receiver method tokens.old) result tokens.new }
+        requires limit { depth ≤ self.now.rules.depth + 1 }
+        ensures { Reads expr_depth (self.now.rules.depth + 2) (spec.method_call (within self.now.rules.depth) start receiver method tokens.old) result tokens.new }
     {
         let (args, args_depth) = self.args(tokens)?;
         let span = tokens.upto(start);
-        let none = Items::new(self.alloc);
-        let call = make::expr_method_call(self.alloc, receiver, method, none, args, span)?;
+        let none = Items::new(self.rules.alloc);
+        let call = make::expr_method_call(self.rules.alloc, receiver, method, none, args, span)?;
         Ok((call, depth.max(args_depth) + 1))
     }
 
@@ -100,13 +108,13 @@ impl<R: ReadParts> Rules<R> {
         depth: usize,
         member: Member,
     ) -> Parsed<Expr>
-        requires reads_within { R.reads_within self.now.parts self.now.depth }
+        requires reads_within { R.reads_within self.now.rules.parts self.now.rules.depth }
         requires depth { depth ≡ expr_depth base }
-        requires limit { depth ≤ self.now.depth + 1 }
-        ensures { Reads expr_depth (self.now.depth + 2) (spec.field (within self.now.depth) start base member tokens.old) result tokens.new }
+        requires limit { depth ≤ self.now.rules.depth + 1 }
+        ensures { Reads expr_depth (self.now.rules.depth + 2) (spec.field (within self.now.rules.depth) start base member tokens.old) result tokens.new }
     {
         let span = tokens.upto(start);
-        let field = make::expr_field(self.alloc, base, member, span)?;
+        let field = make::expr_field(self.rules.alloc, base, member, span)?;
         Ok((field, depth + 1))
     }
 
@@ -119,10 +127,10 @@ impl<R: ReadParts> Rules<R> {
         depth: usize,
         name: Ident,
     ) -> Parsed<Expr>
-        requires reads_within { R.reads_within self.now.parts self.now.depth }
+        requires reads_within { R.reads_within self.now.rules.parts self.now.rules.depth }
         requires depth { depth ≡ expr_depth base }
-        requires limit { depth ≤ self.now.depth + 1 }
-        ensures { Reads expr_depth (self.now.depth + 2) (spec.named_member (within self.now.depth) start base name tokens.old) result tokens.new }
+        requires limit { depth ≤ self.now.rules.depth + 1 }
+        ensures { Reads expr_depth (self.now.rules.depth + 2) (spec.named_member (within self.now.rules.depth) start base name tokens.old) result tokens.new }
     {
         if is_turbofish(tokens.rest()) {
             self.turbofish_call(tokens, start, base, depth, name)
@@ -136,43 +144,43 @@ impl<R: ReadParts> Rules<R> {
     /// What stands behind a `.`.
     #[tactic(auto, unfolding(syn_grammar::specs::Expressions::member))]
     fn member(&self, tokens: &mut Cursor<'_>, start: Span, base: Expr, depth: usize) -> Parsed<Expr>
-        requires reads_within { R.reads_within self.now.parts self.now.depth }
+        requires reads_within { R.reads_within self.now.rules.parts self.now.rules.depth }
         requires depth { depth ≡ expr_depth base }
-        requires limit { depth ≤ self.now.depth + 1 }
-        ensures { Reads expr_depth (self.now.depth + 2) (spec.member (within self.now.depth) start base tokens.old) result tokens.new }
+        requires limit { depth ≤ self.now.rules.depth + 1 }
+        ensures { Reads expr_depth (self.now.rules.depth + 2) (spec.member (within self.now.rules.depth) start base tokens.old) result tokens.new }
     {
         if name_of(tokens.rest()).is_some() {
-            let name = tokens.take_name(self.alloc)?;
+            let name = tokens.take_name(self.rules.alloc)?;
             return self.named_member(tokens, start, base, depth, name);
         }
-        let index = tokens.take_index(self.alloc)?;
+        let index = tokens.take_index(self.rules.alloc)?;
         self.field(tokens, start, base, depth, Member::Unnamed(index))
     }
 
     /// `func(a, b)`
     #[tactic(auto, unfolding(syn_grammar::specs::Expressions::call), using(syn_grammar::proofs::Depths::depths))]
     fn call(&self, tokens: &mut Cursor<'_>, start: Span, func: Expr, depth: usize) -> Parsed<Expr>
-        requires reads_within { R.reads_within self.now.parts self.now.depth }
+        requires reads_within { R.reads_within self.now.rules.parts self.now.rules.depth }
         requires depth { depth ≡ expr_depth func }
-        requires limit { depth ≤ self.now.depth + 1 }
-        ensures { Reads expr_depth (self.now.depth + 2) (spec.call (within self.now.depth) start func tokens.old) result tokens.new }
+        requires limit { depth ≤ self.now.rules.depth + 1 }
+        ensures { Reads expr_depth (self.now.rules.depth + 2) (spec.call (within self.now.rules.depth) start func tokens.old) result tokens.new }
     {
         let (args, args_depth) = self.args(tokens)?;
         let span = tokens.upto(start);
-        let call = make::expr_call(self.alloc, func, args, span)?;
+        let call = make::expr_call(self.rules.alloc, func, args, span)?;
         Ok((call, depth.max(args_depth) + 1))
     }
 
     /// `[index]`
     fn bracketed(&self, tokens: &mut Cursor<'_>) -> Parsed<Expr>
-        requires { R.reads_within self.now.parts self.now.depth }
-        ensures { Reads expr_depth self.now.depth (inside delimiter.Bracket ((within self.now.depth).expr any_level) tokens.old) result tokens.new }
+        requires { R.reads_within self.now.rules.parts self.now.rules.depth }
+        ensures { Reads expr_depth self.now.rules.depth (inside delimiter.Bracket ((within self.now.rules.depth).expr any_level) tokens.old) result tokens.new }
     {
         if !is_group(Delimiter::Bracket, tokens.rest()) {
             return Err(ReadFail::Syntax);
         }
         let mut inner = tokens.contents();
-        let found = self.expr(&mut inner, ANY_LEVEL)?;
+        let found = self.rules.expr(&mut inner, ANY_LEVEL)?;
         inner.finish()?;
         tokens.skip();
         Ok(found)
@@ -181,14 +189,14 @@ impl<R: ReadParts> Rules<R> {
     /// `base[index]`
     #[tactic(auto, unfolding(syn_grammar::specs::Expressions::index), using(syn_grammar::proofs::Depths::depths))]
     fn index(&self, tokens: &mut Cursor<'_>, start: Span, base: Expr, depth: usize) -> Parsed<Expr>
-        requires reads_within { R.reads_within self.now.parts self.now.depth }
+        requires reads_within { R.reads_within self.now.rules.parts self.now.rules.depth }
         requires depth { depth ≡ expr_depth base }
-        requires limit { depth ≤ self.now.depth + 1 }
-        ensures { Reads expr_depth (self.now.depth + 2) (spec.index (within self.now.depth) start base tokens.old) result tokens.new }
+        requires limit { depth ≤ self.now.rules.depth + 1 }
+        ensures { Reads expr_depth (self.now.rules.depth + 2) (spec.index (within self.now.rules.depth) start base tokens.old) result tokens.new }
     {
         let (at, at_depth) = self.bracketed(tokens)?;
         let span = tokens.upto(start);
-        let index = make::expr_index(self.alloc, base, at, span)?;
+        let index = make::expr_index(self.rules.alloc, base, at, span)?;
         Ok((index, depth.max(at_depth) + 1))
     }
 
@@ -201,14 +209,14 @@ impl<R: ReadParts> Rules<R> {
         base: Expr,
         depth: usize,
     ) -> Parsed<Expr>
-        requires reads_within { R.reads_within self.now.parts self.now.depth }
+        requires reads_within { R.reads_within self.now.rules.parts self.now.rules.depth }
         requires depth { depth ≡ expr_depth base }
-        requires limit { depth ≤ self.now.depth + 1 }
-        ensures { Reads expr_depth (self.now.depth + 2) (spec.question (within self.now.depth) start base tokens.old) result tokens.new }
+        requires limit { depth ≤ self.now.rules.depth + 1 }
+        ensures { Reads expr_depth (self.now.rules.depth + 2) (spec.question (within self.now.rules.depth) start base tokens.old) result tokens.new }
     {
         tokens.skip();
         let span = tokens.upto(start);
-        let question = make::expr_try(self.alloc, base, span)?;
+        let question = make::expr_try(self.rules.alloc, base, span)?;
         Ok((question, depth + 1))
     }
 
@@ -221,10 +229,10 @@ impl<R: ReadParts> Rules<R> {
         depth: usize,
         begins: PostfixStart,
     ) -> Parsed<Expr>
-        requires reads_within { R.reads_within self.now.parts self.now.depth }
+        requires reads_within { R.reads_within self.now.rules.parts self.now.rules.depth }
         requires depth { depth ≡ expr_depth left }
-        requires limit { depth ≤ self.now.depth + 1 }
-        ensures { Reads expr_depth (self.now.depth + 2) (spec.postfix_by (within self.now.depth) start left begins tokens.old) result tokens.new }
+        requires limit { depth ≤ self.now.rules.depth + 1 }
+        ensures { Reads expr_depth (self.now.rules.depth + 2) (spec.postfix_by (within self.now.rules.depth) start left begins tokens.old) result tokens.new }
     {
         match begins {
             PostfixStart::Call => self.call(tokens, start, left, depth),
@@ -246,10 +254,10 @@ impl<R: ReadParts> Rules<R> {
         mut left: Expr,
         mut depth: usize,
     ) -> Parsed<Expr>
-        requires reads_within { R.reads_within self.now.parts self.now.depth }
+        requires reads_within { R.reads_within self.now.rules.parts self.now.rules.depth }
         requires depth { depth ≡ expr_depth left }
-        requires limit { depth ≤ self.now.depth + 1 }
-        ensures { ReadsKept expr_depth (self.now.depth + 1) (spec.postfixes (within self.now.depth) start left tokens.old) result tokens.new }
+        requires limit { depth ≤ self.now.rules.depth + 1 }
+        ensures { ReadsKept expr_depth (self.now.rules.depth + 1) (spec.postfixes (within self.now.rules.depth) start left tokens.old) result tokens.new }
     {
         for _turn in 0..tokens.left() {
             let begins = postfix_start(tokens.rest());
@@ -257,7 +265,7 @@ impl<R: ReadParts> Rules<R> {
                 return Ok((left, depth));
             }
             let (longer, longer_depth) = self.postfix(tokens, start, left, depth, begins)?;
-            if longer_depth > self.depth + 1 {
+            if longer_depth > self.rules.depth + 1 {
                 return Err(ReadFail::Syntax);
             }
             left = longer;
@@ -270,8 +278,8 @@ impl<R: ReadParts> Rules<R> {
     /// An atom and what stands behind it.
     #[tactic(auto, unfolding(syn_grammar::specs::Expressions::postfixed))]
     pub(crate) fn postfixed(&self, tokens: &mut Cursor<'_>, begins: AtomStart) -> Parsed<Expr>
-        requires { R.reads_within self.now.parts self.now.depth }
-        ensures { ReadsKept expr_depth (self.now.depth + 1) (spec.postfixed (within self.now.depth) begins tokens.old) result tokens.new }
+        requires { R.reads_within self.now.rules.parts self.now.rules.depth }
+        ensures { ReadsKept expr_depth (self.now.rules.depth + 1) (spec.postfixed (within self.now.rules.depth) begins tokens.old) result tokens.new }
     {
         let start = tokens.here();
         let (left, depth) = self.atom(tokens, begins)?;

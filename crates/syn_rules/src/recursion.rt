@@ -8,11 +8,12 @@ ghost use Rattle.syn_grammar.specs.Reads.{Reads};
 ghost use Rattle.syn_lists.specs.Lists.{all_depth};
 ghost use Rattle.syn_rules.specs.ReadsParts.{ReadsParts};
 
-use crate::rules::{ReadParts, Rules};
+use crate::rules::ExprRules;
 use node_expr::{Expr, Items, Path, Type, TypeParamBound};
 use std::alloc::Global;
 use syn_grammar::{Cursor, ReadFail};
 use syn_lists::Parsed;
+use syn_types::{ReadParts, Rules};
 
 /// Readers as values.
 #[derive(Drop)]
@@ -96,7 +97,7 @@ pub fn read_expr(alloc: Global, tokens: &mut Cursor<'_>, depth: usize, level: u8
     if depth == 0 {
         return Err(ReadFail::Syntax);
     }
-    Rules {
+    let rules = Rules {
         alloc,
         depth: depth - 1,
         parts: Readers {
@@ -104,8 +105,8 @@ pub fn read_expr(alloc: Global, tokens: &mut Cursor<'_>, depth: usize, level: u8
             expr: read_expr,
             bounds: constraint_bounds,
         },
-    }
-    .expr_step(tokens, level)
+    };
+    ExprRules { rules }.expr_step(tokens, level)
 }
 
 /// The bounds of a constraint, which are one level.
