@@ -1,5 +1,5 @@
 -- A grammar that computes gives one tree.
-use Rattle.std.proofs.Common.{◌≡◌, Option, Some, rules, sym, ◌∙◌}
+use Rattle.std.proofs.Common.{Option, sym, ◌∙◌}
 use Rattle.tok_types.specs.declared.tree.TokenStream.{TokenStream}
 use Rattle.syn_core.specs.OneTree.{HaveOneTree}
 

@@ -13,7 +13,7 @@ use Rattle.tok_lit.specs.Reading as reading
 use Rattle.tok_lit.specs.Values.{IsValue}
 use Rattle.tok_lit.specs.declared.value.Value.{Value}
 use Rattle.tok_lit.proofs.Literals.{whole, IsValue-literal, value_of-IsValue, IsValue-value_of, IsLiteral-found}
-use Rattle.syn_grammar.specs.Literals.{is_literal, is_whole, value_of}
+use Rattle.syn_grammar.specs.Literals.{is_literal, is_whole, value_of, IsValueOf}
 
 is_literal-kind : (k : Kind) → is_literal k ≡ true → k ≡ kind.Literal
 is_literal-kind kind.Literal h = refl
@@ -56,3 +56,12 @@ pub IfOk-value_of : {E : Type 0} (text : Characters) (answer : Result (Option Va
 IfOk-value_of text (Ok (Some v)) some none = sym (value_of-valued text v some)
 IfOk-value_of text (Ok None) some none = sym (value_of-none text none)
 IfOk-value_of text (Err e) some none = tt
+
+IsValueOf-by : (text : Characters) (b : Bool) → is_whole text (piece text) ≡ b → IsValueOf text (if b then Some (reading.value_of text) else None)
+IsValueOf-by text true e = (IsValue-value_of text (whole-literal text (piece text) refl e), tt)
+IsValueOf-by text false e = (tt, λ v h. let whole = is_whole-literal text (IsValue-literal text v h) in absurd (cc))
+
+-- what is computed is the value that the text has
+pub IsValueOf-value_of : (text : Characters) → IsValueOf text (value_of text)
+unfolding value_of
+IsValueOf-value_of text = IsValueOf-by text (is_whole text (piece text)) refl

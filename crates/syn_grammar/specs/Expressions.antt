@@ -1,5 +1,6 @@
 -- Expressions.
 use Rattle.std.specs.Prelude.{ℕ, zero, suc, Bool, true, false, ◌==◌, if◌then◌else◌, List, [], ◌∷◌, ◌++◌, Option, Some, None}
+use Rattle.tok_types.specs.Ascii.{bar}
 use Rattle.tok_types.specs.declared.ident.Ident.{Ident}
 use Rattle.tok_types.specs.declared.span.Span.{Span}
 use Rattle.tok_types.specs.declared.tree.Delimiter.TheVariants as delimiter
@@ -57,9 +58,9 @@ module _ (readers : Readers) where
     typed ← eat 1 is_colon
     if typed then pass_type true else pure tt
 
-  -- parameters to the second `|` (124)
+  -- parameters to the second `|`
   abbrev pub closure_params : Parser (Unit {0})
-  closure_params = (λ params. tt) <$> until 124 closure_param
+  closure_params = (λ params. tt) <$> until bar closure_param
 
   -- the level of the body, behind its type where it is told: a block then
   unfoldable pub closure_body : Parser ℕ

@@ -1,5 +1,5 @@
 -- The literals that tokens stand for.
-use Rattle.std.specs.Prelude.{Bool, true, false, ◌&&◌, ◌==◌, if◌then◌else◌, List, length, Option, Some, None}
+use Rattle.std.specs.Prelude.{◌≡◌, Bool, true, false, ◌&&◌, ◌==◌, if◌then◌else◌, List, length, Option, Some, None, IfSome, IfNone}
 use Rattle.std.specs.List.{list_all}
 use Rattle.std.specs.Str.{chars}
 use Rattle.tok_types.specs.declared.tree.Literal.{Literal}
@@ -14,6 +14,7 @@ use Rattle.tok_scan.specs.declared.kind.Found.{Found}
 use Rattle.tok_scan.specs.declared.kind.Kind.{Kind}
 use Rattle.tok_scan.specs.declared.kind.Kind.TheVariants as kind
 use Rattle.tok_lit.specs.Reading as reading
+use Rattle.tok_lit.specs.Values.{IsValue}
 use Rattle.tok_lit.specs.declared.value.Value.{Value}
 use Rattle.tok_lit.specs.declared.value.Value.TheVariants as value
 use Rattle.syn_grammar.specs.Token.{literal_of}
@@ -43,6 +44,14 @@ lit_by token None = lit.Verbatim token
 -- The literal that a token stands for, without a sign. A token that is no literal of a text keeps no value.
 unfoldable pub lit_of : Literal → Lit
 lit_of token = lit_by token (value_of (chars token.text))
+
+-- the value that a text has as a literal, or none where it is no literal
+abbrev pub IsValueOf : Characters → Option Value → Type 0
+IsValueOf text value = IfSome value (IsValue text) × IfNone value ((v : Value) → IsValue text v → ⊥)
+
+-- the literal that a token stands for has the kind and the value of its text, or keeps a text that is none
+abbrev pub StandsFor : Literal → Lit → Type 0
+StandsFor token lit = (value : Option Value) × (lit ≡ lit_by token value) × IsValueOf (chars token.text) value
 
 -- digits and `_` alone: no other base and no suffix
 abbrev pub is_plain : Characters → Bool

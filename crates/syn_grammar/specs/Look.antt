@@ -39,7 +39,6 @@ type_word word.Dyn = ty.TraitObject
 type_word word.Impl = ty.ImplTrait
 type_word _ = ty.Nothing
 
--- 33 `!`, 42 `*`
 unfoldable pub type_start : List TokenTree → TypeStart
 type_start trees =
     if is_group delimiter.Parenthesis trees then ty.Parenthesis
@@ -107,7 +106,6 @@ atom_start trees =
     else if is_colons trees then atom.Path
     else atom_word (next_word trees)
 
--- 45 `-`, 33 `!`, 42 `*`
 unfoldable pub operand_start : List TokenTree → OperandStart
 operand_start trees =
     if is_mark minus trees then operand.Neg
@@ -132,11 +130,10 @@ abbrev pub is_move : Word → Bool
 is_move word.Move = true
 is_move _ = false
 
--- `move` or `|` (124)
+-- `move` or `|`
 unfoldable pub begins_closure : List TokenTree → Bool
 begins_closure trees = is_move (next_word trees) || is_mark bar trees
 
--- 46 `.`
 unfoldable pub postfix_start : List TokenTree → PostfixStart
 postfix_start trees =
     if is_group delimiter.Parenthesis trees then postfix.Call

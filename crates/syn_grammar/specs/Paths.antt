@@ -1,5 +1,6 @@
 -- Paths, their arguments, and bounds.
 use Rattle.std.specs.Prelude.{Bool, true, false, if◌then◌else◌, List, [], ◌∷◌, ◌++◌, length}
+use Rattle.tok_types.specs.Ascii.{greater}
 use Rattle.tok_types.specs.declared.ident.Lifetime.{Lifetime}
 use Rattle.tok_types.specs.declared.span.Span.{Span}
 use Rattle.tok_types.specs.declared.tree.Delimiter.TheVariants as delimiter
@@ -31,9 +32,9 @@ use Rattle.syn_grammar.specs.Make as make
 abbrev pub list : {A : Type 0} → Parser A → Parser (List A)
 list item = items_after item []
 
--- what is left of a list between `<` and `>` (62)
+-- what is left of a list between `<` and `>`
 abbrev pub angle_list : {A : Type 0} → Parser A → Parser (List A)
-angle_list item = until 62 item
+angle_list item = until greater item
 
 -- `for<'a, 'b>`, or nothing
 unfoldable pub binder : Parser (List Lifetime)

@@ -21,7 +21,8 @@ fn value_of(alloc: Global, text: &str) -> Mem<Option<Value>>
 /// whose text is no literal is kept as it is.
 #[tactic(auto, unfolding(crate::specs::Literals::lit_of))]
 pub fn lit_of(alloc: Global, token: Literal) -> Mem<Lit>
-    ensures { IfOk result (λ lit. lit ≡ spec.lit_of token) }
+    ensures literal { IfOk result (λ lit. lit ≡ spec.lit_of token) }
+    ensures value { IfOk result (spec.StandsFor token) }
 {
     let value = value_of(alloc, token.text.as_str())?;
     Ok(lit_by(token, value))

@@ -1,5 +1,5 @@
 -- The law of fronts for items: one is read again whatever follows it.
-use Rattle.std.proofs.Common.{◌≡◌, ℕ, zero, suc, Bool, true, false, if◌then◌else◌, List, [], ◌∷◌, ◌++◌, Option, Some, None, refl, arith, sym, ap, ◌∙◌}
+use Rattle.std.proofs.Common.{◌≡◌, ℕ, zero, suc, Bool, true, false, if◌then◌else◌, List, [], ◌∷◌, ◌++◌, Option, Some, None, refl, sym, ◌∙◌}
 use Rattle.tok_types.specs.declared.ident.Ident.{Ident}
 use Rattle.tok_types.specs.declared.span.Span.{Span}
 use Rattle.tok_types.specs.declared.span.Span.TheVariants.{CallSite}
@@ -30,10 +30,10 @@ use Rattle.syn_grammar.specs.Token.{contents_of, ident_of, is_colon, is_comma, i
 use Rattle.syn_grammar.specs.Words.{next_word, peek}
 use Rattle.law_prefix.specs.SameLookahead.{Relation, Any, SameLookahead, SameLookaheadToEnds}
 use Rattle.law_prefix.specs.ReadsByPrefix.{at, ReadsByPrefix}
-use Rattle.law_prefix.proofs.Looks.{alike-mark, alike-group, alike-word, alike-sees, alike-lifetime}
+use Rattle.law_prefix.proofs.Looks.{alike-mark, alike-group, alike-sees, alike-lifetime}
 use Rattle.law_prefix.proofs.Begins.{alike-constant}
 use Rattle.law_prefix.proofs.Steps.{FrontAt, Fronts, refuse_at-front, refuse-front, stay-front, pure-front, upto_then-front, then-front, first_at-front, first-front, turn-front, map-front, maybe_at-front, maybe-front, late-front, none_at-front, weak-front, if-front, seen-front, test-front, look-front, here-front, close-front, same-front, turns-front}
-use Rattle.law_prefix.proofs.Takes.{expect-front, one-enough, eat_mark-front, mark-front, eat_or-front, skip_then-front, inside-front, inside_any-front, semicolon_any-front, here_eat-front}
+use Rattle.law_prefix.proofs.Takes.{eat_mark-front, mark-front, eat_or-front, skip_then-front, inside-front, inside_any-front, semicolon_any-front, here_eat-front}
 use Rattle.law_prefix.proofs.Loops.{Rule, joined_by-front}
 use Rattle.law_prefix.proofs.Words.{lifetime-front, name-front, word-front, colon-front, eat_colon-front}
 use Rattle.law_prefix.proofs.Paths.{AllFronts, angle_list-front, binder-front, joined_bounds-front}

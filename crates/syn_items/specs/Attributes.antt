@@ -1,5 +1,5 @@
 -- Attributes, and the meta items in them.
-use Rattle.std.specs.Prelude.{Bool, true, false, if◌then◌else◌, List, [], ◌∷◌, Option, Some, None}
+use Rattle.std.specs.Prelude.{true, if◌then◌else◌, List, [], ◌∷◌, Option, Some, None}
 use Rattle.tok_types.specs.Ascii.{hash, minus}
 use Rattle.tok_types.specs.declared.span.Span.{Span}
 use Rattle.tok_types.specs.declared.tree.Delimiter.{Delimiter}
@@ -53,7 +53,7 @@ negative span (lit.Int it) = Some (lit.Int (record it { negative = true; span = 
 negative span (lit.Float it) = Some (lit.Float (record it { negative = true; span = span }))
 negative span _ = None
 
--- `-1`, `-1.5`: 45 is the minus
+-- `-1`, `-1.5`
 unfoldable pub signed : Parser Lit
 signed = do
   start ← here
@@ -126,7 +126,7 @@ meta = do
   grouped ← test delimiter_of
   meta_by start path grouped
 
--- `#[meta]`: 35 is the `#`
+-- `#[meta]`
 unfoldable pub attribute : Parser Attribute
 attribute = do
   start ← here

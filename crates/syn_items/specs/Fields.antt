@@ -1,6 +1,5 @@
 -- Fields and variants.
-use Rattle.std.specs.Prelude.{Bool, true, false, if◌then◌else◌, List, Option, Some, None}
-use Rattle.tok_types.specs.declared.span.Span.{Span}
+use Rattle.std.specs.Prelude.{Bool, true, false, List, Option, Some, None}
 use Rattle.tok_types.specs.declared.tree.Delimiter.TheVariants as delimiter
 use Rattle.node_expr.specs.declared.expr.Expr.{Expr}
 use Rattle.node_core.specs.declared.data.Field.{Field}

@@ -22,7 +22,7 @@ use Rattle.syn_grammar.specs.declared.word.Word.TheVariants as word
 use Rattle.syn_grammar.specs.Token.{is_colon, is_comma, is_equals, is_group, is_less, is_plus, is_semicolon, lifetime_of}
 use Rattle.syn_grammar.specs.Words.{name_of, peek}
 use Rattle.syn_grammar.specs.Look.{begins_constant, is_there}
-use Rattle.syn_grammar.specs.Input.{Parser, ◌>>=◌, ◌>>◌, ◌<$>◌, pure, refuse, test, here, upto, eat, expect, take_as, at_end, is_end, joined_by, by_turns}
+use Rattle.syn_grammar.specs.Input.{Parser, ◌>>=◌, ◌>>◌, ◌<$>◌, pure, refuse, test, here, upto, eat, expect, take_as, is_end, joined_by, by_turns}
 use Rattle.syn_grammar.specs.Readers.{constant_level}
 use Rattle.syn_grammar.specs.Grammar.{within, max_depth}
 use Rattle.syn_grammar.specs.Paths.{angle_list, binder, joined_bounds}

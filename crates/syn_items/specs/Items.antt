@@ -1,7 +1,6 @@
 -- Items: structs, enums and unions.
 use Rattle.std.specs.Prelude.{Bool, true, false, if◌then◌else◌, List, codes, Option, Some, None}
 use Rattle.tok_types.specs.declared.ident.Ident.{Ident}
-use Rattle.tok_types.specs.declared.span.Span.{Span}
 use Rattle.tok_types.specs.declared.tree.Delimiter.TheVariants as delimiter
 use Rattle.tok_types.specs.declared.tree.TokenTree.{TokenTree}
 use Rattle.node_core.specs.declared.data.«Data».{«Data»}

@@ -36,7 +36,7 @@ while_from begins item (suc turns) found = do
 abbrev pub each_while : {A : Type 0} → (List TokenTree → Bool) → Parser A → Parser (List A)
 each_while begins item = by_turns (λ turns. while_from begins item turns [])
 
--- whether a list goes on: 35 is the `#`
+-- whether a list goes on
 abbrev pub goes_on : While → List TokenTree → Bool
 goes_on while.Hash = is_mark hash
 goes_on while.Token = λ trees. not (is_end trees)

@@ -1,4 +1,4 @@
-use Rattle.std.proofs.Common.{rules, arith, true}
+use Rattle.std.proofs.Common.{rules, arith}
 use Rattle.syn_grammar.specs.Depth.{type_depth}
 use Rattle.syn_grammar.specs.Arguments.{fn_arg}
 use Rattle.syn_grammar.specs.Grammar.{max_depth, within}

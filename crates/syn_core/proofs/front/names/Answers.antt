@@ -1,4 +1,4 @@
-use Rattle.std.proofs.Common.{rules, arith, true}
+use Rattle.std.proofs.Common.{rules, arith}
 use Rattle.syn_grammar.specs.Input.{take_as}
 use Rattle.syn_grammar.specs.Words.{name_of}
 use Rattle.syn_core.proofs.front.names.Goals as goal

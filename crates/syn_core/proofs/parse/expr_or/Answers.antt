@@ -1,4 +1,4 @@
-use Rattle.std.proofs.Common.{rules, true}
+use Rattle.std.proofs.Common.{rules}
 use Rattle.syn_grammar.specs.Depth.{expr_depth}
 use Rattle.syn_grammar.specs.Grammar.{max_depth, within}
 use Rattle.syn_grammar.specs.Readers.{any_level}

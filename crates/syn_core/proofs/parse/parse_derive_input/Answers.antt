@@ -1,4 +1,4 @@
-use Rattle.std.proofs.Common.{rules, true}
+use Rattle.std.proofs.Common.{rules}
 use Rattle.syn_items.specs.Items.{item}
 use Rattle.syn_items.specs.Trees.{derive_input_of}
 use Rattle.syn_core.proofs.parse.parse_derive_input.Goals as goal

@@ -1,4 +1,4 @@
-use Rattle.std.proofs.Common.{rules, true}
+use Rattle.std.proofs.Common.{rules}
 use Rattle.syn_items.specs.Items.{items}
 use Rattle.syn_items.specs.Trees.{items_of}
 use Rattle.syn_core.proofs.parse.parse_items.Goals as goal

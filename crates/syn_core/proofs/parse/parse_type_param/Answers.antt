@@ -1,4 +1,4 @@
-use Rattle.std.proofs.Common.{rules, true}
+use Rattle.std.proofs.Common.{rules}
 use Rattle.syn_items.specs.Generics.{one_type_param}
 use Rattle.syn_items.specs.Trees.{type_param_of}
 use Rattle.syn_core.proofs.parse.parse_type_param.Goals as goal

@@ -1,4 +1,4 @@
-use Rattle.std.proofs.Common.{rules, true}
+use Rattle.std.proofs.Common.{rules}
 use Rattle.syn_items.specs.Visibility.{visibility}
 use Rattle.syn_items.specs.Trees.{visibility_of}
 use Rattle.syn_core.proofs.parse.parse_visibility.Goals as goal

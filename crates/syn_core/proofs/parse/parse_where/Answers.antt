@@ -1,4 +1,4 @@
-use Rattle.std.proofs.Common.{rules, true}
+use Rattle.std.proofs.Common.{rules}
 use Rattle.syn_items.specs.Generics.{where_clause}
 use Rattle.syn_items.specs.Trees.{where_of}
 use Rattle.syn_core.proofs.parse.parse_where.Goals as goal

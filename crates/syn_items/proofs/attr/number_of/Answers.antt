@@ -1,4 +1,4 @@
-use Rattle.std.proofs.Common.{rules, true}
+use Rattle.std.proofs.Common.{rules}
 use Rattle.syn_items.specs.Attributes.{signed}
 use Rattle.syn_items.proofs.attr.number_of.Goals as goal
 

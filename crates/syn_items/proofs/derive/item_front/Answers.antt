@@ -1,5 +1,4 @@
-use Rattle.std.proofs.Common.{◌≡◌, ◌-◌, ◌≤◌, List, length, arith, sym, ap, ◌∙◌, subst, inl, inr}
-use Rattle.tok_types.specs.declared.tree.TokenStream.{out-TokenStream}
+use Rattle.std.proofs.Common.{◌-◌, ◌≤◌, List, length, arith, sym, ap, ◌∙◌, subst, inl, inr}
 use Rattle.tok_types.specs.declared.tree.TokenTree.{TokenTree}
 use Rattle.syn_items.specs.Trees.{IsItemFront}
 use Rattle.syn_items.proofs.ItemFront.{AtItem, AtItem-front, AtItem-more, AtItem-start, AtItem-within, item-shorter, nothing-left}
