@@ -1,11 +1,11 @@
 -- The text of an error, child by child.
-use Rattle.std.proofs.Common.{◌≡◌, ℕ, ◌≤◌, Result, OnOk, List, [], ◌∷◌, ◌++◌, length, map, flat_map, refl, Option, codes, arith, ap, ◌∙◌, sym, append_assoc, append-nil}
+use Rattle.std.proofs.Common.{◌≡◌, ℕ, ◌≤◌, Result, OnOk, List, [], ◌∷◌, ◌++◌, length, flat_map, refl, Option, codes, arith, ap, ◌∙◌, sym, append_assoc, append-nil}
 use Rattle.std.specs.List.{join_by}
 use Rattle.base_core.specs.declared.text.Text.{Text}
 use Rattle.tok_types.specs.declared.span.Span.{Span}
 use Rattle.error_fault.specs.FaultText.{path_text}
 use Rattle.error_fault.proofs.TextLemmas.{OnOk-append}
-use Rattle.error_core.specs.ErrorView.{ErrorView, error_text, part_of}
+use Rattle.error_core.specs.ErrorView.{ErrorView, more_of, error_text, more_text}
 use Rattle.error_core.specs.View.{of_many}
 
 -- what stands before the next of these pieces
@@ -28,10 +28,9 @@ module _ {X : Type 0} (f : X → List ℕ) (separator : List ℕ) where
       ap (λ rest. f x ++ rest) (flat_map-next xs y)
       ∙ sym (append_assoc (f x) (flat_map (λ x. separator ++ f x) xs) (separator ++ f y))
 
-flat_shown : (errors : List ErrorView)
-    → flat_map (λ part. codes ", " ++ part.shown) (map part_of errors) ≡ flat_map (λ told. codes ", " ++ error_text told) errors
-flat_shown [] = refl
-flat_shown (told ∷ errors) = ap (λ rest. (codes ", " ++ error_text told) ++ rest) (flat_shown errors)
+more_text-more_of : (errors : List ErrorView) → more_text (more_of errors) ≡ flat_map (λ told. codes ", " ++ error_text told) errors
+more_text-more_of [] = refl
+more_text-more_of (told ∷ errors) = ap (λ rest. (codes ", " ++ error_text told) ++ rest) (more_text-more_of errors)
 
 pub error_text-of_many : (errors : List ErrorView) (path : List Text) (span : Option Span) → 2 ≤ length errors
     → error_text (of_many errors path span)
@@ -39,7 +38,7 @@ pub error_text-of_many : (errors : List ErrorView) (path : List Text) (span : Op
 error_text-of_many [] path span two = absurd (omega arith)
 error_text-of_many (a ∷ []) path span two = absurd (omega arith)
 error_text-of_many (a ∷ b ∷ more) path span two =
-    ap (λ rest. (codes "Multiple errors: (" ++ (error_text a ++ ((codes ", " ++ error_text b) ++ rest)) ++ codes ")") ++ path_text path) (flat_shown more)
+    ap (λ rest. (codes "Multiple errors: (" ++ (error_text a ++ ((codes ", " ++ error_text b) ++ rest)) ++ codes ")") ++ path_text path) (more_text-more_of more)
 
 -- pieces that were appended in turn are the text of a root
 pub OnOk-root : {T E : Type 0} (r : Result T E) (old one two three new lead middle close path : List ℕ) → one ≡ old ++ lead

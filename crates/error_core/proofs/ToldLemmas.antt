@@ -1,14 +1,14 @@
 -- What the calls on errors do to the faults.
-use Rattle.std.proofs.Common.{◌<◌, Result, Ok, Err, IfOk, ◌≡◌, ◌≢◌, ℕ, ◌≤◌, List, [], ◌∷◌, ◌++◌, length, map, flat_map, refl, Option, None, arith, ap, ◌∙◌, sym, append_assoc, append-nil, sum_by}
-use Rattle.std.proofs.lemmas.List.{length-map}
+use Rattle.std.proofs.Common.{◌<◌, Result, Ok, Err, IfOk, ◌≡◌, ◌≢◌, ℕ, ◌≤◌, List, [], ◌∷◌, ◌++◌, length, map, refl, Option, None, arith, ap, ◌∙◌, sym, append_assoc, append-nil, sum_by}
+use Rattle.std.proofs.lemmas.List.{length-map, map-append}
 use Rattle.std.proofs.lemmas.List.Concat.{length-flat_map}
 use Rattle.base_core.specs.declared.text.Text.{Text}
 use Rattle.tok_types.specs.declared.span.Span.{Span}
 use Rattle.error_fault.specs.declared.fault.Fault.{Fault}
 use Rattle.error_fault.specs.Fault.{with_sibling_names}
 use Rattle.error_fault.specs.Faults.{at, siblings}
-use Rattle.error_core.specs.ErrorView.{ErrorView, One, Several, part_of, part_leaves, first_leaf, more_leaves, leaves, below, held}
-use Rattle.error_core.specs.Changes.{located, joined, flat, FlatStays}
+use Rattle.error_core.specs.ErrorView.{ErrorView, One, Several, MoreErrors, no_more, and_then, list_of, more_of, first_leaf, more_leaves, leaves, leaves_in, below, held, children_of}
+use Rattle.error_core.specs.Changes.{located, widened, more_widened, joined, flat, FlatStays}
 use Rattle.error_core.specs.declared.error.Node.{Node}
 use Rattle.error_core.specs.declared.error.Node.TheVariants.{Leaf, Many}
 use Rattle.error_core.specs.View.{of_many, of_node}
@@ -21,7 +21,7 @@ map_below-more name path (fault ∷ faults) = ap (λ more. below (name ∷ path)
 pub leaves_located : (told : ErrorView) (name : Text) → leaves (located told name) ≡ at (leaves told) name
 leaves_located (One fault) name = refl
 leaves_located (Several path span a b more) name =
-    map_below-more name path (part_leaves a ++ (part_leaves b ++ flat_map part_leaves more))
+    map_below-more name path (leaves a ++ (leaves b ++ leaves_in more))
 
 pub leaves-is_located : (told error : ErrorView) (name : Text) → error ≡ located told name → leaves error ≡ at (leaves told) name
 leaves-is_located told error name is = ap leaves is ∙ leaves_located told name
@@ -30,9 +30,9 @@ pub map_below-none : (faults : List Fault) → map (below []) faults ≡ faults
 map_below-none [] = refl
 map_below-none (fault ∷ faults) = ap (λ more. fault ∷ more) (map_below-none faults)
 
-flat_parts : (errors : List ErrorView) → flat_map part_leaves (map part_of errors) ≡ held errors
-flat_parts [] = refl
-flat_parts (told ∷ errors) = ap (λ faults. leaves told ++ faults) (flat_parts errors)
+leaves_in-more_of : (errors : List ErrorView) → leaves_in (more_of errors) ≡ held errors
+leaves_in-more_of [] = refl
+leaves_in-more_of (told ∷ errors) = ap (λ faults. leaves told ++ faults) (leaves_in-more_of errors)
 
 -- the faults of a root are those of its children below its path
 pub leaves_of_many : (errors : List ErrorView) (path : List Text) (span : Option Span) → 2 ≤ length errors
@@ -40,7 +40,7 @@ pub leaves_of_many : (errors : List ErrorView) (path : List Text) (span : Option
 leaves_of_many [] path span two = absurd (omega arith)
 leaves_of_many (a ∷ []) path span two = absurd (omega arith)
 leaves_of_many (a ∷ b ∷ more) path span two =
-    ap (λ faults. map (below path) (leaves a ++ (leaves b ++ faults))) (flat_parts more)
+    ap (λ faults. map (below path) (leaves a ++ (leaves b ++ faults))) (leaves_in-more_of more)
 
 pub leaves_joined : (errors : List ErrorView) (span : Option Span) → 2 ≤ length errors → leaves (of_many errors [] span) ≡ held errors
 leaves_joined errors span two = leaves_of_many errors [] span two ∙ map_below-none (held errors)
@@ -87,57 +87,106 @@ siblings_below name path [] names = refl
 siblings_below name path (fault ∷ faults) names =
     ap (λ more. below (name ∷ path) fault ∷ more) (siblings_below name path faults names)
 
-siblings_of_many : (errors : List ErrorView) (name : Text) (path : List Text) (span : Option Span) (names : List Text)
-    → siblings (leaves (of_many errors (name ∷ path) span)) names ≡ leaves (of_many errors (name ∷ path) span)
-siblings_of_many [] name path span names = refl
-siblings_of_many (a ∷ []) name path span names = refl
-siblings_of_many (a ∷ b ∷ more) name path span names =
-    siblings_below name path (leaves a ++ (leaves b ++ flat_map part_leaves (map part_of more))) names
+siblings_append : (faults more new others : List Fault) (names : List Text)
+    → new ≡ siblings faults names → others ≡ siblings more names → new ++ others ≡ siblings (faults ++ more) names
+siblings_append faults more new others names first second =
+    ap (λ list. list ++ others) first ∙ ap (λ list. siblings faults names ++ list) second
+    ∙ sym (map-append (λ fault. with_sibling_names fault names) faults more)
+
+-- the faults of a widened error are those of the error, each with the names
+mutual
+  pub leaves_widened : (told : ErrorView) (names : List Text) → leaves (widened told names) ≡ siblings (leaves told) names
+  leaves_widened (One fault) names = refl
+  leaves_widened (Several [] span a b more) names =
+      let rest = siblings_append (leaves b) (leaves_in more) _ _ names (leaves_widened b names) (leaves_in-widened more names) in
+      map_below-none _ ∙ siblings_append (leaves a) (leaves b ++ leaves_in more) _ _ names (leaves_widened a names) rest
+      ∙ ap (λ faults. siblings faults names) (sym (map_below-none (leaves a ++ (leaves b ++ leaves_in more))))
+  leaves_widened (Several (name ∷ path) span a b more) names =
+      sym (siblings_below name path (leaves a ++ (leaves b ++ leaves_in more)) names)
+
+  leaves_in-widened : (more : MoreErrors) (names : List Text)
+      → leaves_in (more_widened more names) ≡ siblings (leaves_in more) names
+  leaves_in-widened no_more names = refl
+  leaves_in-widened (and_then told more) names =
+      siblings_append (leaves told) (leaves_in more) _ _ names (leaves_widened told names) (leaves_in-widened more names)
+
+widened_in_many : (errors : List ErrorView) (name : Text) (path : List Text) (span : Option Span) (names : List Text)
+    → widened (of_many errors (name ∷ path) span) names ≡ of_many errors (name ∷ path) span
+widened_in_many [] name path span names = refl
+widened_in_many (a ∷ []) name path span names = refl
+widened_in_many (a ∷ b ∷ more) name path span names = refl
+
+widened_of_node : (node : Node) (path : List Text) (span : Option Span) (names : List Text) → path ≢ []
+    → widened (of_node node path span) names ≡ of_node node path span
+widened_of_node node [] span names some = absurd (some refl)
+widened_of_node (Leaf kind) (name ∷ path) span names some = refl
+widened_of_node (Many kids) (name ∷ path) span names some = widened_in_many kids.items name path span names
 
 -- an error in a field takes no alternatives
-pub siblings_of_node : (node : Node) (path : List Text) (span : Option Span) (names : List Text) → path ≢ []
-    → siblings (leaves (of_node node path span)) names ≡ leaves (of_node node path span)
-siblings_of_node node [] span names some = absurd (some refl)
-siblings_of_node (Leaf kind) (name ∷ path) span names some = refl
-siblings_of_node (Many kids) (name ∷ path) span names some = siblings_of_many kids.items name path span names
+pub widened_in_field : (node : Node) (path : List Text) (span : Option Span) (names : List Text) (told : ErrorView)
+    → of_node node path span ≡ told → path ≢ [] → told ≡ widened told names
+widened_in_field node path span names told is some =
+    sym is ∙ sym (widened_of_node node path span names some) ∙ ap (λ it. widened it names) is
 
-pub siblings_joined : (errors children : List ErrorView) (span : Option Span) (names : List Text) → 2 ≤ length errors
-    → length children ≡ length errors → held children ≡ siblings (held errors) names
-    → leaves (of_many children [] span) ≡ siblings (leaves (of_many errors [] span)) names
-siblings_joined errors children span names two same is =
-    leaves_joined children span (omega arith) ∙ is ∙ ap (λ faults. siblings faults names) (sym (leaves_joined errors span two))
+more_of-map_widened : (errors : List ErrorView) (names : List Text)
+    → more_of (map (λ told. widened told names) errors) ≡ more_widened (more_of errors) names
+more_of-map_widened [] names = refl
+more_of-map_widened (told ∷ errors) names = ap (and_then (widened told names)) (more_of-map_widened errors names)
 
-pub siblings_in_field : (node : Node) (path : List Text) (span : Option Span) (names : List Text) (told : ErrorView)
-    → of_node node path span ≡ told → path ≢ [] → leaves told ≡ siblings (leaves told) names
-siblings_in_field node path span names told is some =
-    ap leaves (sym is) ∙ sym (siblings_of_node node path span names some) ∙ ap (λ it. siblings (leaves it) names) is
+widened_of_many : (errors : List ErrorView) (span : Option Span) (names : List Text) → 2 ≤ length errors
+    → of_many (map (λ told. widened told names) errors) [] span ≡ widened (of_many errors [] span) names
+widened_of_many [] span names two = absurd (omega arith)
+widened_of_many (a ∷ []) span names two = absurd (omega arith)
+widened_of_many (a ∷ b ∷ more) span names two =
+    ap (Several [] span (widened a names) (widened b names)) (more_of-map_widened more names)
 
-pub siblings_done : (errors taken left children : List ErrorView) (path : List Text) (span : Option Span) (names : List Text) (told : ErrorView)
-    → errors ≡ taken ++ left → length left ≡ 0 → 2 ≤ length errors → path ≡ [] → length children ≡ length taken
-    → held children ≡ siblings (held taken) names → of_many errors path span ≡ told
-    → leaves (of_many children path span) ≡ siblings (leaves told) names
-siblings_done errors taken left children path span names told split none two top same each is =
-    let all = all_taken errors taken left split none in
-    let many = same ∙ ap (length {A = ErrorView}) (sym all) in
-    let kept = each ∙ ap (λ kids. siblings (held kids) names) (sym all) in
-    ap (λ p. leaves (of_many children p span)) top
-    ∙ siblings_joined errors children span names two many kept
-    ∙ ap (λ p. siblings (leaves (of_many errors p span)) names) (sym top)
-    ∙ ap (λ it. siblings (leaves it) names) is
+pub length-widened : (taken children : List ErrorView) (names : List Text) → children ≡ map (λ told. widened told names) taken
+    → length children ≡ length taken
+length-widened taken children names each =
+    ap (length {A = ErrorView}) each ∙ length-map taken (λ told. widened told names)
 
-pub siblings_counted : (faults more : List Fault) (names : List Text) (n : ℕ)
-    → faults ≡ siblings more names → n ≡ length more → n ≡ length faults
-siblings_counted faults more names n is counted =
-    counted ∙ sym (length-map more (λ fault. with_sibling_names fault names)) ∙ ap (length {A = Fault}) (sym is)
+-- the root over the widened children is the widened root
+pub widened_done : (errors taken left children : List ErrorView) (path : List Text) (span : Option Span) (names : List Text) (told : ErrorView)
+    → errors ≡ taken ++ left → length left ≡ 0 → 2 ≤ length errors → path ≡ []
+    → children ≡ map (λ it. widened it names) taken → of_many errors path span ≡ told
+    → of_many children path span ≡ widened told names
+widened_done errors taken left children path span names told split none two top each is =
+    let kept = each ∙ ap (map (λ it. widened it names)) (sym (all_taken errors taken left split none)) in
+    ap (λ p. of_many children p span) top
+    ∙ ap (λ kids. of_many kids [] span) kept
+    ∙ widened_of_many errors span names two
+    ∙ ap (λ p. widened (of_many errors p span) names) (sym top)
+    ∙ ap (λ it. widened it names) is
 
-flat_ones : (faults : List Fault) → flat_map part_leaves (map part_of (map One faults)) ≡ faults
+pub leaves-is_widened : (told error : ErrorView) (names : List Text) → error ≡ widened told names
+    → leaves error ≡ siblings (leaves told) names
+leaves-is_widened told error names is = ap leaves is ∙ leaves_widened told names
+
+pub counted_widened : (told error : ErrorView) (names : List Text) (n : ℕ) → error ≡ widened told names
+    → n ≡ length (leaves told) → n ≡ length (leaves error)
+counted_widened told error names n is counted =
+    counted ∙ sym (length-map (leaves told) (λ fault. with_sibling_names fault names))
+    ∙ ap (length {A = Fault}) (sym (leaves-is_widened told error names is))
+
+list_of-more_of : (errors : List ErrorView) → list_of (more_of errors) ≡ errors
+list_of-more_of [] = refl
+list_of-more_of (told ∷ errors) = ap (λ more. told ∷ more) (list_of-more_of errors)
+
+-- the children of a root are those that it was made over
+pub children_of_many : (errors : List ErrorView) (path : List Text) (span : Option Span) → 2 ≤ length errors
+    → children_of (of_many errors path span) ≡ errors
+children_of_many [] path span two = absurd (omega arith)
+children_of_many (a ∷ []) path span two = absurd (omega arith)
+children_of_many (a ∷ b ∷ more) path span two = ap (λ rest. a ∷ b ∷ rest) (list_of-more_of more)
+
+flat_ones : (faults : List Fault) → leaves_in (more_of (map One faults)) ≡ faults
 flat_ones [] = refl
 flat_ones (fault ∷ faults) = ap (λ more. fault ∷ more) (flat_ones faults)
 
 leaves_ones : (first : Fault) (more : List Fault) (other : ErrorView) → leaves (joined (map One (first ∷ more)) other) ≡ first ∷ more
 leaves_ones first [] other = refl
 leaves_ones first (second ∷ more) other =
-    map_below-none (first ∷ second ∷ flat_map part_leaves (map part_of (map One more)))
+    map_below-none (first ∷ second ∷ leaves_in (more_of (map One more)))
     ∙ ap (λ faults. first ∷ second ∷ faults) (flat_ones more)
 
 -- of a list that is not empty nothing else is made

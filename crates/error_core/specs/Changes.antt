@@ -3,9 +3,9 @@ use Rattle.std.specs.Prelude.{◌≡◌, List, [], ◌∷◌, map, None}
 use Rattle.base_core.specs.declared.text.Text.{Text}
 use Rattle.tok_types.specs.declared.span.Span.{Span}
 use Rattle.error_fault.specs.declared.kind.FaultKind.{FaultKind}
-use Rattle.error_fault.specs.Fault.{plain, or_span, span_or}
+use Rattle.error_fault.specs.Fault.{plain, or_span, span_or, with_sibling_names}
 use Rattle.error_fault.specs.Fault as faults
-use Rattle.error_core.specs.ErrorView.{ErrorView, One, Several, part_of, leaves}
+use Rattle.error_core.specs.ErrorView.{ErrorView, One, Several, MoreErrors, no_more, and_then, more_of, leaves}
 
 -- the one fault of this kind, in no field and at no place
 abbrev pub leaf : FaultKind → ErrorView
@@ -21,12 +21,24 @@ abbrev pub located : ErrorView → Text → ErrorView
 located (One fault) name = One (faults.located fault name)
 located (Several path span a b more) name = Several (name ∷ path) span a b more
 
+-- an unknown field that stands in no field has these names as alternatives too, in each child as in the
+-- root; a root or a child in a field stays as it is
+abbrev mutual
+  pub widened : ErrorView → List Text → ErrorView
+  widened (One fault) names = One (with_sibling_names fault names)
+  widened (Several [] span a b more) names = Several [] span (widened a names) (widened b names) (more_widened more names)
+  widened (Several (name ∷ path) span a b more) names = Several (name ∷ path) span a b more
+
+  pub more_widened : MoreErrors → List Text → MoreErrors
+  more_widened no_more names = no_more
+  more_widened (and_then told more) names = and_then (widened told names) (more_widened more names)
+
 -- the one error of a list of one; the errors of a longer list as the children of a root in no field and
 -- at no place (of no errors nothing is made: `other` stands there)
 abbrev pub joined : List ErrorView → ErrorView → ErrorView
 joined [] other = other
 joined (a ∷ []) other = a
-joined (a ∷ b ∷ more) other = Several [] None (part_of a) (part_of b) (map part_of more)
+joined (a ∷ b ∷ more) other = Several [] None a b (more_of more)
 
 -- each fault as a child of the root; a single fault alone
 abbrev pub flat : ErrorView → ErrorView

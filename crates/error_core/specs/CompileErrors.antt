@@ -2,6 +2,7 @@
 use Rattle.std.specs.Prelude.{ℕ, Bool, true, false, List, [], ◌∷◌, ◌++◌, flat_map, codes, chars}
 use Rattle.std.specs.Str.{encode_utf8_all}
 use Rattle.base_core.specs.declared.text.Text.{Text}
+use Rattle.tok_types.specs.Ascii.{colon, exclamation}
 use Rattle.tok_types.specs.declared.span.Span.{Span}
 use Rattle.tok_types.specs.declared.tree.Delimiter.TheVariants.{Brace}
 use Rattle.tok_types.specs.declared.tree.Group.{roll-Group}
@@ -29,11 +30,11 @@ braced inside span =
 
 -- `::name`
 abbrev pub segment : Text → Span → List TokenTree
-segment name span = mark 58 true span ∷ mark 58 false span ∷ word name span ∷ []
+segment name span = mark colon true span ∷ mark colon false span ∷ word name span ∷ []
 
 -- `!{"text"}`
 abbrev pub call : Text → Span → List TokenTree
-call text span = mark 33 false span ∷ braced (string text span) span ∷ []
+call text span = mark exclamation false span ∷ braced (string text span) span ∷ []
 
 -- `::core::compile_error!{"text"}`, each token at the place of the fault
 abbrev pub compile_error : Span → Text → List TokenTree

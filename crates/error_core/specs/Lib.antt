@@ -1,4 +1,5 @@
 pub mod ErrorView
+pub mod Coded
 pub mod Changes
 pub mod View
 pub mod Falls
@@ -16,4 +17,3 @@ pub use Rattle.node_core.specs.Error
 pub use Rattle.node_core.specs.Nodes
 pub use Rattle.node_core.specs.PathText
 pub use Rattle.node_span.specs.Spanned
-pub use Rattle.tok_types.specs.Tokens

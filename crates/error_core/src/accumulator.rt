@@ -26,8 +26,12 @@ pub struct Accumulator {
 impl Model for Accumulator {
     ghost use Rattle.std.specs.Prelude.{List};
     ghost use Rattle.error_core.specs.ErrorView.{ErrorView};
+    ghost use Rattle.std.specs.Coded.{coded_list};
+    ghost use Rattle.error_core.specs.contracts.error.Error as error;
 
     ghost Value = { List ErrorView };
+
+    ghost coded = { coded_list error.the_row.coded };
 
     ghost view = { λ accumulator. accumulator.errors.items };
 }

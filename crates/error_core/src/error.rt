@@ -4,8 +4,9 @@ ghost use Rattle.std.specs.Prelude.{◌≡◌, ◌+◌, ◌++◌, ◌<◌, ◌�
 ghost use Rattle.std.specs.Option.{unwrap_or};
 ghost use Rattle.error_fault.specs.Faults.{span_one, at, siblings};
 ghost use Rattle.error_fault.specs.Kind.{with_alternatives};
-ghost use Rattle.error_core.specs.ErrorView.{One, below, leaves, part_of, parts, span_of, held};
-ghost use Rattle.error_core.specs.Changes.{spanned, located, joined};
+ghost use Rattle.error_core.specs.ErrorView.{One, below, leaves, children_of, span_of, held};
+ghost use Rattle.error_core.specs.Changes.{spanned, located, widened, joined};
+ghost use Rattle.error_core.specs.View.{node_of};
 
 use error_fault::{Fault, FaultKind, Items, Mem, Span, Text};
 use std::alloc::{AllocError, Global};
@@ -14,28 +15,47 @@ use std::marker::Model;
 /// What is wrong with an input: at least one fault. An error is a leaf with one fault, or a root over
 /// at least two errors; either has the names of the fields that lead to it, and perhaps a place.
 #[cycle(error)]
+#[derive_where(Debug)]
 pub struct Error {
     pub(crate) node: Node,
     pub(crate) locations: Items<Text>,
     pub(crate) span: Option<Span>,
     // The number of leaves: `len` takes no memory, and a sum over the tree might not fit.
+    #[derive_where(skip(Debug))]
     pub(crate) count: usize,
     // `Display` is handed no allocator.
+    #[derive_where(skip(Debug))]
     pub(crate) alloc: Global,
 }
 
 #[cycle(error)]
-#[derive(Drop)]
+#[derive(Debug)]
 pub(crate) enum Node {
     Leaf(FaultKind),
     Many(Vec<Error>),
 }
 
+impl Node {
+    /// The fault, or else the children.
+    fn into_kind(self) -> std::result::Result<FaultKind, Vec<Error>>
+        ensures { self ≡ node_of result }
+    {
+        match self {
+            Node::Leaf(kind) => Ok(kind),
+            Node::Many(errors) => Err(errors),
+        }
+    }
+}
+
 impl Model for Error {
     ghost use Rattle.std.specs.Prelude.{length};
+    ghost use Rattle.std.specs.Coded.{codes};
     ghost use Rattle.error_core.specs.ErrorView.{ErrorView, leaves};
+    ghost use Rattle.error_core.specs.Coded.{error_code};
 
     ghost Value = { ErrorView };
+
+    ghost coded = { error_code (Prim.hlevel (codes)) };
 
     ghost use Rattle.error_core.specs.View.{told, IsError};
 
@@ -137,6 +157,7 @@ impl Error {
     /// An unknown field that stands in no field has these alternatives too; all else stays. Want of
     /// memory drops the error.
     pub fn add_sibling_alts_for_unknown_field(self, alloc: Global, alts: &[Text]) -> Mem<Error>
+        ensures told { IfOk result (λ error. error ≡ widened self alts.now) }
         ensures leaves { IfOk result (λ error. leaves error ≡ siblings (leaves self) alts.now) }
         ensures span { IfOk result (λ error. span_of error ≡ span_of self) }
     {
@@ -150,15 +171,15 @@ impl Error {
             count,
             alloc: _,
         } = self;
-        match node {
-            Node::Leaf(kind) => Ok(Error {
-                node: Node::Leaf(widened(alloc, kind, alts)?),
+        match node.into_kind() {
+            Ok(kind) => Ok(Error {
+                node: Node::Leaf(kind_widened(alloc, kind, alts)?),
                 locations,
                 span,
                 count,
                 alloc,
             }),
-            Node::Many(errors) => {
+            Err(errors) => {
                 let mut children = Vec::new(alloc);
                 for child in errors {
                     let wider = child.add_sibling_alts_for_unknown_field(alloc, alts)?;
@@ -177,7 +198,7 @@ impl Error {
 
     /// The children of the root in order, or the one leaf itself.
     pub(crate) fn into_children(self, alloc: Global) -> Mem<Vec<Error>>
-        ensures { IfOk result (λ children. map part_of children.items ≡ parts self) }
+        ensures { IfOk result (λ children. children.items ≡ children_of self) }
     {
         let Error {
             node,
@@ -186,14 +207,14 @@ impl Error {
             count: _,
             alloc: _,
         } = self;
-        match node {
-            Node::Leaf(kind) => {
+        match node.into_kind() {
+            Ok(kind) => {
                 let mut one = Vec::new(alloc);
                 let path = locations;
                 one.push(Error::from_fault(alloc, Fault { kind, path, span }))?;
                 Ok(one)
             }
-            Node::Many(errors) => Ok(errors),
+            Err(errors) => Ok(errors),
         }
     }
 
@@ -209,9 +230,9 @@ impl Error {
             alloc: _,
         } = self;
         let path = path_below(alloc, above, locations)?;
-        match node {
-            Node::Leaf(kind) => push_fault(faults, kind, path, span),
-            Node::Many(errors) => {
+        match node.into_kind() {
+            Ok(kind) => push_fault(faults, kind, path, span),
+            Err(errors) => {
                 for child in errors {
                     child.gather(alloc, path.as_slice(), faults)?;
                 }
@@ -245,7 +266,7 @@ fn count_all(errors: &[Error]) -> Mem<usize>
 // What does not recur in the walks over a tree stands apart, so that each level takes little stack.
 
 #[inline(never)]
-fn widened(alloc: Global, kind: FaultKind, alts: &[Text]) -> Mem<FaultKind>
+fn kind_widened(alloc: Global, kind: FaultKind, alts: &[Text]) -> Mem<FaultKind>
     ensures { IfOk result (λ it. it ≡ with_alternatives kind alts.now) }
 {
     kind.with_alternatives(alloc, alts)
@@ -281,15 +302,22 @@ fn push_fault(
 }
 
 impl Drop for Error {
+    #[cycle(drops)]
     fn drop(self) {
         let Self {
-            node,
+            node: _node,
             locations: _locations,
             span: _,
             count: _,
             alloc: _,
         } = self;
-        match node {
+    }
+}
+
+impl Drop for Node {
+    #[cycle(drops)]
+    fn drop(self) {
+        match self {
             Node::Leaf(_kind) => {}
             Node::Many(_errors) => {}
         }

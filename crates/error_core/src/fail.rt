@@ -7,6 +7,7 @@ use crate::error::Error;
 use std::alloc::{AllocError, AllocFailed};
 
 /// Why a call gives no value.
+#[derive(Debug)]
 pub enum Fail {
     Faults(Error),
     NoMemory,

@@ -1,8 +1,8 @@
 //! The children of an error, by value.
 
-ghost use Rattle.std.specs.Prelude.{◌≡◌, map, length, IfOk};
+ghost use Rattle.std.specs.Prelude.{◌≡◌, length, IfOk};
 ghost use Rattle.std.specs.Iterator.{YieldsFirst, item_count};
-ghost use Rattle.error_core.specs.ErrorView.{part_of, parts};
+ghost use Rattle.error_core.specs.ErrorView.{children_of};
 
 use crate::error::Error;
 use error_fault::Mem;
@@ -20,8 +20,12 @@ impl Model for IntoIter {
     ghost use Rattle.std.specs.Prelude.{List};
     ghost use Rattle.std.specs.Vec.Iter.{into_iter_items};
     ghost use Rattle.error_core.specs.ErrorView.{ErrorView};
+    ghost use Rattle.std.specs.Coded.{coded_list};
+    ghost use Rattle.error_core.specs.contracts.error.Error as error;
 
     ghost Value = { List ErrorView };
+
+    ghost coded = { coded_list error.the_row.coded };
 
     ghost view = { λ it. into_iter_items it.inner };
 }
@@ -43,7 +47,7 @@ impl FusedIterator for IntoIter {}
 impl Error {
     /// The children of the root in order, or the one leaf itself.
     pub fn into_iter(self, alloc: Global) -> Mem<IntoIter>
-        ensures { IfOk result (λ it. map part_of it ≡ parts self) }
+        ensures { IfOk result (λ it. it ≡ children_of self) }
     {
         let children = self.into_children(alloc)?;
         Ok(IntoIter {

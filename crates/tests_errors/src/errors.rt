@@ -9,11 +9,11 @@ use std::alloc::Global;
 use std::test::Fail;
 use tok_core::lex;
 
-// Commands that make an error, with what is told of it: `shows` is its text, `stands` its own place and its text,
-// `place` its own place and the place that it has in the end, `length` the number of its faults, `bytes` of its
-// text, `first` the faults of its first child, `children` their texts. `syn` has the faults as syntax tells them,
-// `compiled` the tokens that tell the compiler and where they stand, `trees` their number. `syntax` is `compiled` of
-// two errors of syntax.
+// Commands that make an error, with what is told of it: `shows` is its text, `debug` what `{:?}` writes of a `Fail`
+// that holds it, `stands` its own place and its text, `place` its own place and the place that it has in the end,
+// `length` the number of its faults, `bytes` of its text, `first` the faults of its first child, `children` their
+// texts, `inside` their places and texts. `syn` has the faults as syntax tells them, `compiled` the tokens that tell
+// the compiler and where they stand, `trees` their number. `syntax` is `compiled` of two errors of syntax.
 const ROWS: &str = r#"shows | custom no value => no value
 shows | duplicate hello => Duplicate field `hello`
 shows | missing hell_no => Missing field `hell_no`
@@ -59,6 +59,8 @@ length | duplicate hello; duplicate hi; missing bye; duplicate whatsup; gather 1
 length | duplicate hello; duplicate hi; missing bye; duplicate whatsup; gather 1; at c; gather 3; at b; gather 2; at a; flatten; flatten => 4
 children | duplicate hello; duplicate hi; missing bye; duplicate whatsup; gather 1; at c; gather 3; at b; gather 2; at a; flatten; flatten => Duplicate field `hello` at a; Duplicate field `hi` at a/b; Missing field `bye` at a/b; Duplicate field `whatsup` at a/b/c
 children | custom a => a
+debug | missing z; at x; custom b; gather 2; span 1..2 => Faults(Error { node: Many([Error { node: Leaf(MissingField(Text { string: "z" })), locations: Items { vec: [Text { string: "x" }] }, span: None, .. }, Error { node: Leaf(Custom(Text { string: "b" })), locations: Items { vec: [] }, span: None, .. }]), locations: Items { vec: [] }, span: Some(At { source: 1, start: 1, end: 2 }), .. })
+inside | unknown k; unknown l; gather 2; span 1..2; missing z; unknown m; at x; gather 3; span 3..4; widen => 1..2 Multiple errors: (Unknown field: `k`. Available values: `a`, `b`, Unknown field: `l`. Available values: `a`, `b`); none Missing field `z`; none Unknown field: `m` at x
 length | custom a; custom b; gather 2; span 1..2; clone => 2
 stands | custom a; custom b; gather 2; span 1..2; clone => 1..2 Multiple errors: (a, b)
 shows | collected => Multiple errors: (a, b, c, d)
@@ -114,14 +116,19 @@ fn places(alloc: Global, error: &Error) -> Mem<String> {
     )
 }
 
-/// The texts of the children, in their order.
-fn children(alloc: Global, error: Error) -> Mem<String> {
+/// The texts of the children, in their order, each behind its own place if that is asked for.
+fn children(alloc: Global, error: Error, placed: bool) -> Mem<String> {
     let mut text = String::new(alloc);
     for child in error.into_iter(alloc)? {
         if !text.as_str().is_empty() {
             text.push_str("; ")?;
         }
-        text.push_str(text_of(alloc, &child)?.as_str())?;
+        let told = if placed {
+            stands(alloc, &child)?
+        } else {
+            text_of(alloc, &child)?
+        };
+        text.push_str(told.as_str())?;
     }
     Ok(text)
 }
@@ -155,11 +162,13 @@ fn syn(alloc: Global, error: Error) -> Mem<String> {
 fn told_of(alloc: Global, kind: &str, error: Error) -> Mem<String> {
     match kind {
         "shows" => text_of(alloc, &error),
+        "debug" => format!(in alloc; "{:?}", error_core::Fail::Faults(error)),
         "stands" => stands(alloc, &error),
         "place" => places(alloc, &error),
         "length" => format!(in alloc; "{}", error.len()),
         "bytes" => format!(in alloc; "{}", error.to_text(alloc)?.len()),
-        "children" => children(alloc, error),
+        "children" => children(alloc, error, false),
+        "inside" => children(alloc, error, true),
         "first" => first_length(alloc, error),
         "syn" => syn(alloc, error),
         "trees" => format!(in alloc; "{}", error.write_errors(alloc)?.trees.len()),
