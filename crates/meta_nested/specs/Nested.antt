@@ -1,6 +1,7 @@
 -- Nested items: what stands between the parentheses of an attribute, separated by commas.
 use Rattle.std.specs.Prelude.{Bool, true, false, ◌&&◌, not, if◌then◌else◌, List, [], ◌∷◌, codes, Option, Some, None, is_some, option_and_then, Result, Ok, Err}
 use Rattle.std.specs.Result.{result_ok, result_err, result_map_both}
+use Rattle.tok_types.specs.Ascii.{hash, minus}
 use Rattle.tok_types.specs.declared.span.Span.{Span}
 use Rattle.tok_types.specs.declared.tree.Delimiter.{Delimiter}
 use Rattle.tok_types.specs.declared.tree.Delimiter.TheVariants as delimiter
@@ -63,9 +64,9 @@ with_value path eq_span span (kind.Expr it) = nested.Meta (meta.NameValue (recor
 with_value path eq_span span (kind.Bad tokens place) =
     nested.NameValueInvalidExpr (record { path = path; eq_span = eq_span; value = tokens; error = expected_expression place })
 
--- `#` (35) and a group in brackets
+-- `#` and a group in brackets
 abbrev pub is_attribute : List TokenTree → Bool
-is_attribute trees = is_mark 35 trees && is_group delimiter.Bracket (after_one trees)
+is_attribute trees = is_mark hash trees && is_group delimiter.Bracket (after_one trees)
 
 -- an attribute, behind which nothing is read
 unfoldable pub attribute_item : Parser Found
@@ -112,12 +113,12 @@ is_truth _ = false
 abbrev pub is_boolean : List TokenTree → Bool
 is_boolean trees = is_truth (next_word trees) && not (is_equals (after_one trees))
 
--- What begins an item: `true` and `false` are literals where no `=` follows; 45 is the minus.
+-- What begins an item: `true` and `false` are literals where no `=` follows.
 abbrev pub item_start : List TokenTree → ItemStart
 item_start trees =
     if is_some (literal_of trees) then start.Literal else
     if is_boolean trees then start.Boolean else
-    if is_mark 45 trees then start.Minus else
+    if is_mark minus trees then start.Minus else
     start.Path
 
 abbrev pub item_by : ItemStart → Parser Found

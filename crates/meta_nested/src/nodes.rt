@@ -64,7 +64,7 @@ impl ToTokens for MetaNameValueInvalidExpr {
 
     ghost printing = { bad_tokens };
 
-    #[tactic(auto, unfolding(print_core::specs::Marks::mark))]
+    #[tactic(auto, unfolding(print_core::specs::Marks::mark), using(print_core::proofs::Fronts::front))]
     fn print(&self, alloc: Global, trees: &mut Items<TokenTree>) -> Mem<()> {
         self.path.print(alloc, trees)?;
         trees.push(TokenTree::Punct(Punct {

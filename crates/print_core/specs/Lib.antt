@@ -1,4 +1,5 @@
 pub mod Marks
+pub mod Fronts
 pub mod Literals
 pub mod Paths
 pub mod Types
@@ -7,4 +8,3 @@ pub mod Nodes
 pub mod Kinds
 pub mod Items
 pub use Rattle.node_core.specs.Nodes as NodeTypes
-pub use Rattle.tok_types.specs.Tokens

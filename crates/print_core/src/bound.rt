@@ -4,6 +4,7 @@ ghost use Rattle.std.specs.Prelude.{◌≡◌, ◌++◌, codes, map, OnOk};
 ghost use Rattle.print_core.specs.Marks.{lifetime, word};
 ghost use Rattle.print_core.specs.Paths.{binder, angled, sum_of};
 ghost use Rattle.print_core.specs.Nodes.{bound_tokens, trait_bound_tokens};
+ghost use Rattle.print_core.specs.Fronts.{IsFront};
 
 use crate::list::print_in_angles;
 use crate::path::{PathStyle, print_path};
@@ -47,7 +48,8 @@ pub fn print_bounds(
     alloc: Global,
     trees: &mut Items<TokenTree>,
 ) -> Mem<()>
-    ensures { OnOk result (trees.new ≡ trees.old ++ sum_of (map bound_tokens bounds.now) span) }
+    ensures ok { OnOk result (trees.new ≡ trees.old ++ sum_of (map bound_tokens bounds.now) span) }
+    ensures front { IsFront trees.old trees.new }
 {
     if let Some((first, others)) = bounds.split_first() {
         first.print(alloc, trees)?;
@@ -66,7 +68,8 @@ pub fn print_binder(
     alloc: Global,
     trees: &mut Items<TokenTree>,
 ) -> Mem<()>
-    ensures { OnOk result (trees.new ≡ trees.old ++ binder lifetimes.now span) }
+    ensures ok { OnOk result (trees.new ≡ trees.old ++ binder lifetimes.now span) }
+    ensures front { IsFront trees.old trees.new }
 {
     if lifetimes.is_empty() {
         return Ok(());
@@ -81,7 +84,8 @@ pub fn print_for(
     alloc: Global,
     trees: &mut Items<TokenTree>,
 ) -> Mem<()>
-    ensures { OnOk result (trees.new ≡ trees.old ++ (word (codes "for") span ++ angled (map lifetime lifetimes.now) span)) }
+    ensures ok { OnOk result (trees.new ≡ trees.old ++ (word (codes "for") span ++ angled (map lifetime lifetimes.now) span)) }
+    ensures front { IsFront trees.old trees.new }
 {
     push_word(alloc, trees, "for", span)?;
     print_in_angles(lifetimes, span, alloc, trees)

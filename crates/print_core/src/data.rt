@@ -2,6 +2,7 @@
 
 ghost use Rattle.std.specs.Prelude.{◌≡◌, ◌++◌, None, OnOk};
 ghost use Rattle.print_core.specs.Items.{body_with, enum_tokens, field_tokens, fields_tokens, named_tokens, struct_with, unnamed_tokens, variant_tokens, visibility_tokens};
+ghost use Rattle.print_core.specs.Fronts.{IsFront};
 
 use crate::list::{print_all, print_maybe_equal, print_separated};
 use crate::push::{push_group, push_mark, push_word};
@@ -142,7 +143,8 @@ pub fn print_body(
     alloc: Global,
     trees: &mut Items<TokenTree>,
 ) -> Mem<()>
-    ensures { OnOk result (trees.new ≡ trees.old ++ body_with clause.now body.now) }
+    ensures ok { OnOk result (trees.new ≡ trees.old ++ body_with clause.now body.now) }
+    ensures front { IsFront trees.old trees.new }
 {
     match body {
         Data::Struct(it) => print_struct(it, clause, alloc, trees),
@@ -164,7 +166,8 @@ fn print_struct(
     alloc: Global,
     trees: &mut Items<TokenTree>,
 ) -> Mem<()>
-    ensures { OnOk result (trees.new ≡ trees.old ++ struct_with clause.now body.now) }
+    ensures ok { OnOk result (trees.new ≡ trees.old ++ struct_with clause.now body.now) }
+    ensures front { IsFront trees.old trees.new }
 {
     match &body.fields {
         Fields::Named(it) => {

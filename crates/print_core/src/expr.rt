@@ -5,6 +5,7 @@ ghost use Rattle.print_core.specs.Marks.{comma, mark, after, ended, group, joine
 ghost use Rattle.print_core.specs.Exprs.{bin_op_tokens, called_with, turbofish, un_op_tokens};
 ghost use Rattle.print_core.specs.Nodes.{argument_tokens, expr_path_tokens, expr_tokens};
 ghost use Rattle.print_core.specs.Kinds.{array_tokens, closure_tokens, range_tokens};
+ghost use Rattle.print_core.specs.Fronts.{IsFront};
 
 use crate::path::{PathStyle, print_after_type, print_angled, print_path};
 use crate::push::{push_colons, push_comma, push_group, push_mark, push_word};
@@ -192,7 +193,8 @@ impl ToTokens for BinOp {
 }
 
 fn push_un_op(trees: &mut Items<TokenTree>, op: UnOp, span: Span) -> Mem<()>
-    ensures { OnOk result (trees.new ≡ trees.old ++ un_op_tokens op span) }
+    ensures ok { OnOk result (trees.new ≡ trees.old ++ un_op_tokens op span) }
+    ensures front { IsFront trees.old trees.new }
 {
     match op {
         UnOp::Deref => push_mark(trees, &['*'], span),
@@ -202,7 +204,8 @@ fn push_un_op(trees: &mut Items<TokenTree>, op: UnOp, span: Span) -> Mem<()>
 }
 
 fn push_bin_op(trees: &mut Items<TokenTree>, op: BinOp, span: Span) -> Mem<()>
-    ensures { OnOk result (trees.new ≡ trees.old ++ bin_op_tokens op span) }
+    ensures ok { OnOk result (trees.new ≡ trees.old ++ bin_op_tokens op span) }
+    ensures front { IsFront trees.old trees.new }
 {
     match op {
         BinOp::Or => push_mark(trees, &['|', '|'], span),
@@ -229,7 +232,8 @@ fn push_bin_op(trees: &mut Items<TokenTree>, op: BinOp, span: Span) -> Mem<()>
 /// Writes `a, b`.
 #[cycle(print)]
 fn print_exprs(exprs: &[Expr], span: Span, alloc: Global, trees: &mut Items<TokenTree>) -> Mem<()>
-    ensures { OnOk result (trees.new ≡ trees.old ++ joined (comma span) (map expr_tokens exprs.now)) }
+    ensures ok { OnOk result (trees.new ≡ trees.old ++ joined (comma span) (map expr_tokens exprs.now)) }
+    ensures front { IsFront trees.old trees.new }
 {
     if let Some((first, others)) = exprs.split_first() {
         first.print(alloc, trees)?;
@@ -244,7 +248,8 @@ fn print_exprs(exprs: &[Expr], span: Span, alloc: Global, trees: &mut Items<Toke
 /// Writes `[a, b]`.
 #[cycle(print)]
 fn print_array(elems: &[Expr], span: Span, alloc: Global, trees: &mut Items<TokenTree>) -> Mem<()>
-    ensures { OnOk result (trees.new ≡ trees.old ++ group Delimiter.Bracket (joined (comma span) (map expr_tokens elems.now)) span) }
+    ensures ok { OnOk result (trees.new ≡ trees.old ++ group Delimiter.Bracket (joined (comma span) (map expr_tokens elems.now)) span) }
+    ensures front { IsFront trees.old trees.new }
 {
     let mut inside = Items::new(alloc);
     print_exprs(elems, span, alloc, &mut inside)?;
@@ -254,7 +259,8 @@ fn print_array(elems: &[Expr], span: Span, alloc: Global, trees: &mut Items<Toke
 /// Writes `()`, `(a,)`, `(a, b)`.
 #[cycle(print)]
 fn print_tuple(elems: &[Expr], span: Span, alloc: Global, trees: &mut Items<TokenTree>) -> Mem<()>
-    ensures { OnOk result (trees.new ≡ trees.old ++ group Delimiter.Parenthesis (tuple (map expr_tokens elems.now) span) span) }
+    ensures ok { OnOk result (trees.new ≡ trees.old ++ group Delimiter.Parenthesis (tuple (map expr_tokens elems.now) span) span) }
+    ensures front { IsFront trees.old trees.new }
 {
     let mut inside = Items::new(alloc);
     print_exprs(elems, span, alloc, &mut inside)?;
@@ -267,7 +273,8 @@ fn print_tuple(elems: &[Expr], span: Span, alloc: Global, trees: &mut Items<Toke
 /// Writes `(a, b)`.
 #[cycle(print)]
 fn print_args(args: &[Expr], span: Span, alloc: Global, trees: &mut Items<TokenTree>) -> Mem<()>
-    ensures { OnOk result (trees.new ≡ trees.old ++ called_with (map expr_tokens args.now) span) }
+    ensures ok { OnOk result (trees.new ≡ trees.old ++ called_with (map expr_tokens args.now) span) }
+    ensures front { IsFront trees.old trees.new }
 {
     let mut inside = Items::new(alloc);
     print_exprs(args, span, alloc, &mut inside)?;
@@ -282,7 +289,8 @@ fn print_statements(
     alloc: Global,
     trees: &mut Items<TokenTree>,
 ) -> Mem<()>
-    ensures { OnOk result (trees.new ≡ trees.old ++ ended (mark (codes ";") span) (map expr_tokens stmts.now)) }
+    ensures ok { OnOk result (trees.new ≡ trees.old ++ ended (mark (codes ";") span) (map expr_tokens stmts.now)) }
+    ensures front { IsFront trees.old trees.new }
 {
     for stmt in stmts {
         stmt.print(alloc, trees)?;
@@ -300,7 +308,8 @@ fn print_inside(
     alloc: Global,
     trees: &mut Items<TokenTree>,
 ) -> Mem<()>
-    ensures { OnOk result (trees.new ≡ trees.old ++ group delimiter (expr_tokens expr.now) span) }
+    ensures ok { OnOk result (trees.new ≡ trees.old ++ group delimiter (expr_tokens expr.now) span) }
+    ensures front { IsFront trees.old trees.new }
 {
     let mut inside = Items::new(alloc);
     expr.print(alloc, &mut inside)?;
@@ -315,7 +324,8 @@ fn print_turbofish(
     alloc: Global,
     trees: &mut Items<TokenTree>,
 ) -> Mem<()>
-    ensures { OnOk result (trees.new ≡ trees.old ++ turbofish (map argument_tokens members.now) span) }
+    ensures ok { OnOk result (trees.new ≡ trees.old ++ turbofish (map argument_tokens members.now) span) }
+    ensures front { IsFront trees.old trees.new }
 {
     if members.is_empty() {
         return Ok(());

@@ -2,6 +2,7 @@
 
 ghost use Rattle.std.specs.Prelude.{◌≡◌, ◌++◌, ◌↔◌, IsTrue, OnOk};
 ghost use Rattle.print_core.specs.Items.{begins_with_binder, const_param_tokens, generics_tokens, lifetime_param_tokens, param_tokens, predicate_binder, predicate_tokens, type_param_tokens, where_tokens};
+ghost use Rattle.print_core.specs.Fronts.{IsFront};
 
 use crate::bound::{print_bounds, print_for};
 use crate::list::{
@@ -125,7 +126,8 @@ fn print_predicate_binder(
     alloc: Global,
     trees: &mut Items<TokenTree>,
 ) -> Mem<()>
-    ensures { OnOk result (trees.new ≡ trees.old ++ predicate_binder lifetimes.now bounded.now span) }
+    ensures ok { OnOk result (trees.new ≡ trees.old ++ predicate_binder lifetimes.now bounded.now span) }
+    ensures front { IsFront trees.old trees.new }
 {
     if lifetimes.is_empty() && !begins_with_binder(bounded) {
         return Ok(());

@@ -4,6 +4,7 @@ ghost use Rattle.std.specs.Option.{option_map};
 ghost use Rattle.print_core.specs.Marks.{mark, joined, word, unless_empty, comma, plus};
 ghost use Rattle.print_core.specs.Paths.{angled};
 ghost use Rattle.print_core.specs.Items.{maybe_bounds, maybe_equal};
+ghost use Rattle.print_core.specs.Fronts.{IsFront};
 
 use crate::push::{push_mark, push_word};
 use crate::to_tokens::ToTokens;
@@ -24,7 +25,8 @@ impl<T: ToTokens> ToTokens for Punctuated<T, Comma> {
 
 /// Writes each part behind the one before it.
 pub fn print_all<T: ToTokens>(parts: &[T], alloc: Global, trees: &mut Items<TokenTree>) -> Mem<()>
-    ensures { OnOk result (trees.new ≡ trees.old ++ flat_map T.printing parts.now) }
+    ensures ok { OnOk result (trees.new ≡ trees.old ++ flat_map T.printing parts.now) }
+    ensures front { IsFront trees.old trees.new }
 {
     for part in parts {
         part.print(alloc, trees)?;
@@ -40,7 +42,8 @@ pub fn print_separated<T: ToTokens>(
     alloc: Global,
     trees: &mut Items<TokenTree>,
 ) -> Mem<()>
-    ensures { OnOk result (trees.new ≡ trees.old ++ joined (mark (separator ∷ []) span) (map T.printing parts.now)) }
+    ensures ok { OnOk result (trees.new ≡ trees.old ++ joined (mark (separator ∷ []) span) (map T.printing parts.now)) }
+    ensures front { IsFront trees.old trees.new }
 {
     if let Some((first, others)) = parts.split_first() {
         first.print(alloc, trees)?;
@@ -59,7 +62,8 @@ pub fn print_in_angles<T: ToTokens>(
     alloc: Global,
     trees: &mut Items<TokenTree>,
 ) -> Mem<()>
-    ensures { OnOk result (trees.new ≡ trees.old ++ angled (map T.printing parts.now) span) }
+    ensures ok { OnOk result (trees.new ≡ trees.old ++ angled (map T.printing parts.now) span) }
+    ensures front { IsFront trees.old trees.new }
 {
     push_mark(trees, &['<'], span)?;
     print_separated(parts, ',', span, alloc, trees)?;
@@ -73,7 +77,8 @@ pub fn print_maybe_bounds<T: ToTokens>(
     alloc: Global,
     trees: &mut Items<TokenTree>,
 ) -> Mem<()>
-    ensures { OnOk result (trees.new ≡ trees.old ++ maybe_bounds (map T.printing bounds.now) span) }
+    ensures ok { OnOk result (trees.new ≡ trees.old ++ maybe_bounds (map T.printing bounds.now) span) }
+    ensures front { IsFront trees.old trees.new }
 {
     if bounds.is_empty() {
         return Ok(());
@@ -89,7 +94,8 @@ pub fn print_maybe_equal<T: ToTokens>(
     alloc: Global,
     trees: &mut Items<TokenTree>,
 ) -> Mem<()>
-    ensures { OnOk result (trees.new ≡ trees.old ++ maybe_equal (option_map T.printing value.now) span) }
+    ensures ok { OnOk result (trees.new ≡ trees.old ++ maybe_equal (option_map T.printing value.now) span) }
+    ensures front { IsFront trees.old trees.new }
 {
     match value {
         None => Ok(()),

@@ -4,6 +4,7 @@ ghost use Rattle.std.specs.Prelude.{◌≡◌, ◌++◌, map, take, drop, codes,
 ghost use Rattle.print_core.specs.Marks.{mark, comma, colons, plus, after, joined};
 ghost use Rattle.print_core.specs.Paths.{in_style, angled, sum_of, after_type};
 ghost use Rattle.print_core.specs.Nodes.{argument_tokens, arguments_tokens, bound_tokens, path_parts, path_tokens, segment_tokens};
+ghost use Rattle.print_core.specs.Fronts.{IsFront};
 
 use crate::bound::print_bounds;
 use crate::push::{push_colons, push_comma, push_group, push_mark, push_word};
@@ -96,7 +97,8 @@ pub fn print_path(
     alloc: Global,
     trees: &mut Items<TokenTree>,
 ) -> Mem<()>
-    ensures { OnOk result (trees.new ≡ trees.old ++ path_tokens style path.now) }
+    ensures ok { OnOk result (trees.new ≡ trees.old ++ path_tokens style path.now) }
+    ensures front { IsFront trees.old trees.new }
 {
     if path.leading_colon {
         push_colons(trees, path.span)?;
@@ -114,7 +116,8 @@ pub fn print_after_type(
     alloc: Global,
     trees: &mut Items<TokenTree>,
 ) -> Mem<()>
-    ensures { OnOk result (trees.new ≡ trees.old ++ after_type position span style (path_parts path.now)) }
+    ensures ok { OnOk result (trees.new ≡ trees.old ++ after_type position span style (path_parts path.now)) }
+    ensures front { IsFront trees.old trees.new }
 {
     if position == 0 {
         push_mark(trees, &['>'], span)?;
@@ -139,7 +142,8 @@ fn print_segments(
     alloc: Global,
     trees: &mut Items<TokenTree>,
 ) -> Mem<()>
-    ensures { OnOk result (trees.new ≡ trees.old ++ joined (colons span) (map (in_style style) (map segment_tokens segments.now))) }
+    ensures ok { OnOk result (trees.new ≡ trees.old ++ joined (colons span) (map (in_style style) (map segment_tokens segments.now))) }
+    ensures front { IsFront trees.old trees.new }
 {
     if let Some((first, others)) = segments.split_first() {
         print_segment(first, style, alloc, trees)?;
@@ -160,7 +164,8 @@ fn print_more_segments(
     alloc: Global,
     trees: &mut Items<TokenTree>,
 ) -> Mem<()>
-    ensures { OnOk result (trees.new ≡ trees.old ++ after (colons span) (map (in_style style) (map segment_tokens segments.now))) }
+    ensures ok { OnOk result (trees.new ≡ trees.old ++ after (colons span) (map (in_style style) (map segment_tokens segments.now))) }
+    ensures front { IsFront trees.old trees.new }
 {
     for segment in segments {
         push_colons(trees, span)?;
@@ -176,7 +181,8 @@ fn print_segment(
     alloc: Global,
     trees: &mut Items<TokenTree>,
 ) -> Mem<()>
-    ensures { OnOk result (trees.new ≡ trees.old ++ segment_tokens segment.now style) }
+    ensures ok { OnOk result (trees.new ≡ trees.old ++ segment_tokens segment.now style) }
+    ensures front { IsFront trees.old trees.new }
 {
     segment.ident.print(alloc, trees)?;
     print_arguments(&segment.arguments, style, segment.span, alloc, trees)
@@ -190,7 +196,8 @@ fn print_arguments(
     alloc: Global,
     trees: &mut Items<TokenTree>,
 ) -> Mem<()>
-    ensures { OnOk result (trees.new ≡ trees.old ++ arguments_tokens arguments.now style around) }
+    ensures ok { OnOk result (trees.new ≡ trees.old ++ arguments_tokens arguments.now style around) }
+    ensures front { IsFront trees.old trees.new }
 {
     match arguments {
         PathArguments::None => Ok(()),
@@ -221,7 +228,8 @@ pub fn print_angled(
     alloc: Global,
     trees: &mut Items<TokenTree>,
 ) -> Mem<()>
-    ensures { OnOk result (trees.new ≡ trees.old ++ angled (map argument_tokens members.now) span) }
+    ensures ok { OnOk result (trees.new ≡ trees.old ++ angled (map argument_tokens members.now) span) }
+    ensures front { IsFront trees.old trees.new }
 {
     push_mark(trees, &['<'], span)?;
     if let Some((first, others)) = members.split_first() {

@@ -8,12 +8,15 @@ pub trait ToTokens {
     ghost use Rattle.std.specs.Prelude.{◌≡◌, ◌++◌, List, IfOk, OnOk, OnErr};
     ghost use Rattle.tok_types.specs.declared.tree.TokenTree.{TokenTree};
     ghost use Rattle.print_core.specs.Marks.{contents};
+    ghost use Rattle.print_core.specs.Fronts.{IsFront};
 
     ghost printing: { Self → List TokenTree };
 
-    /// Writes the tokens behind `trees`. Want of memory may leave some of them there.
+    /// Writes the tokens behind `trees`. Want of memory may leave some of them there. What stood there
+    /// stays in front in any case.
     fn print(&self, alloc: Global, trees: &mut Items<TokenTree>) -> Mem<()>
-        ensures { OnOk result (trees.new ≡ trees.old ++ printing self.now) };
+        ensures ok { OnOk result (trees.new ≡ trees.old ++ printing self.now) }
+        ensures front { IsFront trees.old trees.new };
 
     /// Appends the tokens. After want of memory `tokens` is as before.
     final fn to_tokens(&self, alloc: Global, tokens: &mut TokenStream) -> Mem<()>

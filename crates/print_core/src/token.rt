@@ -1,4 +1,6 @@
 //! Tokens print themselves.
+#![tactic(auto, using(crate::proofs::Fronts::front))]
+
 ghost use Rattle.std.specs.Prelude.{◌∷◌, []};
 
 use crate::to_tokens::ToTokens;

@@ -6,6 +6,7 @@ ghost use Rattle.print_core.specs.Paths.{return_of, sum_of};
 ghost use Rattle.print_core.specs.Types.{maybe_name, mutability, named_arg_rule};
 ghost use Rattle.print_core.specs.Nodes.{bound_tokens, type_array_tokens, type_path_tokens, type_tokens};
 ghost use Rattle.print_core.specs.Kinds.{fn_ptr_tokens, impl_trait_tokens, named_arg_tokens, printed_arg, printed_return, ptr_tokens, reference_tokens, return_tokens, slice_tokens, trait_object_tokens, type_group_tokens, type_paren_tokens, type_tuple_tokens};
+ghost use Rattle.print_core.specs.Fronts.{IsFront};
 
 use crate::bound::{print_binder, print_bounds};
 use crate::path::{PathStyle, print_after_type, print_path};
@@ -241,7 +242,8 @@ pub fn print_return(
     alloc: Global,
     trees: &mut Items<TokenTree>,
 ) -> Mem<()>
-    ensures { OnOk result (trees.new ≡ trees.old ++ return_of (printed_return output.now) span) }
+    ensures ok { OnOk result (trees.new ≡ trees.old ++ return_of (printed_return output.now) span) }
+    ensures front { IsFront trees.old trees.new }
 {
     match output {
         ReturnType::Default => Ok(()),
@@ -260,7 +262,8 @@ pub fn print_types(
     alloc: Global,
     trees: &mut Items<TokenTree>,
 ) -> Mem<()>
-    ensures { OnOk result (trees.new ≡ trees.old ++ joined (comma span) (map type_tokens types.now)) }
+    ensures ok { OnOk result (trees.new ≡ trees.old ++ joined (comma span) (map type_tokens types.now)) }
+    ensures front { IsFront trees.old trees.new }
 {
     if let Some((first, others)) = types.split_first() {
         first.print(alloc, trees)?;
@@ -275,7 +278,8 @@ pub fn print_types(
 /// Writes `()`, `(A,)`, `(A, B)`.
 #[cycle(print)]
 fn print_tuple(elems: &[Type], span: Span, alloc: Global, trees: &mut Items<TokenTree>) -> Mem<()>
-    ensures { OnOk result (trees.new ≡ trees.old ++ group Delimiter.Parenthesis (tuple (map type_tokens elems.now) span) span) }
+    ensures ok { OnOk result (trees.new ≡ trees.old ++ group Delimiter.Parenthesis (tuple (map type_tokens elems.now) span) span) }
+    ensures front { IsFront trees.old trees.new }
 {
     let mut inside = Items::new(alloc);
     print_types(elems, span, alloc, &mut inside)?;
@@ -294,7 +298,8 @@ fn print_bounded(
     alloc: Global,
     trees: &mut Items<TokenTree>,
 ) -> Mem<()>
-    ensures { OnOk result (trees.new ≡ trees.old ++ (word keyword.now span ++ sum_of (map bound_tokens bounds.now) span)) }
+    ensures ok { OnOk result (trees.new ≡ trees.old ++ (word keyword.now span ++ sum_of (map bound_tokens bounds.now) span)) }
+    ensures front { IsFront trees.old trees.new }
 {
     push_word(alloc, trees, keyword, span)?;
     print_bounds(bounds, span, alloc, trees)
@@ -307,7 +312,8 @@ pub fn print_mutability(
     alloc: Global,
     trees: &mut Items<TokenTree>,
 ) -> Mem<()>
-    ensures { OnOk result (trees.new ≡ trees.old ++ mutability mutable span) }
+    ensures ok { OnOk result (trees.new ≡ trees.old ++ mutability mutable span) }
+    ensures front { IsFront trees.old trees.new }
 {
     if mutable {
         push_word(alloc, trees, "mut", span)?;
@@ -322,7 +328,8 @@ pub fn print_maybe_name(
     alloc: Global,
     trees: &mut Items<TokenTree>,
 ) -> Mem<()>
-    ensures { OnOk result (trees.new ≡ trees.old ++ maybe_name name.now span) }
+    ensures ok { OnOk result (trees.new ≡ trees.old ++ maybe_name name.now span) }
+    ensures front { IsFront trees.old trees.new }
 {
     match name {
         None => Ok(()),
