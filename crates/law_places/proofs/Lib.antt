@@ -1,0 +1,17 @@
+pub mod Steps
+pub mod Onward
+pub mod Lists
+pub mod Made
+pub mod Tokens
+pub mod Paths
+pub mod Types
+pub mod Patterns
+pub mod Atoms
+pub mod Postfixes
+pub mod Operators
+pub mod Within
+pub mod Arguments
+pub mod Wholes
+pub mod OneKind
+pub mod Fronts
+pub mod Commas

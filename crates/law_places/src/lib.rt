@@ -1,0 +1,9 @@
+//! Where a node stands that is read from tokens: from the start of the first to the end of the last.
+#![tactic(auto)]
+
+mod laws;
+
+pub use laws::{
+    fronts_stand_where_they_are_read, lists_stand_where_their_tokens_do,
+    trees_stand_where_their_tokens_do,
+};
