@@ -1,0 +1,3 @@
+pub mod Attributes
+mod Generics
+mod Items
