@@ -8,4 +8,5 @@ pub mod Literals
 pub mod Bads
 pub mod Pairs
 pub mod Wholes
+pub mod Exact
 pub mod StayBad

@@ -35,7 +35,7 @@ use Rattle.law_round_trip.proofs.Starts.{mark-seen}
 use Rattle.law_round_trip.proofs.Steps.{bind-at}
 use Rattle.law_round_trip.proofs.Takes.{skipped-over}
 use Rattle.law_round_trip_items.proofs.Values.{signed-back}
-use Rattle.law_nested.proofs.Found.{erased_found, found_tokens}
+use Rattle.law_nested.proofs.Found.{Fits, erased_found, found_tokens}
 use Rattle.law_nested.proofs.Stops.{Ended}
 
 -- an item is read by where it starts
@@ -47,8 +47,11 @@ item-at which input is = ap (λ which. item_by which input) is
 abbrev Starts : ItemStart → Trees → Type 0
 Starts which tail = (item_start tail ≡ which) × (is_end tail ≡ false)
 
-abbrev pub ReadsItem : Trees → Found → Type 0
-ReadsItem = Reads erased_found (λ tail. is_end tail ≡ false) Ended item
+-- The tokens are read as the item before what fits it, as nothing does, and before nothing else.
+pub record ReadsItem (tokens : Trees) (found : Found) : Type 0 where
+  pub ends : Fits found []
+  pub reads : Reads erased_found (λ tail. is_end tail ≡ false) (λ tail. Ended tail × Fits found tail) item tokens found
+  pub only : (tail : Trees) (last : Span) (it : Found) (after : Input) → Ended tail → item (at (tokens ++ tail) last) ≡ Some (it, after) → erased_found it ≡ erased_found found → Fits found tail
 
 -- what reads a literal
 abbrev ReadsLit : ItemStart → Parser Lit → Lit → Type 0
@@ -56,10 +59,14 @@ ReadsLit which parser found = Reads erased_lit (Starts which) Ended parser (lit_
 
 reads-item : (which : ItemStart) (parser : Parser Lit) (found : Lit) → ((input : Input) → item_by which input ≡ (as_lit <$> parser) input) → ReadsLit which parser found → ReadsItem (lit_tokens found) (as_lit found)
 reads-item which parser found by one = record {
-  again = λ tail last f.
-      let more = one.again tail last f in
-      record { value = as_lit more.value; new = more.new; is = item-at which (at (lit_tokens found ++ tail) last) (one.first tail f).0 ∙ (by (at (lit_tokens found ++ tail) last) ∙ rw (more.is) refl); same = ap as_lit more.same };
-  first = λ tail f. (one.first tail f).1;
+  ends = tt;
+  reads = record {
+    again = λ tail last f.
+        let more = one.again tail last f.0 in
+        record { value = as_lit more.value; new = more.new; is = item-at which (at (lit_tokens found ++ tail) last) (one.first tail f.0).0 ∙ (by (at (lit_tokens found ++ tail) last) ∙ rw (more.is) refl); same = ap as_lit more.same };
+    first = λ tail f. (one.first tail f.0).1;
+  };
+  only = λ tail last it after f e same. tt;
 }
 
 -- ---- literals without a sign

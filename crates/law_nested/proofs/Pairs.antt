@@ -11,8 +11,8 @@ use Rattle.node_expr.specs.declared.expr.Expr.{Expr}
 use Rattle.node_expr.specs.declared.path.Path.{Path}
 use Rattle.node_core.specs.declared.attr.Meta.TheVariants as meta
 use Rattle.node_core.specs.declared.attr.MetaList.{MetaList}
-use Rattle.syn_grammar.specs.Input.{Input, ◌>>=◌, first_span, next, pure, skipped, test, upto}
-use Rattle.syn_grammar.specs.Token.{Layer, contents_of, is_colons, is_equals, is_mark}
+use Rattle.syn_grammar.specs.Input.{Input, ◌>>=◌, first_span, is_end, next, pure, skipped, test, upto}
+use Rattle.syn_grammar.specs.Token.{Layer, contents_of, is_colons, is_equals}
 use Rattle.syn_items.specs.Attributes.{delimiter_of, meta_list, meta_path, stream}
 use Rattle.meta_nested.specs.declared.item.Found.{Found}
 use Rattle.meta_nested.specs.declared.item.Found.TheVariants as found
@@ -24,7 +24,7 @@ use Rattle.meta_nested.specs.declared.value.Value.TheVariants as kind
 use Rattle.meta_nested.specs.Nested.{attribute_item, is_attribute, item, item_start, name_value, path_by, path_item, value_item, with_value}
 use Rattle.meta_nested.specs.Values.{bad_place, bad_value, before_comma, shortest_run, value}
 use Rattle.print_core.specs.declared.path.PathStyle.TheVariants.{Plain}
-use Rattle.print_core.specs.Marks.{Trees, group, mark}
+use Rattle.print_core.specs.Marks.{Trees, contents, group, mark}
 use Rattle.print_core.specs.Nodes.{expr_tokens, path_tokens}
 use Rattle.meta_nested.specs.Nodes.{nested_tokens}
 use Rattle.law_spans.specs.Erased.{erased_expr, erased_path, erased_stream}
@@ -39,9 +39,8 @@ use Rattle.law_round_trip.proofs.Takes.{contents_of-group, group-length, skipped
 use Rattle.law_round_trip_items.specs.Follow.{StartsPath}
 use Rattle.law_round_trip_items.proofs.Attributes.{group-grouped, mark-grouped, meta_path-back}
 use Rattle.law_round_trip.proofs.Streams.{contents-stream}
-use Rattle.law_nested.proofs.Found.{Good, erased_found, found_tokens}
-use Rattle.law_nested.specs.StaysBad.{IsBad}
-use Rattle.law_nested.proofs.Bads.{attribute-again, before_comma-again}
+use Rattle.law_nested.proofs.Found.{Fits, Good, erased_found, found_tokens}
+use Rattle.law_nested.proofs.Bads.{attribute-again, bad-alone, before_comma-again}
 use Rattle.law_nested.proofs.Beginnings.{path-starts}
 use Rattle.law_nested.proofs.Literals.{ReadsItem, boolean-item, item-at, literal-item, signed-item}
 use Rattle.law_nested.proofs.Stops.{Ended}
@@ -55,7 +54,9 @@ record ReadsBehind (path : Path) (rest : Trees) (found : Found) : Type 0 where
   is : found_tokens found ≡ path_tokens Plain path ++ tokens
   colons : (tail : Trees) → Ended tail → is_colons (tokens ++ tail) ≡ false
   equals : (tail : Trees) → Ended tail → is_equals (tokens ++ tail) ≡ is_equals rest
-  again : (start : Span) (other : Path) → erased_path other ≡ erased_path path → (tail : Trees) (last : Span) → Ended tail → Again erased_found (path_by start other (delimiter_of (tokens ++ tail))) (at (tokens ++ tail) last) tail found
+  ends : Fits found []
+  again : (start : Span) (other : Path) → erased_path other ≡ erased_path path → (tail : Trees) (last : Span) → Ended tail → Fits found tail → Again erased_found (path_by start other (delimiter_of (tokens ++ tail))) (at (tokens ++ tail) last) tail found
+  only : (start : Span) (other : Path) (tail : Trees) (last : Span) (it : Found) (after : Input) → Ended tail → path_by start other (delimiter_of (tokens ++ tail)) (at (tokens ++ tail) last) ≡ Some (it, after) → erased_found it ≡ erased_found found → Fits found tail
 
 path_item-at : (tokens behind : Trees) (last new : Span) (path : Path) → meta_path (at tokens last) ≡ Some (path, at behind new) → path_item (at tokens last) ≡ path_by (first_span tokens) path (delimiter_of behind) (at behind new)
 unfolding path_item
@@ -63,7 +64,15 @@ path_item-at tokens behind last new path e = rw e refl
 
 -- a path with what stands behind it
 path-reads : (input between : Input) (path : Path) (found : Found) → meta_path input ≡ Some (path, between) → item_start input.rest ≡ start.Path → ReadsBehind path between.rest found → ReadsItem (found_tokens found) found
-path-reads input between path found e starts behind = rw (behind.is) (record { again = read; first = λ tail f. rw (append_assoc (path_tokens Plain path) behind.tokens tail) (seen tail f).some })
+path-reads input between path found e starts behind = record {
+  ends = behind.ends;
+  reads = rw (behind.is) (record { again = λ tail last f. read tail last f.0 f.1; first = λ tail f. rw (append_assoc (path_tokens Plain path) behind.tokens tail) (seen tail f.0).some });
+  only = λ tail last it after f reads same.
+      let mine = one.again (behind.tokens ++ tail) last (keep tail f) in
+      let is = reaches tail last f mine.value mine.new mine.is in
+      let printed = ap (λ tokens. tokens ++ tail) behind.is ∙ append_assoc (path_tokens Plain path) behind.tokens tail in
+      behind.only (first_span (path_tokens Plain path ++ (behind.tokens ++ tail))) mine.value tail mine.new it after f (sym is ∙ (ap (λ tokens. item (at tokens last)) (sym printed) ∙ reads)) same;
+}
   where
     one : Reads erased_path (StartsPath input.rest) (λ tail. Keep is_colons between.rest tail) meta_path (path_tokens Plain path) path
     one = meta_path-back.of input between path e
@@ -74,16 +83,23 @@ path-reads input between path found e starts behind = rw (behind.is) (record { a
     seen : (tail : Trees) → Ended tail → StartsPath input.rest (path_tokens Plain path ++ (behind.tokens ++ tail))
     seen tail f = one.first (behind.tokens ++ tail) (keep tail f)
 
-    read : (tail : Trees) (last : Span) → Ended tail → Again erased_found item (at ((path_tokens Plain path ++ behind.tokens) ++ tail) last) tail found
-    read tail last f =
+    -- behind the path stands what is read next
+    reaches : (tail : Trees) (last : Span) → Ended tail → (other : Path) (new : Span) → meta_path (at (path_tokens Plain path ++ (behind.tokens ++ tail)) last) ≡ Some (other, at (behind.tokens ++ tail) new)
+        → item (at (path_tokens Plain path ++ (behind.tokens ++ tail)) last) ≡ path_by (first_span (path_tokens Plain path ++ (behind.tokens ++ tail))) other (delimiter_of (behind.tokens ++ tail)) (at (behind.tokens ++ tail) new)
+    reaches tail last f other new is =
+        let tokens : Trees = path_tokens Plain path ++ (behind.tokens ++ tail) in
+        let begins = path-starts input between path e starts (behind.tokens ++ tail) (seen tail f) (behind.equals tail f) in
+        item-at start.Path (at tokens last) begins ∙ path_item-at tokens (behind.tokens ++ tail) last new other is
+
+    read : (tail : Trees) (last : Span) → Ended tail → Fits found tail → Again erased_found item (at ((path_tokens Plain path ++ behind.tokens) ++ tail) last) tail found
+    read tail last f fits =
         let tokens : Trees = path_tokens Plain path ++ (behind.tokens ++ tail) in
         let mine = one.again (behind.tokens ++ tail) last (keep tail f) in
-        let more = behind.again (first_span tokens) mine.value mine.same tail mine.new f in
-        let begins = path-starts input between path e starts (behind.tokens ++ tail) (seen tail f) (behind.equals tail f) in
+        let more = behind.again (first_span tokens) mine.value mine.same tail mine.new f fits in
         record {
           value = more.value;
           new = more.new;
-          is = rw (append_assoc (path_tokens Plain path) behind.tokens tail) (item-at start.Path (at tokens last) begins ∙ (path_item-at tokens (behind.tokens ++ tail) last mine.new mine.value mine.is ∙ more.is));
+          is = rw (append_assoc (path_tokens Plain path) behind.tokens tail) (reaches tail last f mine.value mine.new mine.is ∙ more.is);
           same = more.same;
         }
 
@@ -96,7 +112,9 @@ alone path rest none = record {
   is = sym (append-nil (path_tokens Plain path));
   colons = λ tail f. f.colons;
   equals = λ tail f. f.equals ∙ sym none;
-  again = λ start other same tail last f. record { value = found.Item (nested.Meta (meta.Path other)); new = last; is = rw (f.grouped, f.equals) refl; same = ap (λ it. found.Item (nested.Meta (meta.Path it))) same };
+  ends = tt;
+  again = λ start other same tail last f fits. record { value = found.Item (nested.Meta (meta.Path other)); new = last; is = rw (f.grouped, f.equals) refl; same = ap (λ it. found.Item (nested.Meta (meta.Path it))) same };
+  only = λ start other tail last it after f e same. tt;
 }
 
 group-equals : (between : Delimiter) (inner tail : Trees) (span : Span) → is_equals (group between inner span ++ tail) ≡ false
@@ -111,7 +129,8 @@ grouped path between tokens rest span none = record {
   is = rw (contents-stream tokens) refl;
   colons = λ tail f. (group-grouped between tokens tail tail span).1;
   equals = λ tail f. group-equals between tokens tail span ∙ sym none;
-  again = λ start other same tail last f.
+  ends = tt;
+  again = λ start other same tail last f fits.
       let stands = skipped-over 1 (group between tokens span) tail last (group-length between tokens span) in
       record {
         value = found.Item (nested.Meta (meta.List (record { path = other; delimiter = between; tokens = stream tokens; span = joined start stands.0 })));
@@ -119,6 +138,7 @@ grouped path between tokens rest span none = record {
         is = rw ((group-grouped between tokens tail tail span).0, contents_of-group between tokens tail span) (after-group start other (at (group between tokens span ++ tail) last) (at tail stands.0) stands.1);
         same = rw same refl;
       };
+  only = λ start other tail last it after f e same. tt;
 }
   where
     after-group : (start : Span) (other : Path) (input after : Input) → skipped 1 input ≡ after
@@ -136,18 +156,42 @@ bare-with : (path : Path) (eq_span span : Span) (it : Value) → erased_nested (
 bare-with path eq_span span (kind.Expr it) = refl
 bare-with path eq_span span (kind.Bad tokens place) = refl
 
+-- a bad value stays one before these tokens
+abbrev Stays : Value → Trees → Type 0
+Stays (kind.Expr it) tail = Unit {0}
+Stays (kind.Bad tokens place) tail = shortest_run (contents tokens ++ tail) ≡ None
+
+fits-stays : (path : Path) (eq_span span : Span) (it : Value) (tail : Trees) → Fits (found.Item (with_value path eq_span span it)) tail → Stays it tail
+fits-stays path eq_span span (kind.Expr it) tail fits = tt
+fits-stays path eq_span span (kind.Bad tokens place) tail fits = fits
+
+stays-fits : (path : Path) (eq_span span : Span) (it : Value) (tail : Trees) → Stays it tail → Fits (found.Item (with_value path eq_span span it)) tail
+stays-fits path eq_span span (kind.Expr it) tail stays = tt
+stays-fits path eq_span span (kind.Bad tokens place) tail stays = stays
+
 -- What is printed of a value behind a `=` at some place, and read as the same value.
 record ReadsValue (found : Value) : Type 0 where
   tokens : Trees
   place : Span → Span → Span
   is : (path : Path) (eq_span span : Span) → nested_tokens (with_value path eq_span span found) ≡ path_tokens Plain path ++ (mark (codes "=") (place eq_span span) ++ tokens)
   attribute : (tail : Trees) → Ended tail → is_attribute (tokens ++ tail) ≡ false
-  again : (eq_span : Span) (tail : Trees) (last : Span) → Ended tail → Again erased_value (value eq_span) (at (tokens ++ tail) last) tail found
+  ends : Stays found []
+  again : (eq_span : Span) (tail : Trees) (last : Span) → Ended tail → Stays found tail → Again erased_value (value eq_span) (at (tokens ++ tail) last) tail found
+  only : (eq_span : Span) (tail : Trees) (last : Span) (it : Value) (after : Input) → Ended tail → value eq_span (at (tokens ++ tail) last) ≡ Some (it, after)
+      → (other path : Path) (eq one span two : Span) → erased_nested (with_value other eq one it) ≡ erased_nested (with_value path span two found) → Stays found tail
 
 name_value-at : (start : Span) (path : Path) (tokens tail : Trees) (input : Input) (last new : Span) (it : Value) → next input ≡ at tokens last → is_attribute tokens ≡ false → value (first_span input.rest) (at tokens last) ≡ Some (it, at tail new)
     → name_value start path input ≡ Some (found.Item (with_value path (first_span input.rest) (joined start new) it), at tail new)
 unfolding name_value value_item
 name_value-at start path tokens tail input last new it stands none e = rw (stands, none, e) refl
+
+-- what the value is of an item that was read
+name_value-parts : (start : Span) (path : Path) (tokens : Trees) (input : Input) (last : Span) (it : Found) (after : Input) → next input ≡ at tokens last → is_attribute tokens ≡ false → name_value start path input ≡ Some (it, after)
+    → (of : Value) × (end : Input) × (value (first_span input.rest) (at tokens last) ≡ Some (of, end)) × (found.Item (with_value path (first_span input.rest) (joined start end.last) of) ≡ it)
+unfolding name_value value_item
+name_value-parts start path tokens input last it after stands none e =
+    let parts = bind-at (value (first_span input.rest) (at tokens last)) (λ of. upto start >>= (λ span. pure (found.Item (with_value path (first_span input.rest) span of)))) it after (rw (stands, none) at e) in
+    (parts.0, parts.1, parts.2, (some_pair_parts (found.Item (with_value path (first_span input.rest) (joined start parts.1.last) parts.0)) it parts.1 after parts.3).0)
 
 valued : (path : Path) (rest : Trees) (eq_span span : Span) (it : Value) → is_equals rest ≡ true → ReadsValue it → ReadsBehind path rest (found.Item (with_value path eq_span span it))
 unfolding skipped
@@ -156,7 +200,9 @@ valued path rest eq_span span it equals reads = record {
   is = reads.is path eq_span span;
   colons = λ tail f. rw (append_assoc equal reads.tokens tail) (mark-grouped 61 tail (reads.tokens ++ tail) place).1;
   equals = λ tail f. rw (append_assoc equal reads.tokens tail) (seen tail ∙ sym equals);
+  ends = stays-fits path eq_span span it [] reads.ends;
   again = read;
+  only = unread;
 }
   where
     place : Span
@@ -168,12 +214,12 @@ valued path rest eq_span span it equals reads = record {
     seen : (tail : Trees) → is_equals (equal ++ (reads.tokens ++ tail)) ≡ true
     seen tail = rw (mark_of-mark 61 [] place (reads.tokens ++ tail)) refl
 
-    read : (start : Span) (other : Path) → erased_path other ≡ erased_path path → (tail : Trees) (last : Span) → Ended tail
+    read : (start : Span) (other : Path) → erased_path other ≡ erased_path path → (tail : Trees) (last : Span) → Ended tail → Fits (found.Item (with_value path eq_span span it)) tail
         → Again erased_found (path_by start other (delimiter_of ((equal ++ reads.tokens) ++ tail))) (at ((equal ++ reads.tokens) ++ tail) last) tail (found.Item (with_value path eq_span span it))
-    read start other same tail last f =
+    read start other same tail last f fits =
         let behind : Trees = reads.tokens ++ tail in
         let stands = skipped-over 1 equal behind last (mark-length (codes "=") place) in
-        let more = reads.again (first_span (equal ++ behind)) tail stands.0 f in
+        let more = reads.again (first_span (equal ++ behind)) tail stands.0 f (fits-stays path eq_span span it tail fits) in
         record {
           value = found.Item (with_value other (first_span (equal ++ behind)) (joined start more.new) more.value);
           new = more.new;
@@ -181,16 +227,28 @@ valued path rest eq_span span it equals reads = record {
           same = ap found.Item (bare-with other (first_span (equal ++ behind)) (joined start more.new) more.value ∙ (rw (same, more.same) refl ∙ sym (bare-with path eq_span span it)));
         }
 
--- tokens that are no value, whatever stands behind them
-bad-reads : (trees : Trees) (place : Span) → is_attribute trees ≡ false → IsBad (stream (before_comma trees)) → ReadsValue (kind.Bad (stream (before_comma trees)) place)
+    -- where an item of the same kind is read, a bad value stays bad
+    unread : (start : Span) (other : Path) (tail : Trees) (last : Span) (one : Found) (after : Input) → Ended tail → path_by start other (delimiter_of ((equal ++ reads.tokens) ++ tail)) (at ((equal ++ reads.tokens) ++ tail) last) ≡ Some (one, after)
+        → erased_found one ≡ erased_found (found.Item (with_value path eq_span span it)) → Fits (found.Item (with_value path eq_span span it)) tail
+    unread start other tail last one after f e same =
+        let behind : Trees = reads.tokens ++ tail in
+        let stands = skipped-over 1 equal behind last (mark-length (codes "=") place) in
+        let parts = name_value-parts start other behind (at (equal ++ behind) last) stands.0 one after stands.1 (reads.attribute tail f) (rw (append_assoc equal reads.tokens tail, (mark-grouped 61 behind behind place).0, seen tail) at e) in
+        let bare = ap erased_found parts.3 ∙ same in
+        let inner : erased_nested (with_value other (first_span (equal ++ behind)) (joined start parts.1.last) parts.0) ≡ erased_nested (with_value path eq_span span it) = cc in
+        stays-fits path eq_span span it tail (reads.only (first_span (equal ++ behind)) tail stands.0 parts.0 parts.1 f parts.2 other path (first_span (equal ++ behind)) (joined start parts.1.last) eq_span span inner)
+
+-- tokens that are no value, where they stay none before what stands behind them
+bad-reads : (trees : Trees) (place : Span) → is_attribute trees ≡ false → shortest_run trees ≡ None → ReadsValue (kind.Bad (stream (before_comma trees)) place)
 unfolding value bad_value
-bad-reads trees place none shut = record {
+bad-reads trees place none bad = record {
   tokens = tokens;
   place = λ eq_span span. eq_span;
   is = λ path eq_span span. rw (contents-stream tokens) (append_assoc (path_tokens Plain path) (mark (codes "=") eq_span) tokens);
   attribute = λ tail f. attribute-again trees tail f none;
-  again = λ eq_span tail last f.
-      let bad = rw (contents-stream tokens) at (shut tail f.stop) in
+  ends = rw (contents-stream tokens, append-nil) (bad-alone trees bad);
+  again = λ eq_span tail last f stays.
+      let bad = rw (contents-stream tokens) at stays in
       let stands = skipped-over (length tokens) tokens tail last refl in
       record {
         value = kind.Bad (stream tokens) (bad_place eq_span tokens);
@@ -198,10 +256,21 @@ bad-reads trees place none shut = record {
         is = rw (bad, before_comma-again trees tail f.stop, stands.1) refl;
         same = refl;
       };
+  only = λ eq_span tail last it after f e other path eq one span two same. unread eq_span tail last it after e other path eq one span two same (shortest_run (tokens ++ tail)) refl;
 }
   where
     tokens : Trees
     tokens = before_comma trees
+
+    -- where a run of them is a value, no item of the same kind is read
+    unread : (eq_span : Span) (tail : Trees) (last : Span) (it : Value) (after : Input) → value eq_span (at (tokens ++ tail) last) ≡ Some (it, after)
+        → (other path : Path) (eq one span two : Span) → erased_nested (with_value other eq one it) ≡ erased_nested (with_value path span two (kind.Bad (stream tokens) place))
+        → (run : Option (Expr × ℕ)) → shortest_run (tokens ++ tail) ≡ run → shortest_run (contents (stream tokens) ++ tail) ≡ None
+    unread eq_span tail last it after e other path eq one span two same None is = rw (contents-stream tokens) is
+    unread eq_span tail last it after e other path eq one span two same (Some run) is =
+        let both = some_pair_parts (kind.Expr run.0) it (skipped run.1 (at (tokens ++ tail) last)) after (rw is at e) in
+        let clash = ap (λ it. erased_nested (with_value other eq one it)) both.0 ∙ same in
+        absurd cc
 
 is_equals-group : (trees : Trees) (between : Delimiter) → delimiter_of trees ≡ Some between → is_equals trees ≡ false
 unfolding delimiter_of Rattle.syn_grammar.specs.Token.mark_of
@@ -222,20 +291,22 @@ expr-reads trees found count e = record {
   place = λ eq_span span. span;
   is = λ path eq_span span. append_assoc (path_tokens Plain path) (mark (codes "=") span) (expr_tokens found);
   attribute = λ tail f. rw ((run-again trees found count e tail f).hash) refl;
-  again = λ eq_span tail last f.
+  ends = tt;
+  again = λ eq_span tail last f stays.
       let run = run-again trees found count e tail f in
       let stands = skipped-over (length (expr_tokens found)) (expr_tokens found) tail last refl in
       record { value = kind.Expr run.value; new = stands.0; is = rw (run.is, stands.1) refl; same = ap kind.Expr run.same };
+  only = λ eq_span tail last it after f e other path eq one span two same. tt;
 }
 
-value-reads : (path : Path) (eq_span span : Span) (input after : Input) (it : Value) → value eq_span input ≡ Some (it, after) → is_attribute input.rest ≡ false → Good (found.Item (with_value path eq_span span it)) → ReadsValue it
+value-reads : (eq_span : Span) (input after : Input) (it : Value) → value eq_span input ≡ Some (it, after) → is_attribute input.rest ≡ false → ReadsValue it
 unfolding value bad_value
-value-reads path eq_span span input after it e none good = by (shortest_run input.rest) refl
+value-reads eq_span input after it e none = by (shortest_run input.rest) refl
   where
     by : (run : Option (Expr × ℕ)) → shortest_run input.rest ≡ run → ReadsValue it
     by None is =
         let both = some_pair_parts bad it (skipped (length tokens) input) after (rw is at e) in
-        subst ReadsValue both.0 (bad-reads input.rest (bad_place eq_span tokens) none (subst (λ it. Good (found.Item (with_value path eq_span span it))) (sym both.0) good))
+        subst ReadsValue both.0 (bad-reads input.rest (bad_place eq_span tokens) none is)
       where
         tokens : Trees
         tokens = before_comma input.rest
@@ -262,7 +333,7 @@ behind-reads start path input after it e good = by (delimiter_of input.rest) ref
     item-value equals none e =
         let parts = bind-at (value eq_span (next input)) (λ it. upto start >>= (λ span. pure (found.Item (with_value path eq_span span it)))) it after e in
         let both = some_pair_parts (found.Item (with_value path eq_span (joined start parts.1.last) parts.0)) it parts.1 after parts.3 in
-        let reads = value-reads path eq_span (joined start parts.1.last) (next input) parts.1 parts.0 parts.2 none (subst Good (sym both.0) good) in
+        let reads = value-reads eq_span (next input) parts.1 parts.0 parts.2 none in
         subst Behind both.0 (valued path input.rest eq_span (joined start parts.1.last) parts.0 equals reads)
 
     attribute : (b : Bool) → is_equals input.rest ≡ true → is_attribute (next input).rest ≡ b → (if b then attribute_item else value_item start path eq_span) (next input) ≡ Some (it, after) → Behind it
@@ -285,7 +356,7 @@ path-item input after it starts e good =
     let parts = bind-at (meta_path input) (λ path. test delimiter_of >>= path_by (first_span input.rest) path) it after e in
     path-reads input parts.1 parts.0 it parts.2 starts (behind-reads (first_span input.rest) parts.0 parts.1 after it parts.3 good)
 
--- every item, but for attributes and bad values that are not shut
+-- every item, but for attributes
 pub item-reads : (input after : Input) (it : Found) → item input ≡ Some (it, after) → Good it → ReadsItem (found_tokens it) it
 item-reads input after it e good = by (item_start input.rest) refl
   where
@@ -294,3 +365,7 @@ item-reads input after it e good = by (item_start input.rest) refl
     by start.Boolean is = boolean-item input after it (sym (item-at start.Boolean input is) ∙ e)
     by start.Minus is = signed-item input after it (sym (item-at start.Minus input is) ∙ e)
     by start.Path is = path-item input after it is (sym (item-at start.Path input is) ∙ e) good
+
+-- what the law of lists takes
+pub item-rule : (input after : Input) (it : Found) → item input ≡ Some (it, after) → Good it → Fits it [] × Reads erased_found (λ tail. is_end tail ≡ false) (λ tail. Ended tail × Fits it tail) item (found_tokens it) it
+item-rule input after it e good = let one = item-reads input after it e good in (one.ends, one.reads)

@@ -26,7 +26,7 @@ pub ended-nothing : Ended []
 unfolding mark_of is_pair is_joint delimiter_of is_group
 ended-nothing = record { stop = refl; expr = λ rest. expr-end any_level rest; colons = refl; equals = refl; hash = refl; grouped = refl; bracket = refl }
 
-comma-stops : (span : Span) (tail : Trees) → stops (comma span ++ tail) ≡ true
+pub comma-stops : (span : Span) (tail : Trees) → stops (comma span ++ tail) ≡ true
 unfolding mark
 comma-stops span tail = is_comma-comma tail span
 

@@ -1,9 +1,9 @@
 -- Nested items without their places: the same item, with every span at the call site.
-use Rattle.std.specs.Prelude.{map, option_map}
+use Rattle.std.specs.Prelude.{option_map}
 use Rattle.tok_types.specs.declared.span.Span.{Span}
 use Rattle.tok_types.specs.declared.span.Span.TheVariants.{CallSite}
 use Rattle.error_fault.specs.declared.fault.Fault.{Fault}
-use Rattle.error_core.specs.ErrorView.{ErrorView, One, Several, Part}
+use Rattle.error_core.specs.ErrorView.{ErrorView, One, Several, MoreErrors, no_more, and_then}
 use Rattle.meta_nested.specs.declared.nested.MetaNameValueInvalidExpr.{MetaNameValueInvalidExpr}
 use Rattle.meta_nested.specs.declared.nested.NestedMeta.{NestedMeta}
 use Rattle.meta_nested.specs.declared.nested.NestedMeta.TheVariants as nested
@@ -18,12 +18,15 @@ erased_place place = CallSite
 abbrev pub erased_fault : Fault → Fault
 erased_fault it = record { kind = it.kind; path = it.path; span = option_map erased_place it.span }
 
-abbrev pub erased_part : Part → Part
-erased_part it = record { span = option_map erased_place it.span; shown = it.shown; first = erased_fault it.first; more = map erased_fault it.more }
+abbrev mutual
+  pub erased_error : ErrorView → ErrorView
+  erased_error (One fault) = One (erased_fault fault)
+  erased_error (Several path span first second more) =
+      Several path (option_map erased_place span) (erased_error first) (erased_error second) (erased_more more)
 
-abbrev pub erased_error : ErrorView → ErrorView
-erased_error (One fault) = One (erased_fault fault)
-erased_error (Several path span first second more) = Several path (option_map erased_place span) (erased_part first) (erased_part second) (map erased_part more)
+  pub erased_more : MoreErrors → MoreErrors
+  erased_more no_more = no_more
+  erased_more (and_then told more) = and_then (erased_error told) (erased_more more)
 
 -- ---- items
 

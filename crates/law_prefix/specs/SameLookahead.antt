@@ -23,7 +23,7 @@ pub record LikeLayer (one other : Layer) : Type 0 where
 abbrev pub Like : TokenTree → TokenTree → Type 0
 Like one other = LikeLayer (out-TokenTree one) (out-TokenTree other)
 
--- Tokens behind which no rule looks that does not take them: `;` (59), and all but words, joint marks, `=` (61) and `:` (58).
+-- Tokens behind which no rule looks that does not take them: `;`, and all but words, joint marks, `=` and `:`.
 abbrev pub closes_in : Layer → Bool
 closes_in (TokenTree-F.Ident ident) = false
 closes_in (TokenTree-F.Lifetime lifetime) = true

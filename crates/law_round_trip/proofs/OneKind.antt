@@ -30,7 +30,7 @@ use Rattle.print_core.specs.Nodes.{argument_tokens, arguments_tokens, bound_toke
 use Rattle.print_core.specs.Paths.{Arguments, PathParts, Styled, argument_rule, arguments_rule, bound_rule, expr_path_rule, path_rule, segment_rule, trait_bound_rule, type_path_rule}
 use Rattle.print_core.specs.Types.{type_array_rule, type_rule}
 use Rattle.law_spans.specs.Erased.{argument_bared, arguments_bared, array_bared, erased_argument, erased_arguments, erased_array, erased_bound, erased_expr, erased_expr_path, erased_ident, erased_lit, erased_member, erased_path, erased_segment, erased_stream, erased_trait_bound, erased_type, erased_type_path, bound_bared, expr_bared, expr_path_bared, path_bared, segment_bared, trait_bound_bared, type_bared, type_path_bared}
-use Rattle.law_round_trip.specs.Kinds.{erased_expr_array, erased_expr_range}
+use Rattle.law_spans.specs.Kinds.{erased_expr_array, erased_expr_range}
 use Rattle.law_round_trip.specs.Printed.{ReadBack, stream}
 
 -- a layer with bare parts, and with what its parts print

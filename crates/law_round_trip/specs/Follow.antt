@@ -55,7 +55,7 @@ abbrev pub KeepsMarks : Bool → Relation
 KeepsMarks true rest tail = Keep is_equals rest tail × Keep is_colon rest tail
 KeepsMarks false rest tail = Unit {0}
 
--- some token, and no `>` (62)
+-- some token, and no `>`
 abbrev pub Open : Relation
 Open rest tail = (is_end tail ≡ false) × (is_mark greater tail ≡ false)
 

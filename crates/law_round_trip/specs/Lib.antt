@@ -1,4 +1,3 @@
 pub mod Printed
 pub mod Follow
 pub mod Parts
-pub mod Kinds

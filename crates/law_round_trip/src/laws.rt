@@ -2,7 +2,7 @@
 //! their clauses are the laws.
 
 ghost use Rattle.law_round_trip.specs.Follow.{AfterExpr, AfterPath, AfterType, BeginsExpr, BeginsPath, BeginsType, NotEnded};
-ghost use Rattle.law_round_trip.specs.Kinds.{erased_expr_array, erased_expr_range};
+ghost use Rattle.law_spans.specs.Kinds.{erased_expr_array, erased_expr_range};
 ghost use Rattle.law_round_trip.specs.Parts.{bounds_tokens, style_of};
 ghost use Rattle.law_round_trip.specs.Printed.{RoundTrips, ReadBack, separated};
 ghost use Rattle.law_spans.specs.Erased.{erased_bound, erased_expr, erased_expr_path, erased_fn_arg, erased_ident, erased_path, erased_type};

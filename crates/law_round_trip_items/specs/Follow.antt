@@ -1,5 +1,6 @@
 -- What may follow what is printed of an item, and what begins it, beside the tokens that the source had there.
 use Rattle.std.specs.Prelude.{◌≡◌, Bool, true, false, ◌||◌, None}
+use Rattle.tok_types.specs.Ascii as ascii
 use Rattle.syn_grammar.specs.declared.word.Word.TheVariants as word
 use Rattle.syn_grammar.specs.Input.{is_end}
 use Rattle.syn_grammar.specs.Look.{is_bool, is_there}
@@ -15,15 +16,15 @@ use Rattle.syn_items.specs.Visibility.{restriction_in}
 abbrev pub AfterWhile : (Trees → Bool) → Relation → Relation
 AfterWhile begins Sight rest tail = Keep begins rest tail × Sight rest tail
 
--- 35 is the `#`
+-- a list of attributes
 abbrev pub AfterAttributes : Relation → Relation
-AfterAttributes = AfterWhile (is_mark 35)
+AfterAttributes = AfterWhile (is_mark ascii.hash)
 
--- what a path of any words begins with: a word, which is `true` or `false` where the source had one of them, or `::`; no literal and no minus (45)
+-- what a path of any words begins with: a word, which is `true` or `false` where the source had one of them, or `::`; no literal and no minus
 pub record StartsPath (rest tail : Trees) : Type 0 where
   pub some : is_end tail ≡ false
   pub literal : literal_of tail ≡ None
-  pub minus : is_mark 45 tail ≡ false
+  pub minus : is_mark ascii.minus tail ≡ false
   pub truth : is_bool (next_word tail) ≡ is_bool (next_word rest)
 
 -- whether the group that comes next restricts a visibility
@@ -34,12 +35,12 @@ restricts trees = is_there (restriction_in trees)
 abbrev pub AfterVisibility : Relation → Relation
 AfterVisibility Sight rest tail = Keep (peek word.Pub) rest tail × (Keep restricts rest tail × Sight rest tail)
 
--- what a parameter begins with: the same kind of token, no `#` (35), no `>` (62), and not nothing
+-- what a parameter begins with: the same kind of token, no `#`, no `>`, and not nothing
 pub record BeginsParam (rest tail : Trees) : Type 0 where
   pub lifetime : is_there (lifetime_of tail) ≡ is_there (lifetime_of rest)
   pub constant : peek word.Const tail ≡ peek word.Const rest
-  pub hash : is_mark 35 tail ≡ false
-  pub greater : is_mark 62 tail ≡ false
+  pub hash : is_mark ascii.hash tail ≡ false
+  pub greater : is_mark ascii.greater tail ≡ false
   pub some : is_end tail ≡ false
 
 abbrev pub AfterParam : Relation
