@@ -1,11 +1,10 @@
 -- An input and the refusals of one exclude each other.
-use Rattle.std.proofs.Common.{◌≡◌, ◌+◌, ◌⊎◌, ℕ, suc, List, [], ◌∷◌, Option, Some, None, Result, Ok, Err, IfSome, refl, sym, ap, ◌∙◌, subst, inl, inr, arith}
+use Rattle.std.proofs.Common.{◌≡◌, ◌+◌, ◌⊎◌, ℕ, suc, List, [], ◌∷◌, Option, Some, None, Result, Err, IfSome, refl, sym, ap, ◌∙◌, subst, inl, inr, arith}
 use Rattle.std.specs.Option.{option_to_list}
 use Rattle.node_core.specs.declared.derive.DeriveInput.{DeriveInput}
 use Rattle.run_parts.specs.Parts.{IsDivision, divider_count}
 use Rattle.run_parts.proofs.Division.{IsDivision-unique, length-IsDivision}
 use Rattle.darling_run.specs.declared.input.Input.{Input}
-use Rattle.darling_run.specs.declared.part.Part.{Part}
 use Rattle.darling_run.specs.declared.status.Status.{Status}
 use Rattle.darling_run.specs.declared.status.Status.TheVariants.{Done, Usage, ReadFault, TooLong, NotText, NoParts, TooDeep, Syntax, Unbuilt, WriteFault, NoMemory}
 use Rattle.darling_run.specs.Parts.{IsPart}

@@ -1,5 +1,5 @@
 -- A text is one part.
-use Rattle.std.proofs.Common.{◌≡◌, ◌<◌, ◌≤◌, ◌⊎◌, ℕ, List, length, drop, Option, Some, None, Result, Ok, Err, refl, sym, ap, ◌∙◌, subst, inl, inr, arith}
+use Rattle.std.proofs.Common.{◌≡◌, ◌<◌, ℕ, List, length, drop, Result, Ok, Err, sym, ap, ◌∙◌, subst, inl, inr, arith}
 use Rattle.std.specs.Str.{chars}
 use Rattle.tok_types.specs.declared.tree.TokenStream.{TokenStream, out-TokenStream}
 use Rattle.tok_core.specs.Endings.{Answers, EndsAt, deep, wrong}
@@ -7,8 +7,7 @@ use Rattle.tok_core.proofs.OneReading.{EndsAt-same, Spells-same}
 use Rattle.tok_core.proofs.Outcomes.{only}
 use Rattle.tok_core.specs.declared.error.LexError.{LexError}
 use Rattle.tok_core.specs.declared.error.LexError.TheVariants as lex
-use Rattle.node_core.specs.declared.derive.DeriveInput.{DeriveInput}
-use Rattle.syn_items.specs.Trees.{IsItemFront, items_of}
+use Rattle.syn_items.specs.Trees.{IsItemFront}
 use Rattle.darling_run.specs.declared.part.Part.{Part}
 use Rattle.darling_run.specs.declared.part.Part.TheVariants as part
 use Rattle.darling_run.specs.Parts.{HasTokens, HasTokensOf, IsOf, IsPart, StopsAt, start_at}

@@ -4,6 +4,7 @@ use Rattle.edge_core.specs.Faults.{HasRisen}
 use Rattle.edge_core.specs.Sink.{Takes}
 use Rattle.node_core.specs.declared.derive.DeriveInput.{DeriveInput}
 use Rattle.meaning_core.specs.Receiver.{item_meaning}
+use Rattle.tok_core.specs.declared.reading.TheConstants.{MAX_LEN}
 use Rattle.darling_run.specs.declared.status.Status.{Status}
 use Rattle.darling_run.specs.declared.status.Status.TheVariants.{Done, Usage, ReadFault, TooLong, NotText, NoParts, TooDeep, Syntax, Unbuilt, WriteFault, NoMemory}
 use Rattle.darling_run.specs.declared.report.Report.{Report}
@@ -12,9 +13,9 @@ use Rattle.darling_run.specs.Status.{refusal_text}
 use Rattle.darling_run.specs.Report.{report_text}
 use Rattle.darling_run.specs.Input.{IsInput, IsRefused}
 
--- how many bytes an input has at most, which is what a text of tokens has: the number stands for itself here
+-- how many bytes an input has at most
 abbrev pub limit : ℕ
-limit = 16777216
+limit = MAX_LEN
 
 -- the words are the one command
 abbrev pub IsRun : List (List ℕ) → Type 0

@@ -9,7 +9,7 @@ use error_fault::{Fault, push_fault_line};
 use meaning_core::{Outcome, Value};
 use node_core::DeriveInput;
 use std::alloc::Global;
-use tok_types::{Ident, Items, Mem, Text};
+use tok_types::{Ident, Items, Mem, Text, TryClone};
 
 /// What was read, and what it means.
 pub struct Report {
@@ -19,6 +19,16 @@ pub struct Report {
     pub subjects: Items<DeriveInput>,
     /// What the last declaration makes of each subject, in order.
     pub outcomes: Items<Outcome>,
+}
+
+impl TryClone for Report {
+    fn try_clone(&self, alloc: Global) -> Mem<Report> {
+        Ok(Report {
+            declarations: self.declarations.try_clone(alloc)?,
+            subjects: self.subjects.try_clone(alloc)?,
+            outcomes: self.outcomes.try_clone(alloc)?,
+        })
+    }
 }
 
 /// The lines of a report, one or more for each subject.

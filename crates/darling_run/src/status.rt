@@ -8,7 +8,7 @@ use std::alloc::{AllocError, Global};
 use tok_types::{Mem, Span, Text};
 
 /// How a run ended. Where several refusals would fit, the first of this list that does is named.
-#[derive(Debug, Drop)]
+#[derive(Clone, Copy, Debug)]
 pub enum Status {
     /// The report was written.
     Done,

@@ -12,7 +12,7 @@ use meaning_core::{Outcome, Receiver};
 use node_core::DeriveInput;
 use std::alloc::{AllocError, Global};
 use tok_core::MAX_LEN;
-use tok_types::{Items, Mem, Text};
+use tok_types::{Items, Mem, Text, TryClone};
 
 /// How many bytes an input has at most.
 const LIMIT: u64 = MAX_LEN as u64;
@@ -23,6 +23,15 @@ pub struct Ended {
     /// Some exactly where the status is [`Status::Done`], or [`Status::WriteFault`] after a
     /// completed run.
     pub report: Option<Report>,
+}
+
+impl TryClone for Ended {
+    fn try_clone(&self, alloc: Global) -> Mem<Ended> {
+        Ok(Ended {
+            status: self.status,
+            report: self.report.try_clone(alloc)?,
+        })
+    }
 }
 
 ghost use Rattle.darling_run.specs.Ended.{limit, IsRun, WereRead, Causes, IsReport, Reports, Answered, IsWritten, Ends, text_of, status_of, report_of};

@@ -1,6 +1,5 @@
 -- The arms of a struct of texts, by the places of its fields.
-use Rattle.std.proofs.Common.{◌≡◌, ◌<◌, ◌+◌, ℕ, zero, suc, Bool, true, false, cond, List, [], ◌∷◌, ◌++◌, length, map, Option, Some, None, option_map, refl, ap, ap₂, sym, ◌∙◌, bytes_eq, get_or, position, arith, zero-add}
-use mathlib.Core.Path.{fun_ext}
+use Rattle.std.proofs.Common.{◌≡◌, ◌<◌, ◌+◌, ℕ, zero, suc, true, false, cond, List, [], ◌∷◌, ◌++◌, length, map, Option, Some, None, option_map, refl, ap, ap₂, sym, ◌∙◌, bytes_eq, get_or, position, arith, zero-add}
 use Rattle.std.specs.List.{position_from}
 use Rattle.std.proofs.lemmas.Iterator.Adapters.{position_from-zero}
 use Rattle.base_core.specs.declared.text.Text.{Text}
@@ -19,7 +18,7 @@ use Rattle.meaning_core.specs.Host.{no_host}
 use Rattle.meaning_core.specs.Owners.{owner_named, field_at}
 use Rattle.meaning_core.specs.Receiver.{no_earlier, receiver_decl, text_field}
 use Rattle.meaning_core.specs.Slots.{slot_of, state_of}
-use Rattle.meaning_core.specs.State.{Arm, State, arm, arm_slot, arms, arms_from, by_arm, by_rest, find_arm, put, rest, rest_by, slot_at, step}
+use Rattle.meaning_core.specs.State.{Arm, State, arm, arm_slot, arms, by_arm, by_rest, find_arm, put, rest, rest_by, slot_at, step}
 use Rattle.meaning_core.proofs.Filters.{arm_is_owner}
 
 -- the names of texts are the texts' own

@@ -1,10 +1,9 @@
 -- Where no fault is collected, the first item of each field has a value.
-use Rattle.std.proofs.Common.{◌≡◌, ℕ, ◌==◌, zero, suc, Bool, true, false, List, [], ◌∷◌, ◌++◌, Option, Some, None, refl, ap, ◌∙◌, sym, append_assoc, append-nil, ⊎_elim, subst, true≢false}
+use Rattle.std.proofs.Common.{◌≡◌, ℕ, zero, true, false, List, [], ◌∷◌, ◌++◌, Option, Some, None, refl, ap, ◌∙◌, sym, append_assoc, append-nil, ⊎_elim, subst, true≢false}
 use Rattle.std.proofs.lemmas.Bool.Decides.{eqb_tells}
 use Rattle.base_core.specs.declared.text.Text.{Text}
 use Rattle.run_first.specs.declared.nested.NestedMeta.{NestedMeta}
 use Rattle.run_first.specs.declared.nested.NestedMeta.TheVariants as nested
-use Rattle.error_fault.specs.declared.fault.Fault.{Fault}
 use Rattle.error_fault.specs.Faults.{at}
 use Rattle.error_fault.specs.Outcome.{Outcome, Value, Faults, faults_of}
 use Rattle.meaning_core.specs.Node.{meta_name}

@@ -1,5 +1,5 @@
 -- A walk fills slots as the filters of its entries say.
-use Rattle.std.proofs.Common.{◌≡◌, ℕ, ◌+◌, ◌<◌, ◌==◌, zero, suc, Bool, true, false, cond, List, [], ◌∷◌, ◌++◌, length, Option, Some, None, option_map, is_none, filter, fold, refl, ap, ◌∙◌, sym, arith, append_assoc, append-nil, set, ⊎_elim, bytes_eq, zero-add, true≢false, ap₂}
+use Rattle.std.proofs.Common.{◌≡◌, ℕ, ◌+◌, ◌<◌, zero, suc, Bool, true, false, cond, List, [], ◌∷◌, ◌++◌, length, Option, Some, None, option_map, is_none, filter, fold, refl, ap, ◌∙◌, sym, arith, append_assoc, append-nil, set, ⊎_elim, bytes_eq, zero-add, true≢false, ap₂}
 use mathlib.Core.Path.{fun_ext}
 use Rattle.std.proofs.lemmas.Bool.Decides.{eqb_tells}
 use Rattle.base_core.specs.declared.text.Text.{Text}

@@ -1,9 +1,8 @@
 -- What one look at each slot gives at the end of a walk over a struct of texts.
-use Rattle.std.proofs.Common.{◌≡◌, ◌≢◌, ◌<◌, ℕ, zero, suc, Bool, true, false, cond, IsTrue, List, [], ◌∷◌, ◌++◌, length, map, drop, fold, Option, Some, None, refl, ap, ap₂, sym, ◌∙◌, subst, set, get_or, slice_get, replicate, arith, ◌||◌, true≢false, ◌+◌, ◌≤◌, append_assoc, append-nil}
+use Rattle.std.proofs.Common.{◌≡◌, ◌≢◌, ◌<◌, ℕ, zero, suc, true, false, IsTrue, List, [], ◌∷◌, ◌++◌, length, map, drop, fold, Option, Some, None, refl, ap, ap₂, sym, ◌∙◌, subst, set, get_or, slice_get, replicate, arith, true≢false, ◌+◌, ◌≤◌, append_assoc, append-nil}
 use Rattle.std.specs.List.{list_any}
 use Rattle.base_core.specs.declared.text.Text.{Text}
 use Rattle.node_core.specs.declared.derive.DeriveInput.{DeriveInput}
-use Rattle.run_first.specs.declared.nested.NestedMeta.{NestedMeta}
 use Rattle.error_fault.specs.declared.fault.Fault.{Fault}
 use Rattle.error_fault.specs.declared.kind.FaultKind.TheVariants.{MissingField}
 use Rattle.error_fault.specs.Fault.{plain}
@@ -14,14 +13,14 @@ use Rattle.meaning_core.specs.declared.value.Value.TheVariants as value
 use Rattle.meaning_core.specs.declared.walk.Slot.{Slot as Held}
 use Rattle.meaning_core.specs.declared.walk.Slot.TheVariants.{Unseen, Failed, Read}
 use Rattle.meaning_core.specs.Value.{no_value, struct_of, labelled}
-use Rattle.meaning_core.specs.Decl.{TextType, FieldDecl, has_flat}
+use Rattle.meaning_core.specs.Decl.{TextType}
 use Rattle.meaning_core.specs.Host.{no_host}
 use Rattle.meaning_core.specs.Entries.{events}
 use Rattle.meaning_core.specs.Owners.{each}
 use Rattle.meaning_core.specs.Meaning.{joined, in_order}
 use Rattle.meaning_core.specs.Receiver.{no_earlier, receiver_decl, subject_meaning, text_field}
 use Rattle.meaning_core.specs.Slots.{slot_of, state_of, has_failed, IsTold, by_slot, missing_of, members_of}
-use Rattle.meaning_core.specs.State.{Slot, One, State, entry_step}
+use Rattle.meaning_core.specs.State.{One, State, entry_step}
 use Rattle.meaning_core.specs.Walk.{with_slots, field_slot, kept_by, slot_missing, slot_value, closed, behind}
 use Rattle.meaning_core.proofs.Arms.{has_flat-texts}
 use Rattle.meaning_core.proofs.Clean.{nil_left, nil_right}

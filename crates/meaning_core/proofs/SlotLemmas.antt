@@ -1,5 +1,5 @@
 -- What one item does to the slots and the faults of a walk over a struct of texts.
-use Rattle.std.proofs.Common.{◌≡◌, ◌≢◌, ◌<◌, ℕ, zero, suc, Bool, true, false, cond, IsTrue, List, [], ◌∷◌, ◌++◌, length, map, Option, Some, None, Result, Ok, Err, refl, ap, ap₂, sym, ◌∙◌, subst, append-nil, set, get_or, ◌||◌, slice_set, true≢false, arith}
+use Rattle.std.proofs.Common.{◌≡◌, ◌<◌, ℕ, zero, suc, Bool, true, false, IsTrue, List, [], ◌∷◌, ◌++◌, length, map, None, Ok, Err, refl, ap, ap₂, sym, ◌∙◌, subst, append-nil, set, get_or, ◌||◌, arith}
 use Rattle.std.specs.List.{list_any}
 use Rattle.std.proofs.lemmas.List.{map-set, set-get_or}
 use Rattle.base_core.specs.declared.text.Text.{Text}
@@ -8,9 +8,8 @@ use Rattle.run_first.specs.declared.nested.NestedMeta.TheVariants as nested
 use Rattle.error_fault.specs.declared.fault.Fault.{Fault}
 use Rattle.error_fault.specs.declared.kind.FaultKind.TheVariants.{DuplicateField}
 use Rattle.error_fault.specs.Fault.{at_span, located}
-use Rattle.error_fault.specs.Outcome.{Outcome, Value, Faults}
+use Rattle.error_fault.specs.Outcome.{Outcome}
 use Rattle.meaning_core.specs.declared.value.Value.{Value as Datum}
-use Rattle.meaning_core.specs.declared.value.Value.TheVariants as value
 use Rattle.meaning_core.specs.declared.walk.Slot.{Slot as Held}
 use Rattle.meaning_core.specs.declared.walk.Slot.TheVariants.{Unseen, Failed, Read}
 use Rattle.meaning_core.specs.Value.{no_value}
@@ -20,7 +19,7 @@ use Rattle.meaning_core.specs.Host.{no_host}
 use Rattle.meaning_core.specs.EntryFaults.{read_at}
 use Rattle.meaning_core.specs.Receiver.{no_earlier, text_field}
 use Rattle.meaning_core.specs.Slots.{text_outcome, slot_of, state_of, has_failed, IsTold}
-use Rattle.meaning_core.specs.State.{Slot, One, State, arm, arm_slot, filled, put, slot_at}
+use Rattle.meaning_core.specs.State.{State, arm, arm_slot, filled, put, slot_at}
 
 -- the state with one slot replaced
 put-state : (slots : List Held) (faults more : List Fault) (place : ℕ) (held : Held) → put place (slot_of held, more) (state_of slots faults) ≡ state_of (set slots place held) (faults ++ more)

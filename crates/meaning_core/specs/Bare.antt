@@ -4,7 +4,7 @@ use Rattle.base_core.specs.declared.text.Text.{Text}
 use Rattle.tok_types.specs.declared.span.Span.{Span}
 use Rattle.node_expr.specs.declared.expr.Expr.{Expr}
 use Rattle.node_expr.specs.declared.expr.Expr.TheFolds.{fold-Expr}
-use Rattle.node_expr.specs.declared.expr.Expr.TheOpen.{Expr-F, ExprPath-F}
+use Rattle.node_expr.specs.declared.expr.Expr.TheOpen.{Expr-F}
 use Rattle.node_expr.specs.declared.lit.Lit.{Lit}
 use Rattle.node_span.specs.Spanned.{stream_span}
 

@@ -1,11 +1,9 @@
 -- Conversions: how an item, a list of items and nothing are read at a type.
-use Rattle.std.specs.Prelude.{ℕ, List, [], ◌∷◌, Option, Some, None, unwrap_or, codes}
+use Rattle.std.specs.Prelude.{ℕ, List, [], Option, Some, None, unwrap_or, codes}
 use Rattle.base_core.specs.declared.text.Text.{Text}
-use Rattle.tok_types.specs.declared.span.Span.{Span}
 use Rattle.tok_types.specs.declared.tree.TokenStream.{TokenStream}
 use Rattle.node_core.specs.declared.attr.Meta.{Meta}
 use Rattle.node_core.specs.declared.attr.Meta.TheVariants as meta
-use Rattle.node_expr.specs.declared.expr.Expr.{Expr}
 use Rattle.node_expr.specs.declared.lit.Lit.{Lit}
 use Rattle.node_expr.specs.declared.lit.Lit.TheVariants as lit
 use Rattle.run_first.specs.Nested.{nested_of}

@@ -1,5 +1,5 @@
 -- Declarations as their options leave them: types, fields, and the fallback of a field.
-use Rattle.std.specs.Prelude.{ℕ, Bool, true, false, cond, not, List, [], ◌∷◌, ◌++◌, Option, Some, None}
+use Rattle.std.specs.Prelude.{ℕ, Bool, true, false, cond, not, List, [], ◌∷◌, Option, Some, None}
 use Rattle.base_core.specs.declared.text.Text.{Text}
 
 -- the type of a field: a text, a list, or what the declaration of this number makes

@@ -1,6 +1,5 @@
 -- The value of a field, and where a field is missing.
 use Rattle.std.specs.Prelude.{List, [], ◌∷◌, Option, Some, None}
-use Rattle.base_core.specs.declared.text.Text.{Text}
 use Rattle.run_first.specs.declared.nested.NestedMeta.{NestedMeta}
 use Rattle.error_fault.specs.declared.fault.Fault.{Fault}
 use Rattle.error_fault.specs.declared.kind.FaultKind.TheVariants.{MissingField}

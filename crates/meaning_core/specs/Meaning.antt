@@ -1,6 +1,5 @@
 -- The meaning of a struct: the faults that are collected, else the value that is built.
 use Rattle.std.specs.Prelude.{ℕ, List, [], ◌∷◌, ◌++◌, map, Option, Some, None}
-use Rattle.base_core.specs.declared.text.Text.{Text}
 use Rattle.error_fault.specs.declared.fault.Fault.{Fault}
 use Rattle.error_fault.specs.Outcome.{Outcome, Value, bind, on_value, settle}
 use Rattle.meaning_core.specs.declared.value.Value.{Value as Datum}

@@ -1,5 +1,5 @@
 -- What a reading asks of a node: its text, the name of its kind, and where a nested item stands.
-use Rattle.std.specs.Prelude.{if◌then◌else◌, List, [], ◌∷◌, ◌++◌, codes}
+use Rattle.std.specs.Prelude.{if◌then◌else◌, List, [], ◌++◌, codes}
 use Rattle.base_core.specs.declared.text.Text.{Text}
 use Rattle.tok_types.specs.declared.span.Span.{Span}
 use Rattle.node_make.specs.PathText.{path_text}

@@ -1,5 +1,5 @@
 -- The declaration that a struct of texts makes, and what a subject means under it.
-use Rattle.std.specs.Prelude.{ℕ, List, [], ◌∷◌, map, flat_map, Option, Some, None, if◌then◌else◌, codes, Bool, false}
+use Rattle.std.specs.Prelude.{List, [], ◌∷◌, map, flat_map, Option, Some, None, if◌then◌else◌, codes, Bool, false}
 use Rattle.std.specs.Str.{bytes_eq}
 use Rattle.base_core.specs.declared.text.Text.{Text}
 use Rattle.tok_types.specs.Ident.{ident_text}

@@ -1,5 +1,5 @@
 -- The slots of a walk over a struct of texts.
-use Rattle.std.specs.Prelude.{◌≢◌, Bool, true, false, IsTrue, List, [], ◌∷◌, ◌++◌, map, Option, Some, None, Ok, Err, Result}
+use Rattle.std.specs.Prelude.{◌≢◌, Bool, true, false, IsTrue, List, [], ◌∷◌, ◌++◌, map, Some, None, Ok, Err, Result}
 use Rattle.std.specs.List.{list_any}
 use Rattle.base_core.specs.declared.text.Text.{Text}
 use Rattle.error_fault.specs.declared.fault.Fault.{Fault}

@@ -2,7 +2,6 @@
 use Rattle.std.specs.Prelude.{List, [], ◌∷◌, if◌then◌else◌}
 use Rattle.std.specs.Str.{bytes_eq}
 use Rattle.base_core.specs.declared.text.Text.{Text}
-use Rattle.meaning_core.specs.declared.value.Style.{Style}
 use Rattle.meaning_core.specs.declared.value.Style.TheVariants as style
 use Rattle.meaning_core.specs.declared.value.Value.{Value, out-Value}
 use Rattle.meaning_core.specs.declared.value.Value.TheOpen.{Value-F}

@@ -1,6 +1,5 @@
-use Rattle.std.proofs.Common.{◌++◌, map, ap, ◌∙◌}
+use Rattle.std.proofs.Common.{◌++◌, ap, ◌∙◌}
 use Rattle.error_fault.proofs.TextLemmas.{OnOk-append}
-use Rattle.darling_run.specs.ValueText.{members_text, shown}
 use Rattle.darling_run.proofs.ValueLemmas.{value_text-Struct}
 use Rattle.darling_run.proofs.values.+value.Goals as goal
 

@@ -1,4 +1,4 @@
-use Rattle.std.proofs.Common.{◌≡◌, ◌∙◌}
+use Rattle.std.proofs.Common.{◌∙◌}
 use Rattle.std.proofs.lemmas.Result.{IfOk-weaker}
 use Rattle.meaning_core.proofs.Finish.{told-start, walk-means}
 use Rattle.meaning_core.proofs.receiver.Receiver.read.Goals as goal

@@ -1,8 +1,8 @@
-use Rattle.std.proofs.Common.{◌≡◌, ◌≢◌, ◌<◌, ◌≤◌, ◌∙◌, [], ◌++◌, List, length, ap, sym, refl, true≢false, arith}
+use Rattle.std.proofs.Common.{◌≢◌, ◌<◌, ◌≤◌, ◌∙◌, [], length, ap, sym, refl, true≢false, arith}
 use Rattle.std.proofs.lemmas.List.{length-set}
 use Rattle.error_fault.specs.Outcome.{Value, settle}
 use Rattle.meaning_core.specs.Value.{struct_of}
-use Rattle.meaning_core.specs.Slots.{missing_of, members_of, missing_one, member_one}
+use Rattle.meaning_core.specs.Slots.{members_of, missing_one, member_one}
 use Rattle.meaning_core.specs.declared.walk.Slot.TheVariants.{Unseen}
 use Rattle.meaning_core.proofs.Finish.{turned, ended, built-is, closed-is, refused-is}
 use Rattle.meaning_core.proofs.walk.Walk.finish.Goals as goal

@@ -1,4 +1,3 @@
-use Rattle.std.proofs.Common.{◌≡◌}
 use Rattle.std.proofs.lemmas.Result.{on_ok_weaker}
 use Rattle.meaning_core.proofs.SlotLemmas.{put-filled-text, put-filled-fault, told-text}
 use Rattle.meaning_core.proofs.walk.Walk.read_first.Goals as goal
