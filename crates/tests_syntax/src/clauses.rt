@@ -33,6 +33,8 @@ const NO_PARTS: &str = "where |
 where | T: A
 where | where T
 where | where T:
+where | where !:::A
+where | where _:::A
 where | where T: A;
 where | where , T: A
 where | where 'a

@@ -124,6 +124,7 @@ a b
 a +
 + a
 a + * 
+|a:::B| c
 a += b
 a = b
 a => b

@@ -117,6 +117,7 @@ impl
 A + B
 A::
 A: :B
+T:::a
 ::
 mut
 A<B

@@ -108,6 +108,7 @@ lex | 0b2 => Syntax 0
 lex | 0x => Syntax 0
 lex | 340282366920938463463374607431768211456 => Syntax 0
 lex | 1· => Syntax 0
+lex | 1e5‹301› => Syntax 0
 lex | [a => Syntax 2
 lex | (] => Syntax 1
 lex | a) => Syntax 1
