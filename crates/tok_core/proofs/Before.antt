@@ -1,13 +1,10 @@
 -- What was read before a place.
-use Rattle.std.proofs.Common.{◌≡◌, inl, inr, ℕ, ◌+◌, ◌<◌, ◌≤◌, List, [], ◌∷◌, ◌++◌, length, drop, Option, Some, None, option_and_then, refl, sym, ap, ◌∙◌, subst, arith, append_assoc, length-append}
+use Rattle.std.proofs.Common.{◌≡◌, inl, inr, ℕ, ◌+◌, ◌<◌, ◌≤◌, List, [], ◌∷◌, ◌++◌, length, Option, Some, None, option_and_then, Result, Ok, Err, IfOk, refl, sym, ap, ◌∙◌, subst, arith, append_assoc, length-append}
 use Rattle.std.proofs.lemmas.List.{append-nil}
 use Rattle.std.proofs.lemmas.Str.{encodes-append}
 use Rattle.std.specs.Str.{encode_utf8_all}
-use Rattle.tok_scan.proofs.Raws.{AreClosings-drop}
 use Rattle.tok_scan.specs.Characters.{Characters}
-use Rattle.tok_scan.specs.Closings.{AreClosings}
 use Rattle.tok_scan.specs.Pieces.{IsPieceAt}
-use Rattle.tok_scan.specs.declared.ends.Closing.{Closing}
 use Rattle.tok_scan.specs.declared.kind.Kind.{Kind}
 use Rattle.tok_types.specs.declared.tree.Delimiter.{Delimiter}
 use Rattle.tok_types.specs.declared.tree.TokenStream.{TokenStream}
@@ -86,6 +83,11 @@ piece_moved k text front after f a i e g =
     let Q : Characters → Type 0 = λ a. IsPieceAt k text front a in
     subst P (sym e) (subst Q (sym g) i)
 
+pub piece_there : (k : Kind) (text rest front after f a : Characters) → IsPieceAt k text front after → text ≡ rest → f ≡ front → a ≡ after → IsPieceAt k rest f a
+piece_there k text rest front after f a i e g h =
+    let P : Characters → Type 0 = λ text. IsPieceAt k text f a in
+    subst P e (piece_moved k text front after f a i g h)
+
 -- the three ways in which the reading ends with an error
 pub Refused-none : (source at : ℕ) (text rest : Characters) (nest : Nest) → Before source text rest at nest → 0 < length rest
     → ((k : Kind) (front after : Characters) → IsPieceAt k rest front after → ⊥) → Refused source text (Syntax at)
@@ -141,13 +143,11 @@ Spells-end source at text rest nest s b l f =
     let P : Characters → Type 0 = λ rest. Stand 0 text b.pieces at rest in
     record { pieces = b.pieces; end = at; stand = subst P (empty_is rest l) b.stand; same = f ∙ b.flat }
 
+pub Spells-finish : (source at : ℕ) (text rest : Characters) (nest : Nest) (r : Result TokenStream LexError) → Before source text rest at nest → length rest ≡ 0
+    → IfOk r (λ s. (source : ℕ) → flat_stream s ≡ flat_nest source nest) → IfOk r (Spells source text)
+Spells-finish source at text rest nest (Ok s) b l f = Spells-end source at text rest nest s b l (f source)
+Spells-finish source at text rest nest (Err e) b l f = tt
+
 pub Closes-end : (source at : ℕ) (text rest : Characters) (nest : Nest) (s : TokenStream) → Before source text rest at nest
     → open_in nest ≡ [] → flat_stream s ≡ flat_nest source nest → Closes s
 Closes-end source at text rest nest s b e f = ap (λ r. open_after r []) (f ∙ b.flat) ∙ b.matched ∙ ap Some e
-
--- what is known of the endings of raw forms is known behind a piece
-pub AreClosings-behind : (n : ℕ) (known left : List Closing) (rest after : Characters) → AreClosings known rest → left ≡ drop n known → after ≡ drop n rest → AreClosings left after
-AreClosings-behind n known left rest after h e f =
-    let P : List Closing → Type 0 = λ left. AreClosings left after in
-    let Q : Characters → Type 0 = λ after. AreClosings (drop n known) after in
-    subst P (sym e) (subst Q (sym f) (AreClosings-drop n known rest h))

@@ -11,3 +11,5 @@ pub mod Escapes
 pub mod FlatTexts
 pub mod Spelled
 pub mod Reread
+pub mod Known
+pub mod Bytes

@@ -1,5 +1,7 @@
 -- The flat tokens of a text that is read in part: for private clauses.
 use Rattle.std.specs.Prelude.{◌≡◌, ℕ, true, false, nat_lt, length, List, [], ◌∷◌, ◌++◌, Some}
+use Rattle.std.specs.Str.{encode_utf8_all}
+use Rattle.tok_scan.specs.Characters.{Characters}
 use Rattle.tok_scan.specs.declared.kind.Kind.{Kind}
 use Rattle.tok_scan.specs.declared.kind.Kind.TheVariants as kind
 use Rattle.tok_types.specs.declared.tree.Delimiter.{Delimiter}
@@ -45,3 +47,8 @@ IsFull k stack = (starts_group k ≡ true) × (nat_lt (length stack) limit ≡ f
 -- The piece does not close the innermost open delimiter.
 abbrev pub IsAmiss : Kind → List Delimiter → Type 0
 IsAmiss k stack = (d : Delimiter) × (k ≡ kind.Close d) × (is_top d stack ≡ false)
+
+-- The bytes are those of the characters; of a documentation comment nothing is said.
+abbrev pub AreBytes : Kind → List ℕ → Characters → Type 0
+AreBytes kind.Doc bytes text = Unit {0}
+AreBytes _ bytes text = bytes ≡ encode_utf8_all text

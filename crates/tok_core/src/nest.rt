@@ -1,5 +1,5 @@
 //! The trees of a text that is read in part.
-ghost use Rattle.std.specs.Prelude.{◌≡◌, ◌++◌, [], ◌∷◌, ◌<◌, Some, true, false, drop, length, IfOk, IfErr};
+ghost use Rattle.std.specs.Prelude.{◌≡◌, ◌++◌, [], ◌∷◌, ◌<◌, Some, true, false, drop, length, IfOk, IfErr, OnOk};
 ghost use Rattle.tok_core.specs.Endings.{is_top, open_after};
 ghost use Rattle.tok_types.specs.Delimiter.{same_delimiter};
 ghost use Rattle.tok_core.specs.Flat as flat;
@@ -68,7 +68,7 @@ fn same_delimiter(a: Delimiter, b: Delimiter) -> bool
 }
 
 impl Nest {
-    ghost use Rattle.tok_core.specs.Nests.{flat_nest, open_in, Cause, IsFull, IsAmiss};
+    ghost use Rattle.tok_core.specs.Nests.{flat_nest, open_in, AreBytes, Cause, IsFull, IsAmiss};
 
     pub(crate) fn new(alloc: Global) -> Nest
         ensures flat { (source : _) → flat_nest source result ≡ [] }
@@ -80,73 +80,69 @@ impl Nest {
         }
     }
 
-    fn push(self, tree: TokenTree) -> Mem<Nest>
-        ensures flat { IfOk result (λ n. (source : _) → flat_nest source n ≡ flat_nest source self ++ flat_tree tree) }
-        ensures same_open { IfOk result (λ n. open_in n ≡ open_in self) }
+    fn push(&mut self, tree: TokenTree) -> Mem<()>
+        ensures flat { OnOk result ((source : _) → flat_nest source self.new ≡ flat_nest source self.old ++ flat_tree tree) }
+        ensures same_open { OnOk result (open_in self.new ≡ open_in self.old) }
     {
-        let Nest { frames, mut trees } = self;
-        trees.push(tree)?;
-        Ok(Nest { frames, trees })
+        self.trees.push(tree)?;
+        Ok(())
     }
 
     /// Adds the attribute for which the documentation comment stands that is written so.
-    fn push_doc(self, alloc: Global, text: &[char], span: Span) -> Mem<Nest>
-        ensures flat { IfOk result (λ n. (source : _) → flat_nest source n
-            ≡ flat_nest source self ++ doc_tokens (drop 3 text.now) span) }
-        ensures same_open { IfOk result (λ n. open_in n ≡ open_in self) }
+    fn push_doc(&mut self, alloc: Global, text: &[char], span: Span) -> Mem<()>
+        ensures flat { OnOk result ((source : _) → flat_nest source self.new
+            ≡ flat_nest source self.old ++ doc_tokens (drop 3 text.now) span) }
+        ensures same_open { OnOk result (open_in self.new ≡ open_in self.old) }
     {
-        let nest = self.push(token::mark('#', false, span))?;
-        nest.push(token::doc(alloc, text, span)?)
+        self.push(token::mark('#', false, span))?;
+        self.push(token::doc(alloc, text, span)?)?;
+        Ok(())
     }
 
     /// Starts a group at `start`.
-    fn open(self, alloc: Global, delimiter: Delimiter, start: u32) -> Mem<Nest>
-        ensures flat { IfOk result (λ n. (source : _) → flat_nest source n
-            ≡ flat_nest source self ++ flat.opening delimiter (Some (source, start)) ∷ []) }
-        ensures one_more { IfOk result (λ n. open_in n ≡ delimiter ∷ open_in self) }
+    fn open(&mut self, alloc: Global, delimiter: Delimiter, start: u32) -> Mem<()>
+        ensures flat { OnOk result ((source : _) → flat_nest source self.new
+            ≡ flat_nest source self.old ++ flat.opening delimiter (Some (source, start)) ∷ []) }
+        ensures one_more { OnOk result (open_in self.new ≡ delimiter ∷ open_in self.old) }
     {
-        let Nest { mut frames, trees } = self;
-        frames.push(Frame {
+        let trees = std::mem::replace(&mut self.trees, Items::new(alloc));
+        self.frames.push(Frame {
             delimiter,
             start,
             trees,
         })?;
-        let trees = Items::new(alloc);
-        Ok(Nest { frames, trees })
+        Ok(())
     }
 
     /// Ends the innermost group, by a delimiter that stands from `start` to `end`.
     fn close(
-        self,
+        &mut self,
         source: u32,
         delimiter: Delimiter,
         start: u32,
         end: u32,
-    ) -> Result<Nest, LexError>
-        ensures flat { IfOk result (λ n. flat_nest source n
-            ≡ flat_nest source self ++ flat.closing delimiter (Some (source, end)) ∷ []) }
-        ensures was_top { IfOk result (λ n. is_top delimiter (open_in self) ≡ true) }
-        ensures one_less { IfOk result (λ n. open_in n ≡ drop 1 (open_in self)) }
-        ensures err { IfErr result (λ e. Cause e start ⊥ (is_top delimiter (open_in self) ≡ false)) }
+    ) -> Result<(), LexError>
+        ensures flat { OnOk result (flat_nest source self.new
+            ≡ flat_nest source self.old ++ flat.closing delimiter (Some (source, end)) ∷ []) }
+        ensures was_top { OnOk result (is_top delimiter (open_in self.old) ≡ true) }
+        ensures one_less { OnOk result (open_in self.new ≡ drop 1 (open_in self.old)) }
+        ensures err { IfErr result (λ e. Cause e start ⊥ (is_top delimiter (open_in self.old) ≡ false)) }
     {
-        let Nest { mut frames, trees } = self;
-        let Some(frame) = frames.pop() else {
+        let Some(frame) = self.frames.pop() else {
             return Err(LexError::Syntax { at: start });
         };
         if !same_delimiter(delimiter, frame.delimiter) {
             return Err(LexError::Syntax { at: start });
         }
-        let (opened, first, mut outer) = frame.into_parts();
+        let (opened, first, outer) = frame.into_parts();
         let span = Span::At {
             source,
             start: first,
             end,
         };
-        outer.push(token::group(opened, trees, span))?;
-        Ok(Nest {
-            frames,
-            trees: outer,
-        })
+        let trees = std::mem::replace(&mut self.trees, outer);
+        self.trees.push(token::group(opened, trees, span))?;
+        Ok(())
     }
 
     fn depth(&self) -> usize
@@ -169,42 +165,46 @@ impl Nest {
         }
     }
 
-    /// Adds the tokens of the piece of which `text` is kept, and that stands from `start` to `end`.
+    /// Adds the tokens of the piece of which `text` is kept, and that stands from `start` to `end`; `bytes` are
+    /// those of `text`, unless it documents.
     pub(crate) fn step(
-        self,
+        &mut self,
         alloc: Global,
         source: u32,
         kind: Kind,
         text: &[char],
+        bytes: &str,
         start: u32,
         end: u32,
-    ) -> Result<Nest, LexError>
-        ensures flat { IfOk result (λ n. flat_nest source n
-            ≡ flat_nest source self ++ token_of source kind text.now start end) }
-        ensures matched { IfOk result (λ n. open_after (token_of source kind text.now start end) (open_in self)
-            ≡ Some (open_in n)) }
-        ensures err { IfErr result (λ e. Cause e start (IsFull kind (open_in self)) (IsAmiss kind (open_in self))) }
+    ) -> Result<(), LexError>
+        requires { AreBytes kind bytes.now text.now }
+        ensures flat { OnOk result (flat_nest source self.new
+            ≡ flat_nest source self.old ++ token_of source kind text.now start end) }
+        ensures matched { OnOk result (open_after (token_of source kind text.now start end) (open_in self.old)
+            ≡ Some (open_in self.new)) }
+        ensures err { IfErr result (λ e. Cause e start (IsFull kind (open_in self.old)) (IsAmiss kind (open_in self.old))) }
     {
         let span = Span::At { source, start, end };
         match kind {
-            Kind::White | Kind::Comment => Ok(self),
+            Kind::White | Kind::Comment => {}
             Kind::Doc => {
                 if self.depth() >= MAX_OPEN {
                     return Err(LexError::TooDeep { at: start });
                 }
-                Ok(self.push_doc(alloc, text, span)?)
+                self.push_doc(alloc, text, span)?;
             }
-            Kind::Ident | Kind::RawIdent => Ok(self.push(token::ident(alloc, text, span)?)?),
-            Kind::Lifetime => Ok(self.push(token::lifetime(alloc, text, span)?)?),
-            Kind::Mark { joint } => Ok(self.push(token::punct(text, joint, span))?),
-            Kind::Literal => Ok(self.push(token::literal(alloc, text, span)?)?),
+            Kind::Ident | Kind::RawIdent => self.push(token::ident(alloc, text, bytes, span)?)?,
+            Kind::Lifetime => self.push(token::lifetime(alloc, text, span)?)?,
+            Kind::Mark { joint } => self.push(token::punct(text, joint, span))?,
+            Kind::Literal => self.push(token::literal(alloc, bytes, span)?)?,
             Kind::Open(delimiter) => {
                 if self.depth() >= MAX_OPEN {
                     return Err(LexError::TooDeep { at: start });
                 }
-                Ok(self.open(alloc, delimiter, start)?)
+                self.open(alloc, delimiter, start)?;
             }
-            Kind::Close(delimiter) => self.close(source, delimiter, start, end),
+            Kind::Close(delimiter) => self.close(source, delimiter, start, end)?,
         }
+        Ok(())
     }
 }

@@ -1,6 +1,6 @@
 //! From a text to its tokens.
 
-ghost use Rattle.std.specs.Prelude.{◌≡◌, ◌≤◌, ℕ, length, IfOk, IfErr, Ok, Err};
+ghost use Rattle.std.specs.Prelude.{◌≡◌, ◌≤◌, ℕ, true, length, drop, vec_len, IfOk, IfErr, Ok, Err};
 ghost use Rattle.std.specs.Str.{chars, encode_utf8_all};
 ghost use Rattle.tok_core.specs.Endings.{Answers, Closes, EndsAt, IsWithin, Refused, deep, wrong};
 ghost use Rattle.tok_core.specs.Spells as spec;
@@ -9,8 +9,8 @@ ghost use Rattle.tok_types.specs.declared.tree.TokenStream.{TokenStream};
 
 use crate::error::LexError;
 use crate::nest::Nest;
-use std::alloc::Global;
-use tok_scan::{Kind, behind, byte_length, characters, closings, piece_with};
+use std::alloc::{AllocError, Global};
+use tok_scan::{Kind, at, behind, byte_length, characters, closings, piece_with, rest};
 use tok_types::TokenStream;
 
 /// What the tokens of a piece keep of its characters where `after` follows: all, but of a
@@ -34,27 +34,100 @@ fn without_return(text: &[char]) -> &[char]
     }
 }
 
-fn read(alloc: Global, source: u32, text: &[char]) -> Result<TokenStream, LexError>
-    requires { length (encode_utf8_all text.now) ≤ MAX_LEN }
-    ensures spelled { IfOk result (Spells source text.now) }
-    ensures closed { IfOk result Closes }
-    ensures err { IfErr result (Refused source text.now) }
+/// Whether these characters may begin a raw string that was looked for in vain.
+fn may_be_open(front: &[char], after: &[char]) -> bool {
+    match front {
+        ['r'] | ['b', 'r'] => at(after, 0) == '#',
+        _ => false,
+    }
+}
+
+/// How many characters are read at least before their room is given back.
+const FEW: usize = 65_536;
+
+/// Drops the characters that are read, if they are many, and gives their room back. The answer is where the rest
+/// begins then.
+fn give_back(characters: &mut Vec<char>, read: usize) -> usize
+    requires { read ≤ vec_len characters.old }
+    ensures rest { drop result characters.new.items ≡ drop read characters.old.items }
+    ensures within { result ≤ vec_len characters.new }
 {
-    let closings = closings(alloc, text)?;
-    let mut known = closings.as_slice();
-    let mut rest = text;
+    if read < FEW || read < characters.len() / 3 {
+        return read;
+    }
+    let left = characters.len() - read;
+    characters.copy_within(read.., 0);
+    characters.truncate(left);
+    characters.shrink_to_fit();
+    0
+}
+
+/// The characters of a text. Of one that is plain they are its bytes, which takes less work.
+fn characters_of(alloc: Global, text: &str) -> Result<Vec<char>, AllocError>
+    ensures value { IfOk result (λ v. v.items ≡ chars text.now) }
+    ensures bytes { IfOk result (λ v. encode_utf8_all v.items ≡ text.now) }
+{
+    let mut plain = Vec::with_capacity(alloc, text.len())?;
+    for byte in text.as_bytes() {
+        if !byte.is_ascii() {
+            drop(plain);
+            return characters(alloc, text);
+        }
+        plain.push_reserved(*byte as char);
+    }
+    Ok(plain)
+}
+
+/// How many bytes the characters take. In a plain text each takes one.
+fn bytes_of(plain: bool, characters: &[char]) -> usize
+    requires { plain ≡ true → length (encode_utf8_all characters.now) ≡ length characters.now }
+    ensures { result ≡ length (encode_utf8_all characters.now) }
+{
+    if plain {
+        characters.len()
+    } else {
+        byte_length(characters)
+    }
+}
+
+// Where raw strings end is not known until one is looked for in vain: then it is looked up for all that follows.
+fn read(
+    alloc: Global,
+    source: u32,
+    text: &str,
+    characters: Vec<char>,
+) -> Result<TokenStream, LexError>
+    requires few { length text.now ≤ MAX_LEN }
+    requires same { encode_utf8_all characters.items ≡ text.now }
+    ensures spelled { IfOk result (Spells source characters.items) }
+    ensures closed { IfOk result Closes }
+    ensures err { IfErr result (Refused source characters.items) }
+{
+    let plain = characters.len() == text.len();
+    let mut unread = characters;
+    let mut start = 0;
+    let mut known = Vec::new(alloc);
+    let mut passed = 0;
+    let mut left = text;
     let mut at = 0u32;
     let mut nest = Nest::new(alloc);
-    while !rest.is_empty() {
-        let Some(found) = piece_with(rest, known) else {
+    while start < unread.len() {
+        let rest = rest(unread.as_slice(), start);
+        let Some(found) = piece_with(rest, behind(known.as_slice(), passed)) else {
             return Err(LexError::Syntax { at });
         };
         let (front, after) = rest.split_at(found.length);
-        let end = at + byte_length(front) as u32;
+        let (bytes, more) = left.split_at(bytes_of(plain, front));
+        let end = at + bytes.len() as u32;
         let text = kept(found.kind, front, after);
-        nest = nest.step(alloc, source, found.kind, text, at, end)?;
-        known = behind(known, found.length);
-        rest = after;
+        nest.step(alloc, source, found.kind, text, bytes, at, end)?;
+        passed += found.length;
+        if known.is_empty() && may_be_open(front, after) {
+            known = closings(alloc, after)?;
+            passed = 0;
+        }
+        start = give_back(&mut unread, start + found.length);
+        left = more;
         at = end;
     }
     nest.finish(at)
@@ -83,6 +156,6 @@ pub fn lex(alloc: Global, source: u32, text: &str) -> Result<TokenStream, LexErr
     ensures syntax { (at : ℕ) → EndsAt source (chars text.now) at wrong
         → Answers result (Err (LexError.Syntax at)) }
 {
-    let characters = characters(alloc, text)?;
-    read(alloc, source, characters.as_slice())
+    let characters = characters_of(alloc, text)?;
+    read(alloc, source, text, characters)
 }

@@ -29,10 +29,20 @@ fn ident_of(alloc: Global, characters: &[char], span: Span) -> Mem<Ident>
     }
 }
 
-pub(crate) fn ident(alloc: Global, characters: &[char], span: Span) -> Mem<TokenTree>
+/// The same, of characters with these bytes.
+pub(crate) fn ident(alloc: Global, characters: &[char], bytes: &str, span: Span) -> Mem<TokenTree>
+    requires { bytes.now ≡ encode_utf8_all characters.now }
     ensures { IfOk result (λ t. flat_tree t ≡ flat.token (flat.ident (ident_of characters.now span)) ∷ []) }
 {
-    Ok(TokenTree::Ident(ident_of(alloc, characters, span)?))
+    let ident = match characters {
+        ['r', '#', raw @ ..] => name(alloc, raw, true, span)?,
+        _ => Ident {
+            text: Text::from_str(alloc, bytes)?,
+            raw: false,
+            span,
+        },
+    };
+    Ok(TokenTree::Ident(ident))
 }
 
 /// The lifetime that is written so, with its `'`.
@@ -51,11 +61,11 @@ fn from(characters: &[char], first: usize) -> &[char]
     characters.get(first..).unwrap_or(&[])
 }
 
-pub(crate) fn literal(alloc: Global, characters: &[char], span: Span) -> Mem<TokenTree>
+pub(crate) fn literal(alloc: Global, text: &str, span: Span) -> Mem<TokenTree>
     ensures { IfOk result (λ t. flat_tree t
-        ≡ flat.token (flat.literal (record { text = encode_utf8_all characters.now; span = span })) ∷ []) }
+        ≡ flat.token (flat.literal (record { text = text.now; span = span })) ∷ []) }
 {
-    let text = Text::from_string(tok_scan::text_of(alloc, characters)?);
+    let text = Text::from_str(alloc, text)?;
     Ok(TokenTree::Literal(Literal { text, span }))
 }
 

@@ -1,4 +1,4 @@
-use Rattle.std.proofs.Common.{◌≡◌, List, ℕ, chars, sym, ◌∙◌, subst}
+use Rattle.std.proofs.Common.{◌≡◌, List, ℕ, chars, sym, subst}
 use Rattle.tok_core.specs.Endings.{EndsAt, deep, wrong}
 use Rattle.tok_core.specs.Spells.{Spells}
 use Rattle.tok_core.proofs.Outcomes.{only, only_deep, only_wrong, closed_within}
@@ -9,18 +9,18 @@ returns-clause-within c = closed_within c.read.result c.read.ensures.closed
 
 pub returns-clause-only : goal.returns-clause-only
 returns-clause-only c s h w =
-    let e : c.as_slice.result.now ≡ chars c.args.text.now = c.as_slice.ensures.value ∙ c.in_ok-characters.ensures.value in
+    let e : c.in_ok-characters.characters.items ≡ chars c.args.text.now = c.in_ok-characters.ensures.value in
     let P : List ℕ → Type 0 = λ text. Spells c.args.source text s in
-    only c.args.source c.as_slice.result.now s c.read.result c.read.ensures.spelled c.read.ensures.err (subst P (sym e) h) w
+    only c.args.source c.in_ok-characters.characters.items s c.read.result c.read.ensures.spelled c.read.ensures.err (subst P (sym e) h) w
 
 pub returns-clause-too_deep : goal.returns-clause-too_deep
 returns-clause-too_deep c at h =
-    let e : c.as_slice.result.now ≡ chars c.args.text.now = c.as_slice.ensures.value ∙ c.in_ok-characters.ensures.value in
+    let e : c.in_ok-characters.characters.items ≡ chars c.args.text.now = c.in_ok-characters.ensures.value in
     let P : List ℕ → Type 0 = λ text. EndsAt c.args.source text at deep in
-    only_deep c.args.source c.as_slice.result.now at c.read.result c.read.ensures.spelled c.read.ensures.closed c.read.ensures.err (subst P (sym e) h)
+    only_deep c.args.source c.in_ok-characters.characters.items at c.read.result c.read.ensures.spelled c.read.ensures.closed c.read.ensures.err (subst P (sym e) h)
 
 pub returns-clause-syntax : goal.returns-clause-syntax
 returns-clause-syntax c at h =
-    let e : c.as_slice.result.now ≡ chars c.args.text.now = c.as_slice.ensures.value ∙ c.in_ok-characters.ensures.value in
+    let e : c.in_ok-characters.characters.items ≡ chars c.args.text.now = c.in_ok-characters.ensures.value in
     let P : List ℕ → Type 0 = λ text. EndsAt c.args.source text at wrong in
-    only_wrong c.args.source c.as_slice.result.now at c.read.result c.read.ensures.spelled c.read.ensures.closed c.read.ensures.err (subst P (sym e) h)
+    only_wrong c.args.source c.in_ok-characters.characters.items at c.read.result c.read.ensures.spelled c.read.ensures.closed c.read.ensures.err (subst P (sym e) h)
