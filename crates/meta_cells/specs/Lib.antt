@@ -1,0 +1,4 @@
+pub mod Cells
+pub mod Groups
+pub mod Dispatch
+pub mod Places
