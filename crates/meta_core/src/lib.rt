@@ -1,9 +1,21 @@
-//! The lists in attributes, as darling_core::ast: what callers need of them, under one name.
+//! Attributes, as `darling_core::ast` and `darling_core::FromMeta`.
+//!
+//! [`NestedMeta`] is an item of the list in an attribute. [`FromMeta`] reads a type from one; a type of one's own writes
+//! its [`cell`](FromMeta::cell)s, and many types of std and of syntax are read so here.
 #![tactic(auto)]
 
-pub use error_core::Error;
+mod from_meta;
+mod rows;
+
+pub use error_core::{Error, Fail, Result, Spanned};
+pub use from_meta::FromMeta;
+pub use meta_cells::Call;
 pub use meta_nested::{MetaNameValueInvalidExpr, NestedMeta};
 pub use node_core::{
-    Expr, Items, Lit, Mem, Meta, Path, Span, SynError, TokenStream, TryClone, path_to_string,
+    Boxed, Comma, Expr, ExprArray, ExprPath, ExprRange, FnArg, Ident, Items, Lit, LitBool, LitByte,
+    LitByteStr, LitChar, LitFloat, LitInt, LitStr, Mem, Meta, MetaList, MetaNameValue, Path,
+    Punctuated, Span, SynError, Text, TokenStream, TryClone, Type, TypeArray, TypeFnPtr, TypeGroup,
+    TypeImplTrait, TypeInfer, TypeNever, TypeParam, TypeParen, TypePath, TypePtr, TypeReference,
+    TypeSlice, TypeTraitObject, TypeTuple, Visibility, WhereClause, WherePredicate, path_to_string,
 };
 pub use syn_core::{Parse, ParseFail};

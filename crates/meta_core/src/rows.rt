@@ -1,0 +1,13 @@
+//! The types that are read: one implementation a row of the conversions.
+
+mod literals;
+mod name_lists;
+mod non_zero_signed;
+mod non_zero_unsigned;
+mod signed;
+mod syntax;
+mod types;
+mod unsigned;
+mod vectors;
+mod words;
+mod wrappers;
