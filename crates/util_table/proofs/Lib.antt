@@ -1,0 +1,5 @@
+mod Words
+mod FirstPlaces
+mod Adding
+mod Lines
+mod Looking
