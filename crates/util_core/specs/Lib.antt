@@ -1,0 +1,10 @@
+pub mod Attributes
+pub mod Callable
+pub mod Exprs
+pub mod Flag
+pub mod Override
+pub use Rattle.meta_core.specs.Answers
+pub use Rattle.meta_core.specs.Cells
+pub use Rattle.meta_core.specs.Dispatch
+pub use Rattle.meta_core.specs.Outcome
+pub use Rattle.util_table.specs.Table

@@ -1,0 +1,51 @@
+//! What an attribute lists.
+
+ghost use Rattle.std.specs.Prelude.{◌≡◌, ◌++◌, IfOk, OnOk};
+ghost use Rattle.error_core.specs.ErrorView.{One};
+ghost use Rattle.meta_core.specs.Answers.{Answers};
+ghost use Rattle.util_core.specs.Attributes as spec;
+
+use meta_core::{
+    Error, Fail, Items, Mem, Meta, MetaList, MetaNameValue, Path, Result, Text, TokenStream,
+    TryClone, path_to_string,
+};
+use node_core::{Attribute, Delimiter};
+use std::alloc::Global;
+
+/// The list that the attribute holds. A word is an empty list, and a value is a fault.
+pub fn parse_attribute_to_meta_list(alloc: Global, attr: &Attribute) -> Result<MetaList>
+    ensures { Answers (λ it. it) result (spec.meta_list_of attr.now) }
+{
+    match &attr.meta {
+        Meta::List(list) => Ok(list.try_clone(alloc)?),
+        Meta::NameValue(pair) => Err(Fail::Faults(name_value(alloc, pair)?)),
+        Meta::Path(path) => Ok(MetaList {
+            path: path.try_clone(alloc)?,
+            delimiter: Delimiter::Parenthesis,
+            tokens: TokenStream {
+                trees: Items::new(alloc),
+            },
+            span: attr.span,
+        }),
+    }
+}
+
+fn name_value(alloc: Global, pair: &MetaNameValue) -> Mem<Error>
+    ensures { IfOk result (λ error. error ≡ One (spec.name_value pair.now)) }
+{
+    let mut text = Text::from_str(alloc, "Name-value arguments are not supported. Use #[")?;
+    push_path(alloc, &mut text, &pair.path)?;
+    text.push_str("(...)]")?;
+    Ok(Error::custom(alloc, text.as_str())?.with_span_at(pair.span))
+}
+
+/// Puts the path's text behind what stands there, with the `::` that it may begin with.
+fn push_path(alloc: Global, text: &mut Text, path: &Path) -> Mem<()>
+    ensures { OnOk result (text.new ≡ text.old ++ spec.full_path_text path.now) }
+{
+    if path.leading_colon {
+        text.push_str("::")?;
+    }
+    text.push_str(path_to_string(alloc, path)?.as_str())?;
+    Ok(())
+}
