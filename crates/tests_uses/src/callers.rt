@@ -3,11 +3,12 @@
 ghost use Rattle.std.specs.Prelude.{◌≤◌, length};
 
 use error_core::Fail;
+use meta_core::NestedMeta;
 use std::alloc::Global;
 use std::{result, test};
 use syn_core::{Data, Field, Fields, Items, parse_path};
 use tok_core::{MAX_LEN, TryClone, lex, to_text};
-use uses::{doc_of, fields_of, item_of, named_fields, printed_as};
+use uses::{doc_of, fields_of, item_of, named_fields, printed_as, verbosity_of};
 
 type Tested<T> = result::Result<T, test::Fail>;
 
@@ -97,4 +98,39 @@ fn each_field_without_a_name_is_a_fault(rt: HostRuntime) -> Tested<()> {
             Ok(())
         }
     }
+}
+
+/// The level that the one item of a list asks for, or the number of its faults.
+fn level(alloc: Global, text: &str) -> Tested<result::Result<u8, usize>> {
+    if text.len() > MAX_LEN {
+        return Err(refused());
+    }
+    let Ok(tokens) = lex(alloc, 0, text) else {
+        return Err(refused());
+    };
+    let Ok(items) = NestedMeta::parse_meta_list(alloc, &tokens) else {
+        return Err(refused());
+    };
+    let [item] = items.as_slice() else {
+        return Err(refused());
+    };
+    match verbosity_of(alloc, item) {
+        Ok(verbosity) => Ok(Ok(verbosity.level)),
+        Err(fail) => match fail.into_error() {
+            Some(error) => Ok(Err(error.len())),
+            None => Err(refused()),
+        },
+    }
+}
+
+#[test]
+fn a_type_of_its_own_is_read(rt: HostRuntime) -> Tested<()> {
+    let alloc = rt.alloc();
+    assert!(rt; level(alloc, "verbose")? == Ok(1));
+    assert!(rt; level(alloc, "verbose = 3")? == Ok(3));
+    assert!(rt; level(alloc, "verbose = \"quiet\"")? == Ok(0));
+    assert!(rt; level(alloc, "verbose = \"loud\"")? == Err(1));
+    assert!(rt; level(alloc, "verbose = 300")? == Err(1));
+    assert!(rt; level(alloc, "verbose(3)")? == Err(1));
+    Ok(())
 }

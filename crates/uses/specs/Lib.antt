@@ -1,3 +1,4 @@
 pub mod Fields
 pub mod Faults
 pub mod Attributes
+pub mod Verbosity

@@ -5,8 +5,10 @@ mod attribute;
 mod fail;
 mod faults;
 mod fields;
+mod verbosity;
 
 pub use attribute::{doc_of, printed_as, rename};
 pub use fail::TextFail;
 pub use faults::named_fields;
 pub use fields::{fields_of, item_of, names_of};
+pub use verbosity::{Verbosity, verbosity_of};
