@@ -1,0 +1,144 @@
+//! Integers: what a literal and a string are at each, their bounds and one beyond each.
+
+use crate::asked::rows;
+use crate::every::EVERY;
+use tests_checks::Tested;
+
+// A minus is no digit, not before zero either.
+const UNSIGNED: &str = r#"a = -0 => 4..6 invalid digit found in string;
+a = -1 => 4..6 invalid digit found in string;
+a = "-0" => 4..8 Unknown value: `-0`;
+a = "-1" => 4..8 Unknown value: `-1`;"#;
+
+// A minus is read.
+const SIGNED: &str = r#"a = -1 => -1
+a = "-1" => -1
+a = -0 => 0
+a = "-0" => 0"#;
+
+// Zero is a value.
+const ZERO: &str = r#"a = 0 => 0
+a = "0" => 0"#;
+
+const U8: &str = r#"a = 255 => 255
+a = "255" => 255
+a = 256 => 4..7 number too large to fit in target type;
+a = "256" => 4..9 Unknown value: `256`;"#;
+
+const U16: &str = r#"a = 65535 => 65535
+a = "65535" => 65535
+a = 65536 => 4..9 number too large to fit in target type;
+a = "65536" => 4..11 Unknown value: `65536`;"#;
+
+const U32: &str = r#"a = 4294967295 => 4294967295
+a = "4294967295" => 4294967295
+a = 4294967296 => 4..14 number too large to fit in target type;
+a = "4294967296" => 4..16 Unknown value: `4294967296`;"#;
+
+const U64: &str = r#"a = 18446744073709551615 => 18446744073709551615
+a = "18446744073709551615" => 18446744073709551615
+a = 18446744073709551616 => 4..24 number too large to fit in target type;
+a = "18446744073709551616" => 4..26 Unknown value: `18446744073709551616`;"#;
+
+const U128: &str =
+    r#"a = 340282366920938463463374607431768211455 => 340282366920938463463374607431768211455
+a = "340282366920938463463374607431768211455" => 340282366920938463463374607431768211455
+a = "340282366920938463463374607431768211456" => 4..45 Unknown value: `340282366920938463463374607431768211456`;"#;
+
+const USIZE: &str = r#"a = 18446744073709551615 => 18446744073709551615
+a = "18446744073709551615" => 18446744073709551615
+a = 18446744073709551616 => 4..24 number too large to fit in target type;
+a = "18446744073709551616" => 4..26 Unknown value: `18446744073709551616`;"#;
+
+const I8: &str = r#"a = 127 => 127
+a = "127" => 127
+a = 128 => 4..7 number too large to fit in target type;
+a = "128" => 4..9 Unknown value: `128`;
+a = -128 => -128
+a = "-128" => -128
+a = -129 => 4..8 number too small to fit in target type;
+a = "-129" => 4..10 Unknown value: `-129`;"#;
+
+const I16: &str = r#"a = 32767 => 32767
+a = "32767" => 32767
+a = 32768 => 4..9 number too large to fit in target type;
+a = "32768" => 4..11 Unknown value: `32768`;
+a = -32768 => -32768
+a = "-32768" => -32768
+a = -32769 => 4..10 number too small to fit in target type;
+a = "-32769" => 4..12 Unknown value: `-32769`;"#;
+
+const I32: &str = r#"a = 2147483647 => 2147483647
+a = "2147483647" => 2147483647
+a = 2147483648 => 4..14 number too large to fit in target type;
+a = "2147483648" => 4..16 Unknown value: `2147483648`;
+a = -2147483648 => -2147483648
+a = "-2147483648" => -2147483648
+a = -2147483649 => 4..15 number too small to fit in target type;
+a = "-2147483649" => 4..17 Unknown value: `-2147483649`;"#;
+
+const I64: &str = r#"a = 9223372036854775807 => 9223372036854775807
+a = "9223372036854775807" => 9223372036854775807
+a = 9223372036854775808 => 4..23 number too large to fit in target type;
+a = "9223372036854775808" => 4..25 Unknown value: `9223372036854775808`;
+a = -9223372036854775808 => -9223372036854775808
+a = "-9223372036854775808" => -9223372036854775808
+a = -9223372036854775809 => 4..24 number too small to fit in target type;
+a = "-9223372036854775809" => 4..26 Unknown value: `-9223372036854775809`;"#;
+
+const I128: &str =
+    r#"a = 170141183460469231731687303715884105727 => 170141183460469231731687303715884105727
+a = "170141183460469231731687303715884105727" => 170141183460469231731687303715884105727
+a = 170141183460469231731687303715884105728 => 4..43 number too large to fit in target type;
+a = "170141183460469231731687303715884105728" => 4..45 Unknown value: `170141183460469231731687303715884105728`;
+a = -170141183460469231731687303715884105728 => -170141183460469231731687303715884105728
+a = "-170141183460469231731687303715884105728" => -170141183460469231731687303715884105728
+a = -170141183460469231731687303715884105729 => 4..44 number too small to fit in target type;
+a = "-170141183460469231731687303715884105729" => 4..46 Unknown value: `-170141183460469231731687303715884105729`;"#;
+
+const ISIZE: &str = r#"a = 9223372036854775807 => 9223372036854775807
+a = "9223372036854775807" => 9223372036854775807
+a = 9223372036854775808 => 4..23 number too large to fit in target type;
+a = "9223372036854775808" => 4..25 Unknown value: `9223372036854775808`;
+a = -9223372036854775808 => -9223372036854775808
+a = "-9223372036854775808" => -9223372036854775808
+a = -9223372036854775809 => 4..24 number too small to fit in target type;
+a = "-9223372036854775809" => 4..26 Unknown value: `-9223372036854775809`;"#;
+
+#[test]
+fn unsigned_integers(rt: HostRuntime) -> Tested<()> {
+    let alloc = rt.alloc();
+    for table in [EVERY, UNSIGNED, ZERO] {
+        rows::<u8>(alloc, table)?;
+        rows::<u16>(alloc, table)?;
+        rows::<u32>(alloc, table)?;
+        rows::<u64>(alloc, table)?;
+        rows::<u128>(alloc, table)?;
+        rows::<usize>(alloc, table)?;
+    }
+    rows::<u8>(alloc, U8)?;
+    rows::<u16>(alloc, U16)?;
+    rows::<u32>(alloc, U32)?;
+    rows::<u64>(alloc, U64)?;
+    rows::<u128>(alloc, U128)?;
+    rows::<usize>(alloc, USIZE)
+}
+
+#[test]
+fn signed_integers(rt: HostRuntime) -> Tested<()> {
+    let alloc = rt.alloc();
+    for table in [EVERY, SIGNED, ZERO] {
+        rows::<i8>(alloc, table)?;
+        rows::<i16>(alloc, table)?;
+        rows::<i32>(alloc, table)?;
+        rows::<i64>(alloc, table)?;
+        rows::<i128>(alloc, table)?;
+        rows::<isize>(alloc, table)?;
+    }
+    rows::<i8>(alloc, I8)?;
+    rows::<i16>(alloc, I16)?;
+    rows::<i32>(alloc, I32)?;
+    rows::<i64>(alloc, I64)?;
+    rows::<i128>(alloc, I128)?;
+    rows::<isize>(alloc, ISIZE)
+}

@@ -1,0 +1,148 @@
+//! Integers that are not zero: their bounds and one beyond each, and zero.
+
+use crate::asked::rows;
+use crate::every::EVERY;
+use std::num::{
+    NonZeroI8, NonZeroI16, NonZeroI32, NonZeroI64, NonZeroI128, NonZeroIsize, NonZeroU8,
+    NonZeroU16, NonZeroU32, NonZeroU64, NonZeroU128, NonZeroUsize,
+};
+use tests_checks::Tested;
+
+// A minus is no digit, not before zero either.
+const UNSIGNED: &str = r#"a = -0 => 4..6 invalid digit found in string;
+a = -1 => 4..6 invalid digit found in string;
+a = "-0" => 4..8 Unknown value: `-0`;
+a = "-1" => 4..8 Unknown value: `-1`;"#;
+
+// A minus is read.
+const SIGNED: &str = r#"a = -1 => -1
+a = "-1" => -1
+a = -0 => 4..6 number would be zero for non-zero type;
+a = "-0" => 4..8 Unknown value: `-0`;"#;
+
+// Zero is no value.
+const ZERO: &str = r#"a = 0 => 4..5 number would be zero for non-zero type;
+a = "0" => 4..7 Unknown value: `0`;"#;
+
+const NON_ZERO_U8: &str = r#"a = 255 => 255
+a = "255" => 255
+a = 256 => 4..7 number too large to fit in target type;
+a = "256" => 4..9 Unknown value: `256`;"#;
+
+const NON_ZERO_U16: &str = r#"a = 65535 => 65535
+a = "65535" => 65535
+a = 65536 => 4..9 number too large to fit in target type;
+a = "65536" => 4..11 Unknown value: `65536`;"#;
+
+const NON_ZERO_U32: &str = r#"a = 4294967295 => 4294967295
+a = "4294967295" => 4294967295
+a = 4294967296 => 4..14 number too large to fit in target type;
+a = "4294967296" => 4..16 Unknown value: `4294967296`;"#;
+
+const NON_ZERO_U64: &str = r#"a = 18446744073709551615 => 18446744073709551615
+a = "18446744073709551615" => 18446744073709551615
+a = 18446744073709551616 => 4..24 number too large to fit in target type;
+a = "18446744073709551616" => 4..26 Unknown value: `18446744073709551616`;"#;
+
+const NON_ZERO_U128: &str =
+    r#"a = 340282366920938463463374607431768211455 => 340282366920938463463374607431768211455
+a = "340282366920938463463374607431768211455" => 340282366920938463463374607431768211455
+a = "340282366920938463463374607431768211456" => 4..45 Unknown value: `340282366920938463463374607431768211456`;"#;
+
+const NON_ZERO_USIZE: &str = r#"a = 18446744073709551615 => 18446744073709551615
+a = "18446744073709551615" => 18446744073709551615
+a = 18446744073709551616 => 4..24 number too large to fit in target type;
+a = "18446744073709551616" => 4..26 Unknown value: `18446744073709551616`;"#;
+
+const NON_ZERO_I8: &str = r#"a = 127 => 127
+a = "127" => 127
+a = 128 => 4..7 number too large to fit in target type;
+a = "128" => 4..9 Unknown value: `128`;
+a = -128 => -128
+a = "-128" => -128
+a = -129 => 4..8 number too small to fit in target type;
+a = "-129" => 4..10 Unknown value: `-129`;"#;
+
+const NON_ZERO_I16: &str = r#"a = 32767 => 32767
+a = "32767" => 32767
+a = 32768 => 4..9 number too large to fit in target type;
+a = "32768" => 4..11 Unknown value: `32768`;
+a = -32768 => -32768
+a = "-32768" => -32768
+a = -32769 => 4..10 number too small to fit in target type;
+a = "-32769" => 4..12 Unknown value: `-32769`;"#;
+
+const NON_ZERO_I32: &str = r#"a = 2147483647 => 2147483647
+a = "2147483647" => 2147483647
+a = 2147483648 => 4..14 number too large to fit in target type;
+a = "2147483648" => 4..16 Unknown value: `2147483648`;
+a = -2147483648 => -2147483648
+a = "-2147483648" => -2147483648
+a = -2147483649 => 4..15 number too small to fit in target type;
+a = "-2147483649" => 4..17 Unknown value: `-2147483649`;"#;
+
+const NON_ZERO_I64: &str = r#"a = 9223372036854775807 => 9223372036854775807
+a = "9223372036854775807" => 9223372036854775807
+a = 9223372036854775808 => 4..23 number too large to fit in target type;
+a = "9223372036854775808" => 4..25 Unknown value: `9223372036854775808`;
+a = -9223372036854775808 => -9223372036854775808
+a = "-9223372036854775808" => -9223372036854775808
+a = -9223372036854775809 => 4..24 number too small to fit in target type;
+a = "-9223372036854775809" => 4..26 Unknown value: `-9223372036854775809`;"#;
+
+const NON_ZERO_I128: &str =
+    r#"a = 170141183460469231731687303715884105727 => 170141183460469231731687303715884105727
+a = "170141183460469231731687303715884105727" => 170141183460469231731687303715884105727
+a = 170141183460469231731687303715884105728 => 4..43 number too large to fit in target type;
+a = "170141183460469231731687303715884105728" => 4..45 Unknown value: `170141183460469231731687303715884105728`;
+a = -170141183460469231731687303715884105728 => -170141183460469231731687303715884105728
+a = "-170141183460469231731687303715884105728" => -170141183460469231731687303715884105728
+a = -170141183460469231731687303715884105729 => 4..44 number too small to fit in target type;
+a = "-170141183460469231731687303715884105729" => 4..46 Unknown value: `-170141183460469231731687303715884105729`;"#;
+
+const NON_ZERO_ISIZE: &str = r#"a = 9223372036854775807 => 9223372036854775807
+a = "9223372036854775807" => 9223372036854775807
+a = 9223372036854775808 => 4..23 number too large to fit in target type;
+a = "9223372036854775808" => 4..25 Unknown value: `9223372036854775808`;
+a = -9223372036854775808 => -9223372036854775808
+a = "-9223372036854775808" => -9223372036854775808
+a = -9223372036854775809 => 4..24 number too small to fit in target type;
+a = "-9223372036854775809" => 4..26 Unknown value: `-9223372036854775809`;"#;
+
+#[test]
+fn unsigned_integers_but_zero(rt: HostRuntime) -> Tested<()> {
+    let alloc = rt.alloc();
+    for table in [EVERY, UNSIGNED, ZERO] {
+        rows::<NonZeroU8>(alloc, table)?;
+        rows::<NonZeroU16>(alloc, table)?;
+        rows::<NonZeroU32>(alloc, table)?;
+        rows::<NonZeroU64>(alloc, table)?;
+        rows::<NonZeroU128>(alloc, table)?;
+        rows::<NonZeroUsize>(alloc, table)?;
+    }
+    rows::<NonZeroU8>(alloc, NON_ZERO_U8)?;
+    rows::<NonZeroU16>(alloc, NON_ZERO_U16)?;
+    rows::<NonZeroU32>(alloc, NON_ZERO_U32)?;
+    rows::<NonZeroU64>(alloc, NON_ZERO_U64)?;
+    rows::<NonZeroU128>(alloc, NON_ZERO_U128)?;
+    rows::<NonZeroUsize>(alloc, NON_ZERO_USIZE)
+}
+
+#[test]
+fn signed_integers_but_zero(rt: HostRuntime) -> Tested<()> {
+    let alloc = rt.alloc();
+    for table in [EVERY, SIGNED, ZERO] {
+        rows::<NonZeroI8>(alloc, table)?;
+        rows::<NonZeroI16>(alloc, table)?;
+        rows::<NonZeroI32>(alloc, table)?;
+        rows::<NonZeroI64>(alloc, table)?;
+        rows::<NonZeroI128>(alloc, table)?;
+        rows::<NonZeroIsize>(alloc, table)?;
+    }
+    rows::<NonZeroI8>(alloc, NON_ZERO_I8)?;
+    rows::<NonZeroI16>(alloc, NON_ZERO_I16)?;
+    rows::<NonZeroI32>(alloc, NON_ZERO_I32)?;
+    rows::<NonZeroI64>(alloc, NON_ZERO_I64)?;
+    rows::<NonZeroI128>(alloc, NON_ZERO_I128)?;
+    rows::<NonZeroIsize>(alloc, NON_ZERO_ISIZE)
+}
