@@ -1,13 +1,18 @@
 #!/bin/sh
-# Measures the lexer or the parsers on long texts: `bench/run.sh lex` or `bench/run.sh parse`; words behind it choose
-# the workloads.
+# Measures the lexer or the parsers on long texts: `bench/run.sh lex` or `bench/run.sh parse`, or this side beside
+# proc_macro2, syn and the derive of darling: `bench/run.sh beside`. Words behind it choose the workloads.
 # `lex`: the processor seconds of a whole run for 1, 4 and 16 MB of each workload, and the peak memory. `parse`: the
 # processor seconds that a MB takes, to lex the text and to parse its tokens (a run that parses less a run that
 # lexes), the peak memory at 16 MB, and what the parser answers there.
 # A text is read as often as makes 16 MB, and the mean counts: a run of 1 MB is too short to be told by itself.
-# Run it at the top of the repository, after the program is built: (cd crates/bench && rt run)
+# `beside`: both sides in turn, each with spans: the least processor seconds of whole runs (TURNS of them, else five),
+# the peak memory, and ours through theirs. The other side is built from bench/beside, which needs cargo and Debian's packages.
+# The programs are built before, by (cd crates/bench && rt run) and ./darling --build; BENCH and DARLING name others.
 set -e
-program="$(dirname "$0")/../crates/bench/out/bench"
+top="$(cd "$(dirname "$0")/.." && pwd)"
+program="${BENCH:-$top/crates/bench/out/bench}"
+tool="${DARLING:-$top/crates/darling/out/darling}"
+other="$top/bench/beside/target/release"
 kept="$(mktemp -d)"
 trap 'rm -rf "$kept"' EXIT
 
@@ -61,9 +66,74 @@ parsers() {
     done
 }
 
+build_other() {
+    if ! command -v cargo >/dev/null; then
+        echo 'bench/run.sh beside: cargo is missing' >&2
+        exit 2
+    fi
+    if ! (cd "$top/bench/beside" && cargo build --release --offline --quiet); then
+        echo 'bench/run.sh beside: the other side is not built. It needs these packages of Debian:' >&2
+        echo 'apt-get install librust-syn-dev librust-proc-macro2-dev librust-darling-dev librust-strsim-dev' >&2
+        exit 2
+    fi
+}
+
+# 20,000 items behind a declaration, every other one with two faults.
+subjects() {
+    sed '/^%%/q' "$top/examples/first.txt"
+    yes '#[my(name = "a")] struct S { a: A, b: B }
+#[my(name = "a", name = "b", nom = "c")] enum E { A, B(C) }' | head -n 20000
+}
+
+# A line `SECONDS KILOBYTES` for one run of a command, behind those in a file.
+run_once() {
+    /usr/bin/time -o "$kept/time" -f '%U %S %M' sh -c "$2" >"$kept/said" <"$kept/input" || {
+        echo "bench/run.sh beside: this failed: $2" >&2
+        exit 1
+    }
+    awk '{ print $1 + $2, $3 }' "$kept/time" >>"$1"
+}
+
+# A row for two commands, which run in turn.
+row_beside() {
+    : >"$kept/ours"
+    : >"$kept/theirs"
+    for _turn in $(seq "${TURNS:-5}"); do
+        run_once "$kept/ours" "$2"
+        run_once "$kept/theirs" "$3"
+    done
+    awk -v name="$1" '
+        FNR == 1 { side++; least[side] = $1 }
+        $1 < least[side] { least[side] = $1 }
+        $2 > most[side] { most[side] = $2 }
+        END {
+            printf "| %-18s | %6.2f s | %6.2f s | %5.2f | %5.0f MB | %5.0f MB | %6.2f |\n", name, least[1], least[2],
+                least[1] / least[2], most[1] / 1024, most[2] / 1024, most[1] / most[2]
+        }' "$kept/ours" "$kept/theirs"
+}
+
+beside() {
+    build_other
+    printf '| %-18s | %8s | %8s | %5s | %8s | %8s | %6s |\n' workload ours theirs time ours theirs memory
+    printf '|---|---|---|---|---|---|---|\n'
+    : >"$kept/input"
+    for workload in ${*:-lex/names lex/strings lex/groups lex/marks structs enums attributes fields paths types \
+        nested_items names literals operators postfixes closures groups subjects}; do
+        case "$workload" in
+        lex/*) row_beside "$workload" "$program lex ${workload#lex/} 16" "$other/beside lex ${workload#lex/} 16" ;;
+        subjects)
+            subjects >"$kept/input"
+            row_beside "$workload" "$tool run" "$other/derive"
+            ;;
+        *) row_beside "$workload" "$program parse $workload 4" "$other/beside parse $workload 4" ;;
+        esac
+    done
+}
+
 stage="${1:-}"
 case "$stage" in
 lex) shift && lexer "$@" ;;
 parse) shift && parsers "$@" ;;
-*) echo "bench/run.sh lex|parse [WORKLOAD..]" >&2 && exit 2 ;;
+beside) shift && beside "$@" ;;
+*) echo "bench/run.sh lex|parse|beside [WORKLOAD..]" >&2 && exit 2 ;;
 esac
