@@ -10,7 +10,8 @@ use Rattle.tok_core.specs.Flat.{flat_stream, stream_view}
 use Rattle.tok_core.specs.Spells.{Piece, Spells, tokens_of}
 use Rattle.tok_core.proofs.Depth.{within_closes}
 use Rattle.tok_core.proofs.Trees.{flat_stream-same}
-use Rattle.law_lexed.specs.Lexed.{pieces, stream_of, trees_in, lexed}
+use Rattle.tok_types.specs.Stream.{stream_of}
+use Rattle.law_lexed.specs.Lexed.{pieces, trees_in, lexed}
 use Rattle.law_lexed.proofs.Cut.{pieces-stand, pieces-all}
 use Rattle.law_lexed.proofs.Grouped.{trees_in-flat, trees_in-closes, passes_trees}
 use Rattle.law_lexed.proofs.Options.{option_map-some}

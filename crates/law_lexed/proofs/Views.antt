@@ -6,7 +6,8 @@ use Rattle.tok_types.specs.declared.tree.Group.{roll-Group}
 use Rattle.tok_types.specs.declared.tree.TokenTree.{TokenTree, the_lemmas}
 use Rattle.tok_types.specs.declared.tree.TokenTree.TheVariants as tree
 use Rattle.tok_core.specs.Flat.{Token, ident, lifetime, punct, literal, token, opening, closing, start_of, end_of, flat_tree, flat_trees, flat_stream}
-use Rattle.law_lexed.specs.Lexed.{tree_of, stream_of}
+use Rattle.tok_types.specs.Stream.{stream_of}
+use Rattle.law_lexed.specs.Lexed.{tree_of}
 
 pub flat_tree-leaf : (it : Token) → flat_tree (tree_of it) ≡ token it ∷ []
 flat_tree-leaf (ident it) = search (rules, the_lemmas)

@@ -7,11 +7,12 @@ use Rattle.tok_scan.specs.Scan.{piece}
 use Rattle.tok_scan.specs.declared.kind.Found.{Found}
 use Rattle.tok_types.specs.Delimiter.{same_delimiter}
 use Rattle.tok_types.specs.Respan.{stream_at}
+use Rattle.tok_types.specs.Stream.{stream_of}
 use Rattle.tok_types.specs.declared.span.Span.{Span}
 use Rattle.tok_types.specs.declared.span.Span.TheVariants.{CallSite, At}
 use Rattle.tok_types.specs.declared.tree.Delimiter.{Delimiter}
 use Rattle.tok_types.specs.declared.tree.Group.{roll-Group}
-use Rattle.tok_types.specs.declared.tree.TokenStream.{TokenStream, roll-TokenStream}
+use Rattle.tok_types.specs.declared.tree.TokenStream.{TokenStream}
 use Rattle.tok_types.specs.declared.tree.TokenTree.{TokenTree}
 use Rattle.tok_types.specs.declared.tree.TokenTree.TheVariants as tree
 use Rattle.tok_core.specs.Endings.{limit}
@@ -46,10 +47,6 @@ tree_of (ident it) = tree.Ident it
 tree_of (lifetime it) = tree.Lifetime it
 tree_of (punct it) = tree.Punct it
 tree_of (literal it) = tree.Literal it
-
--- the stream of these trees
-abbrev pub stream_of : List TokenTree → TokenStream
-stream_of trees = roll-TokenStream (record { trees = trees })
 
 -- the span from one place to another of the same text
 abbrev pub span_between : Place → Place → Span

@@ -16,7 +16,8 @@ use Rattle.meta_nested.specs.Nested.{among, found_of, item, nested_of}
 use Rattle.meta_nested.specs.Nodes.{nested_tokens}
 use Rattle.print_core.specs.Marks.{Trees, after as behind_each, comma, joined}
 use Rattle.law_prefix.specs.ReadsByPrefix.{at}
-use Rattle.law_round_trip.specs.Printed.{separated, stream}
+use Rattle.tok_types.specs.Stream.{stream_of}
+use Rattle.law_round_trip.specs.Printed.{separated}
 use Rattle.law_round_trip.proofs.Lists.{AllFit, comma-length, items_from-behind}
 use Rattle.law_round_trip.proofs.Marks.{is_comma-comma}
 use Rattle.law_round_trip.proofs.Steps.{bind-at}
@@ -155,13 +156,13 @@ found-items tokens items e = by (found_of tokens) refl e
         (at [] parts.0, parts.1)
 
 -- what is read back stays bad
-pub nested-only : (tokens : TokenStream) (items again : List NestedMeta) → nested_of tokens ≡ Some items → nested_of (stream (separated nested_tokens items)) ≡ Some again → map erased_nested again ≡ map erased_nested items → AllStayBad items
+pub nested-only : (tokens : TokenStream) (items again : List NestedMeta) → nested_of tokens ≡ Some items → nested_of (stream_of (separated nested_tokens items)) ≡ Some again → map erased_nested again ≡ map erased_nested items → AllStayBad items
 nested-only tokens items again e reads same =
     let source = found-items tokens items e in
-    let back = found-items (stream (separated nested_tokens items)) again reads in
+    let back = found-items (stream_of (separated nested_tokens items)) again reads in
     all-stay items (made source.0 source.1 back.0 back.1)
   where
-    made : (after : Input) → items_after item [] (start_of (out-TokenStream tokens).trees) ≡ Some (map found.Item items, after) → (end : Input) → items_after item [] (start_of (out-TokenStream (stream (separated nested_tokens items))).trees) ≡ Some (map found.Item again, end)
+    made : (after : Input) → items_after item [] (start_of (out-TokenStream tokens).trees) ≡ Some (map found.Item items, after) → (end : Input) → items_after item [] (start_of (out-TokenStream (stream_of (separated nested_tokens items))).trees) ≡ Some (map found.Item again, end)
         → AllFit found_tokens CallSite Fits (map found.Item items)
     made after source end back =
         let were = were-read _ [] (start_of (out-TokenStream tokens).trees) after (map found.Item items) (All-nil WasRead) source in

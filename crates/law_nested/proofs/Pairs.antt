@@ -13,7 +13,8 @@ use Rattle.node_core.specs.declared.attr.Meta.TheVariants as meta
 use Rattle.node_core.specs.declared.attr.MetaList.{MetaList}
 use Rattle.syn_grammar.specs.Input.{Input, ◌>>=◌, first_span, is_end, next, pure, skipped, test, upto}
 use Rattle.syn_grammar.specs.Token.{Layer, contents_of, is_colons, is_equals}
-use Rattle.syn_items.specs.Attributes.{delimiter_of, meta_list, meta_path, stream}
+use Rattle.tok_types.specs.Stream.{stream_of}
+use Rattle.syn_items.specs.Attributes.{delimiter_of, meta_list, meta_path}
 use Rattle.meta_nested.specs.declared.item.Found.{Found}
 use Rattle.meta_nested.specs.declared.item.Found.TheVariants as found
 use Rattle.meta_nested.specs.declared.item.ItemStart.{ItemStart}
@@ -122,7 +123,7 @@ unfolding group Rattle.syn_grammar.specs.Token.mark_of
 group-equals between inner tail span = search (rules, the_lemmas)
 
 -- the group of tokens at the place of the list
-grouped : (path : Path) (between : Delimiter) (tokens rest : Trees) (span : Span) → is_equals rest ≡ false → ReadsBehind path rest (found.Item (nested.Meta (meta.List (record { path = path; delimiter = between; tokens = stream tokens; span = span }))))
+grouped : (path : Path) (between : Delimiter) (tokens rest : Trees) (span : Span) → is_equals rest ≡ false → ReadsBehind path rest (found.Item (nested.Meta (meta.List (record { path = path; delimiter = between; tokens = stream_of tokens; span = span }))))
 unfolding meta_list skipped
 grouped path between tokens rest span none = record {
   tokens = group between tokens span;
@@ -133,7 +134,7 @@ grouped path between tokens rest span none = record {
   again = λ start other same tail last f fits.
       let stands = skipped-over 1 (group between tokens span) tail last (group-length between tokens span) in
       record {
-        value = found.Item (nested.Meta (meta.List (record { path = other; delimiter = between; tokens = stream tokens; span = joined start stands.0 })));
+        value = found.Item (nested.Meta (meta.List (record { path = other; delimiter = between; tokens = stream_of tokens; span = joined start stands.0 })));
         new = stands.0;
         is = rw ((group-grouped between tokens tail tail span).0, contents_of-group between tokens tail span) (after-group start other (at (group between tokens span ++ tail) last) (at tail stands.0) stands.1);
         same = rw same refl;
@@ -142,9 +143,9 @@ grouped path between tokens rest span none = record {
 }
   where
     after-group : (start : Span) (other : Path) (input after : Input) → skipped 1 input ≡ after
-        → ◌≡◌ {A = Option (Found × Input)} (Some (found.Item (nested.Meta (meta.List (record { path = other; delimiter = between; tokens = stream tokens; span = joined start (next input).last }))), next input))
-        (Some (found.Item (nested.Meta (meta.List (record { path = other; delimiter = between; tokens = stream tokens; span = joined start after.last }))), after))
-    after-group start other input after e = ap (λ (after : Input). Some (found.Item (nested.Meta (meta.List (record { path = other; delimiter = between; tokens = stream tokens; span = joined start after.last }))), after)) e
+        → ◌≡◌ {A = Option (Found × Input)} (Some (found.Item (nested.Meta (meta.List (record { path = other; delimiter = between; tokens = stream_of tokens; span = joined start (next input).last }))), next input))
+        (Some (found.Item (nested.Meta (meta.List (record { path = other; delimiter = between; tokens = stream_of tokens; span = joined start after.last }))), after))
+    after-group start other input after e = ap (λ (after : Input). Some (found.Item (nested.Meta (meta.List (record { path = other; delimiter = between; tokens = stream_of tokens; span = joined start after.last }))), after)) e
 
 -- ---- `=` and a value
 
@@ -239,7 +240,7 @@ valued path rest eq_span span it equals reads = record {
         stays-fits path eq_span span it tail (reads.only (first_span (equal ++ behind)) tail stands.0 parts.0 parts.1 f parts.2 other path (first_span (equal ++ behind)) (joined start parts.1.last) eq_span span inner)
 
 -- tokens that are no value, where they stay none before what stands behind them
-bad-reads : (trees : Trees) (place : Span) → is_attribute trees ≡ false → shortest_run trees ≡ None → ReadsValue (kind.Bad (stream (before_comma trees)) place)
+bad-reads : (trees : Trees) (place : Span) → is_attribute trees ≡ false → shortest_run trees ≡ None → ReadsValue (kind.Bad (stream_of (before_comma trees)) place)
 unfolding value bad_value
 bad-reads trees place none bad = record {
   tokens = tokens;
@@ -251,7 +252,7 @@ bad-reads trees place none bad = record {
       let bad = rw (contents-stream tokens) at stays in
       let stands = skipped-over (length tokens) tokens tail last refl in
       record {
-        value = kind.Bad (stream tokens) (bad_place eq_span tokens);
+        value = kind.Bad (stream_of tokens) (bad_place eq_span tokens);
         new = stands.0;
         is = rw (bad, before_comma-again trees tail f.stop, stands.1) refl;
         same = refl;
@@ -264,8 +265,8 @@ bad-reads trees place none bad = record {
 
     -- where a run of them is a value, no item of the same kind is read
     unread : (eq_span : Span) (tail : Trees) (last : Span) (it : Value) (after : Input) → value eq_span (at (tokens ++ tail) last) ≡ Some (it, after)
-        → (other path : Path) (eq one span two : Span) → erased_nested (with_value other eq one it) ≡ erased_nested (with_value path span two (kind.Bad (stream tokens) place))
-        → (run : Option (Expr × ℕ)) → shortest_run (tokens ++ tail) ≡ run → shortest_run (contents (stream tokens) ++ tail) ≡ None
+        → (other path : Path) (eq one span two : Span) → erased_nested (with_value other eq one it) ≡ erased_nested (with_value path span two (kind.Bad (stream_of tokens) place))
+        → (run : Option (Expr × ℕ)) → shortest_run (tokens ++ tail) ≡ run → shortest_run (contents (stream_of tokens) ++ tail) ≡ None
     unread eq_span tail last it after e other path eq one span two same None is = rw (contents-stream tokens) is
     unread eq_span tail last it after e other path eq one span two same (Some run) is =
         let both = some_pair_parts (kind.Expr run.0) it (skipped run.1 (at (tokens ++ tail) last)) after (rw is at e) in
@@ -312,7 +313,7 @@ value-reads eq_span input after it e none = by (shortest_run input.rest) refl
         tokens = before_comma input.rest
 
         bad : Value
-        bad = kind.Bad (stream tokens) (bad_place eq_span tokens)
+        bad = kind.Bad (stream_of tokens) (bad_place eq_span tokens)
     by (Some run) is =
         let both = some_pair_parts (kind.Expr run.0) it (skipped run.1 input) after (rw is at e) in
         subst ReadsValue both.0 (expr-reads input.rest run.0 run.1 is)
@@ -347,7 +348,7 @@ behind-reads start path input after it e good = by (delimiter_of input.rest) ref
     by : (o : Option Delimiter) → delimiter_of input.rest ≡ o → Behind it
     by None is = equal (is_equals input.rest) refl (rw is at e)
     by (Some between) is =
-        let list : MetaList = record { path = path; delimiter = between; tokens = stream (contents_of input.rest); span = joined start (next input).last } in
+        let list : MetaList = record { path = path; delimiter = between; tokens = stream_of (contents_of input.rest); span = joined start (next input).last } in
         subst Behind (some_pair_parts (found.Item (nested.Meta (meta.List list))) it (next input) after (rw is at e)).0 (grouped path between (contents_of input.rest) input.rest (joined start (next input).last) (is_equals-group input.rest between is))
 
 path-item : (input after : Input) (it : Found) → item_start input.rest ≡ start.Path → path_item input ≡ Some (it, after) → Good it → ReadsItem (found_tokens it) it

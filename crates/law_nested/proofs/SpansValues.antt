@@ -10,7 +10,8 @@ use Rattle.node_expr.specs.declared.lit.Lit.{Lit}
 use Rattle.law_prefix.specs.SameLookahead.{stops}
 use Rattle.syn_grammar.specs.Input.{skip_by}
 use Rattle.syn_grammar.specs.Token.{is_comma}
-use Rattle.syn_items.specs.Attributes.{number_in, expr_in, stream}
+use Rattle.tok_types.specs.Stream.{stream_of}
+use Rattle.syn_items.specs.Attributes.{number_in, expr_in}
 use Rattle.meta_nested.specs.declared.value.Value.{Value}
 use Rattle.meta_nested.specs.declared.value.Value.TheVariants as kind
 use Rattle.meta_nested.specs.Values.{either_value, value_in, run_of, least, shortest_run, before_comma, bad_place, bad_value, value_by, value}
@@ -93,7 +94,7 @@ bad_value-blind : (eq_span there : Span) → CallSite ≡ there → IgnoresSpans
 unfolding bad_value
 bad_value-blind eq_span there s = then-blind {bare = map erased_tree} (test-blind before_comma before_comma before_comma-bare) (λ trees trees' t.
     so-blind (skip_as-blind (length trees) (length trees') (sym (length-map trees erased_tree) ∙ ap length t)) (λ done.
-    pure-blind (kind.Bad (stream trees) (bad_place eq_span trees)) (kind.Bad (stream trees') (bad_place there trees')) (rw (← s, ← t, bad_place-bare trees, bare_stream-roll trees) refl)))
+    pure-blind (kind.Bad (stream_of trees) (bad_place eq_span trees)) (kind.Bad (stream_of trees') (bad_place there trees')) (rw (← s, ← t, bad_place-bare trees, bare_stream-roll trees) refl)))
 
 value_by-blind : (eq_span there : Span) → CallSite ≡ there → (run : Option (Expr × ℕ)) → IgnoresSpans erased_value (value_by eq_span run) (value_by there (option_map erased_run run))
 value_by-blind eq_span there s (Some run) = so-blind (skip_by-blind run.1) (λ done. pure-blind (kind.Expr run.0) (kind.Expr (erased_expr run.0)) refl)

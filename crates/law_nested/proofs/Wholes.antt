@@ -15,7 +15,8 @@ use Rattle.meta_nested.specs.Nodes.{nested_tokens}
 use Rattle.print_core.specs.Marks.{comma, joined}
 use Rattle.law_nested.specs.Erased.{erased_nested}
 use Rattle.law_prefix.specs.ReadsByPrefix.{at}
-use Rattle.law_round_trip.specs.Printed.{separated, stream}
+use Rattle.tok_types.specs.Stream.{stream_of}
+use Rattle.law_round_trip.specs.Printed.{separated}
 use Rattle.law_round_trip.proofs.Lists.{AllFit, items-read}
 use Rattle.law_round_trip.proofs.Wholes.{all-parts}
 use Rattle.law_round_trip.proofs.Streams.{contents-stream}
@@ -69,7 +70,7 @@ same-items (found.Item one ∷ all) (it ∷ items) e =
 
 -- what was found is found again of its printing
 found-again : (tokens : TokenStream) (items : List NestedMeta) → found_of tokens ≡ Some (map found.Item items) → AllStayBad items
-    → (again : List Found) × (found_of (stream (separated nested_tokens items)) ≡ Some again) × (map erased_found again ≡ map erased_found (map found.Item items))
+    → (again : List Found) × (found_of (stream_of (separated nested_tokens items)) ≡ Some again) × (map erased_found again ≡ map erased_found (map found.Item items))
 unfolding found_of
 found-again tokens items e stay =
     let parts = all-parts (items_after item [] (start_of (out-TokenStream tokens).trees)) (map found.Item items) e in
@@ -80,14 +81,14 @@ found-again tokens items e stay =
     (more.value, rw (contents-stream (separated nested_tokens items), ← print-items items, reads) refl, more.same)
 
 pub nested-back : (tokens : TokenStream) (items : List NestedMeta) → nested_of tokens ≡ Some items → AllStayBad items
-    → (again : List NestedMeta) × (nested_of (stream (separated nested_tokens items)) ≡ Some again) × (map erased_nested again ≡ map erased_nested items)
+    → (again : List NestedMeta) × (nested_of (stream_of (separated nested_tokens items)) ≡ Some again) × (map erased_nested again ≡ map erased_nested items)
 unfolding nested_of
 nested-back tokens items e stay = by (found_of tokens) refl e
   where
     RoundTrips : Type 0
-    RoundTrips = (again : List NestedMeta) × (nested_of (stream (separated nested_tokens items)) ≡ Some again) × (map erased_nested again ≡ map erased_nested items)
+    RoundTrips = (again : List NestedMeta) × (nested_of (stream_of (separated nested_tokens items)) ≡ Some again) × (map erased_nested again ≡ map erased_nested items)
 
-    made : (all : List Found) (others : List NestedMeta) → found_of (stream (separated nested_tokens items)) ≡ Some all → all ≡ map found.Item others → map erased_nested others ≡ map erased_nested items → RoundTrips
+    made : (all : List Found) (others : List NestedMeta) → found_of (stream_of (separated nested_tokens items)) ≡ Some all → all ≡ map found.Item others → map erased_nested others ≡ map erased_nested items → RoundTrips
     made all others is same bare = (others, rw (is, same, among-made others) refl, bare)
 
     by : (all : Option (List Found)) → found_of tokens ≡ all → option_and_then (λ it. result_ok (among it)) all ≡ Some items → RoundTrips
@@ -98,12 +99,12 @@ nested-back tokens items e stay = by (found_of tokens) refl e
         made again.0 same.0 again.1 same.1 same.2
 
 -- one item alone
-pub one-back : (tokens : TokenStream) (it : NestedMeta) → nested_of tokens ≡ Some (it ∷ []) → (again : NestedMeta) × (nested_of (stream (nested_tokens it)) ≡ Some (again ∷ [])) × (erased_nested again ≡ erased_nested it)
+pub one-back : (tokens : TokenStream) (it : NestedMeta) → nested_of tokens ≡ Some (it ∷ []) → (again : NestedMeta) × (nested_of (stream_of (nested_tokens it)) ≡ Some (again ∷ [])) × (erased_nested again ≡ erased_nested it)
 one-back tokens it e =
     let back = nested-back tokens (it ∷ []) e tt in
-    made back.0 (subst (λ trees. nested_of (stream trees) ≡ Some back.0) (append-nil (nested_tokens it)) back.1) back.2
+    made back.0 (subst (λ trees. nested_of (stream_of trees) ≡ Some back.0) (append-nil (nested_tokens it)) back.1) back.2
   where
-    made : (items : List NestedMeta) → nested_of (stream (nested_tokens it)) ≡ Some items → map erased_nested items ≡ map erased_nested (it ∷ []) → (again : NestedMeta) × (nested_of (stream (nested_tokens it)) ≡ Some (again ∷ [])) × (erased_nested again ≡ erased_nested it)
+    made : (items : List NestedMeta) → nested_of (stream_of (nested_tokens it)) ≡ Some items → map erased_nested items ≡ map erased_nested (it ∷ []) → (again : NestedMeta) × (nested_of (stream_of (nested_tokens it)) ≡ Some (again ∷ [])) × (erased_nested again ≡ erased_nested it)
     made [] is same = absurd cc
     made (again ∷ []) is same = let bare : erased_nested again ≡ erased_nested it = cc in (again, is, bare)
     made (again ∷ next ∷ more) is same = absurd cc

@@ -3,7 +3,8 @@
 
 ghost use Rattle.law_nested.specs.Erased.{erased_nested, erased_place};
 ghost use Rattle.law_nested.specs.StaysBad.{AllStayBad, BeginsNoExpr, IsBad, IsShut};
-ghost use Rattle.law_round_trip.specs.Printed.{separated, stream};
+ghost use Rattle.tok_types.specs.Stream.{stream_of};
+ghost use Rattle.law_round_trip.specs.Printed.{separated};
 ghost use Rattle.law_spans.specs.Erased.{erased_stream};
 ghost use Rattle.meta_nested.specs.Nested.{attribute_in, nested_of};
 ghost use Rattle.meta_nested.specs.Nodes.{nested_tokens};
@@ -29,11 +30,11 @@ pub fn nested_items_see_no_spans()
 /// begins no expression is shut, as `pub(crate)`.
 pub fn nested_items_are_read_back()
     ensures nested_of { (tokens : TokenStream) (items : List NestedMeta) → nested_of tokens ≡ Some items → AllStayBad items
-        → (again : List NestedMeta) × (nested_of (stream (separated nested_tokens items)) ≡ Some again) × (map erased_nested again ≡ map erased_nested items) }
-    ensures only { (tokens : TokenStream) (items again : List NestedMeta) → nested_of tokens ≡ Some items → nested_of (stream (separated nested_tokens items)) ≡ Some again
+        → (again : List NestedMeta) × (nested_of (stream_of (separated nested_tokens items)) ≡ Some again) × (map erased_nested again ≡ map erased_nested items) }
+    ensures only { (tokens : TokenStream) (items again : List NestedMeta) → nested_of tokens ≡ Some items → nested_of (stream_of (separated nested_tokens items)) ≡ Some again
         → map erased_nested again ≡ map erased_nested items → AllStayBad items }
     ensures one { (tokens : TokenStream) (item : NestedMeta) → nested_of tokens ≡ Some (item ∷ [])
-        → (again : NestedMeta) × (nested_of (stream (nested_tokens item)) ≡ Some (again ∷ [])) × (erased_nested again ≡ erased_nested item) }
+        → (again : NestedMeta) × (nested_of (stream_of (nested_tokens item)) ≡ Some (again ∷ [])) × (erased_nested again ≡ erased_nested item) }
     ensures stay { (items : List NestedMeta) → All IsShut items → AllStayBad items }
     ensures shut { (tokens : TokenStream) → BeginsNoExpr tokens → IsBad tokens }
 {}

@@ -21,7 +21,8 @@ use Rattle.syn_grammar.specs.Literals.{lit_of}
 use Rattle.syn_grammar.specs.Readers.{any_level}
 use Rattle.syn_grammar.specs.Token.{ident_of, literal_of, contents_of, is_colons, is_equals, is_mark}
 use Rattle.syn_items.specs.declared.lists.While.TheVariants as while
-use Rattle.syn_items.specs.Attributes.{meta_segment, meta_path, negative, signed, number_in, expr_in, stream, value_by, value_of, delimiter_of, meta_list, name_value, meta_by, meta, attribute, attributes}
+use Rattle.tok_types.specs.Stream.{stream_of}
+use Rattle.syn_items.specs.Attributes.{meta_segment, meta_path, negative, signed, number_in, expr_in, value_by, value_of, delimiter_of, meta_list, name_value, meta_by, meta, attribute, attributes}
 use Rattle.syn_items.specs.Lists.{goes_on}
 use Rattle.law_places.proofs.Made.{path-span, lit-span, verbatim-span}
 use Rattle.law_places.proofs.Onward.{Less, Stood, StoodHere, here_of, here-stood, stood_from-at, onward-at, close_on-at, take-less, expect-less, joined_by-less, ident-none, mark-none}
@@ -64,8 +65,8 @@ value_of-stands trees = go (number_in trees) refl (expr_in trees) refl
     go (Some number) n found e = lit-span number ∙ all-stands trees (here_of signed-stood (start_of trees)) number n
     go None n (Some found) e = all-stands trees ((within-stand max_depth).expr any_level (start_of trees)) found e
     go None n None e =
-        let contents : (out-TokenStream (stream trees)).trees ≡ trees = search the_lemmas in
-        verbatim-span (stream trees) ∙ ap (list_span tree_span) contents
+        let contents : (out-TokenStream (stream_of trees)).trees ≡ trees = search the_lemmas in
+        verbatim-span (stream_of trees) ∙ ap (list_span tree_span) contents
 
 -- ---- meta items, each from the start of its path
 
@@ -73,7 +74,7 @@ module _ (start : Span) (size : ℕ) where
   pub meta_list-on : (path : Path) (between : Delimiter) (input : Input) → length input.rest < size → GoesAt (Stood meta_span start size) (meta_list start path between) input
   unfolding meta_list
   meta_list-on path between input less = seen-at contents_of (λ tokens. onward-at (skip-at input) (λ group later s _.
-      close_on-at start size (λ span. made.List (record { path = path; delimiter = between; tokens = stream tokens; span = span })) later (omega arith) (λ span. refl)))
+      close_on-at start size (λ span. made.List (record { path = path; delimiter = between; tokens = stream_of tokens; span = span })) later (omega arith) (λ span. refl)))
 
   name_value-on : (path : Path) (input : Input) → length input.rest < size → GoesAt (Stood meta_span start size) (name_value start path) input
   unfolding name_value

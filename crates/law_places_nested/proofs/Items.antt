@@ -17,7 +17,8 @@ use Rattle.syn_grammar.specs.Input.{Input, Parser, ◌>>=◌, ◌<$>◌, pure, f
 use Rattle.syn_grammar.specs.Literals.{lit_of}
 use Rattle.syn_grammar.specs.Token.{ident_of, is_comma, is_equals, literal_of, mark_of}
 use Rattle.syn_grammar.specs.Words.{next_word}
-use Rattle.syn_items.specs.Attributes.{delimiter_of, stream}
+use Rattle.tok_types.specs.Stream.{stream_of}
+use Rattle.syn_items.specs.Attributes.{delimiter_of}
 use Rattle.meta_nested.specs.declared.item.Found.{Found}
 use Rattle.meta_nested.specs.declared.item.Found.TheVariants as made
 use Rattle.meta_nested.specs.declared.item.ItemStart.{ItemStart}
@@ -100,15 +101,15 @@ skipped-front (tree ∷ trees) rest last = skipped-front trees rest _
 
 -- what is kept of a bad value is all up to the next comma
 record Kept (eq_span : Span) (input : Input) (it : Value) (after : Input) : Type 0 where
-  is : it ≡ kind.Bad (stream (before_comma input.rest)) (bad_place eq_span (before_comma input.rest))
+  is : it ≡ kind.Bad (stream_of (before_comma input.rest)) (bad_place eq_span (before_comma input.rest))
   rest : input.rest ≡ before_comma input.rest ++ after.rest
 
 bad_value-at : (eq_span : Span) (input : Input) → GoesAt (Kept eq_span input) (bad_value eq_span) input
 unfolding bad_value
 bad_value-at eq_span input = record {
   of = λ after found e.
-      let went = (so-at (skip_by-at (length (before_comma input.rest)) input) (λ done later. pure-at {says = λ it end. Unit {0}} (kind.Bad (stream (before_comma input.rest)) (bad_place eq_span (before_comma input.rest))) later tt)).of after found e in
-      let both = some_pair_parts (kind.Bad (stream (before_comma input.rest)) (bad_place eq_span (before_comma input.rest))) found (skipped (length (before_comma input.rest)) input) after e in
+      let went = (so-at (skip_by-at (length (before_comma input.rest)) input) (λ done later. pure-at {says = λ it end. Unit {0}} (kind.Bad (stream_of (before_comma input.rest)) (bad_place eq_span (before_comma input.rest))) later tt)).of after found e in
+      let both = some_pair_parts (kind.Bad (stream_of (before_comma input.rest)) (bad_place eq_span (before_comma input.rest))) found (skipped (length (before_comma input.rest)) input) after e in
       let front = before-front input.rest in
       let left : (skipped (length (before_comma input.rest)) input).rest ≡ front.0 = ap (λ trees. (skipped (length (before_comma input.rest)) (record { rest = trees; last = input.last })).rest) front.1 ∙ skipped-front (before_comma input.rest) front.0 input.last in
       let behind : after.rest ≡ front.0 = ap (λ (input : Input). input.rest) (sym both.1) ∙ left in
@@ -174,8 +175,8 @@ module _ (origin : Input) (path : Path) (input : Input) (behind : Behind origin 
         let whole : origin.rest ≡ (behind.there.read ++ equals.tree ∷ values) ++ after.rest =
         behind.there.is ∙ ap (λ trees. behind.there.read ++ trees) (equals.is ∙ ap (λ trees. equals.tree ∷ trees) (went.1.rest ∙ ap (λ (input : Input). values ++ input.rest) both.1))
         ∙ sym (append_assoc behind.there.read (equals.tree ∷ values) after.rest) in
-        let contents : (out-TokenStream (stream values)).trees ≡ values = search the_lemmas in
-        let item : made.Item (with_value path eq_span (joined (first_span origin.rest) parts.1.last) (kind.Bad (stream values) (bad_place eq_span values))) ≡ found =
+        let contents : (out-TokenStream (stream_of values)).trees ≡ values = search the_lemmas in
+        let item : made.Item (with_value path eq_span (joined (first_span origin.rest) parts.1.last) (kind.Bad (stream_of values) (bad_place eq_span values))) ≡ found =
         ap (λ (it : Value). made.Item (with_value path eq_span (joined (first_span origin.rest) parts.1.last) it)) (sym went.1.is) ∙ both.0 in (
           subst (λ (end : Input). Moved later end) both.1 went.0,
           record {

@@ -31,7 +31,8 @@ use Rattle.print_core.specs.Paths.{Arguments, PathParts, Styled, argument_rule, 
 use Rattle.print_core.specs.Types.{type_array_rule, type_rule}
 use Rattle.law_spans.specs.Erased.{argument_bared, arguments_bared, array_bared, erased_argument, erased_arguments, erased_array, erased_bound, erased_expr, erased_expr_path, erased_ident, erased_lit, erased_member, erased_path, erased_segment, erased_stream, erased_trait_bound, erased_type, erased_type_path, bound_bared, expr_bared, expr_path_bared, path_bared, segment_bared, trait_bound_bared, type_bared, type_path_bared}
 use Rattle.law_spans.specs.Kinds.{erased_expr_array, erased_expr_range}
-use Rattle.law_round_trip.specs.Printed.{ReadBack, stream}
+use Rattle.tok_types.specs.Stream.{stream_of}
+use Rattle.law_round_trip.specs.Printed.{ReadBack}
 
 -- a layer with bare parts, and with what its parts print
 abbrev erased_parts : ExprLayer → ExprLayer
@@ -109,7 +110,7 @@ module _ {A : Type 0} (part : ExprLayer → Option A) (bare : A → A) (print : 
   kind_of-back : ReadBack erased_expr expr_tokens expr_of → ReadBack bare print (λ tokens. of_kind part (expr_of tokens))
   kind_of-back h = record { of = λ tokens found e. by tokens found (expr_of tokens) refl e }
     where
-      by : (tokens : TokenStream) (found : A) (read : Option Expr) → expr_of tokens ≡ read → of_kind part read ≡ Some found → (again : A) × (of_kind part (expr_of (stream (print found))) ≡ Some again) × (bare again ≡ bare found)
+      by : (tokens : TokenStream) (found : A) (read : Option Expr) → expr_of tokens ≡ read → of_kind part read ≡ Some found → (again : A) × (of_kind part (expr_of (stream_of (print found))) ≡ Some again) × (bare again ≡ bare found)
       by tokens found None is e = absurd cc
       by tokens found (Some it) is e =
           let one = h.of tokens it is in

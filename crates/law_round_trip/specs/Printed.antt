@@ -1,8 +1,9 @@
 -- That the printing of what was read is read as the same value but for places.
 use Rattle.std.specs.Prelude.{◌≡◌, List, ◌++◌, map, Option, Some}
+use Rattle.tok_types.specs.Stream.{stream_of}
 use Rattle.tok_types.specs.declared.span.Span.{Span}
 use Rattle.tok_types.specs.declared.span.Span.TheVariants.{CallSite}
-use Rattle.tok_types.specs.declared.tree.TokenStream.{TokenStream, roll-TokenStream}
+use Rattle.tok_types.specs.declared.tree.TokenStream.{TokenStream}
 use Rattle.syn_grammar.specs.Input.{Input, Parser}
 use Rattle.print_core.specs.Marks.{Trees, comma, joined}
 use Rattle.law_prefix.specs.SameLookahead.{Relation}
@@ -30,14 +31,10 @@ RoundTrips bare print Begins After parser = Printed bare print Begins After pars
 
 -- ---- whole lists of tokens
 
--- these tokens as one list
-abbrev pub stream : Trees → TokenStream
-stream trees = roll-TokenStream (record { trees = trees })
-
 -- a list with commas and no node around it
 abbrev pub separated : {A : Type 0} → (A → Trees) → List A → Trees
 separated print items = joined (comma CallSite) (map print items)
 
 -- Whatever the reader gives of all of the tokens, it gives of the printing of that.
 pub record ReadBack {A B : Type 0} (bare : A → B) (print : A → Trees) (reader : TokenStream → Option A) : Type 0 where
-  pub of : (tokens : TokenStream) (tree : A) → reader tokens ≡ Some tree → (again : A) × (reader (stream (print tree)) ≡ Some again) × (bare again ≡ bare tree)
+  pub of : (tokens : TokenStream) (tree : A) → reader tokens ≡ Some tree → (again : A) × (reader (stream_of (print tree)) ≡ Some again) × (bare again ≡ bare tree)

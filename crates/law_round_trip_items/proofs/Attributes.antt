@@ -18,7 +18,8 @@ use Rattle.syn_grammar.specs.Grammar.{within, max_depth}
 use Rattle.syn_grammar.specs.Input.{Input, Parser, ◌>>=◌, pure, refuse, upto, at_end, skipped, is_end, joined_by, eat}
 use Rattle.syn_grammar.specs.Token.{contents_of, ident_of, is_colons, is_equals, is_joint, is_mark, is_pair, literal_of, mark_of}
 use Rattle.syn_grammar.specs.Words.{next_word}
-use Rattle.syn_items.specs.Attributes.{attribute, attributes, delimiter_of, meta, meta_by, meta_list, meta_path, meta_segment, name_value, stream, value_of}
+use Rattle.tok_types.specs.Stream.{stream_of}
+use Rattle.syn_items.specs.Attributes.{attribute, attributes, delimiter_of, meta, meta_by, meta_list, meta_path, meta_segment, name_value, value_of}
 use Rattle.syn_items.specs.Lists.{take_all}
 use Rattle.print_core.specs.declared.path.PathStyle.TheVariants.{Plain}
 use Rattle.print_core.specs.Items.{attribute_tokens, attributes_tokens, meta_tokens}
@@ -146,7 +147,7 @@ module _ (parts : AllRoundTrip (within max_depth)) where
     unfolding meta_list
     meta_list-rest between = test-rest {by = λ tokens rest tail. (contents_of tail ≡ tokens) × Grouped (Some between) rest tail} contents_of
         (λ tokens. skip-rest {Second = AtEnd} (λ place. group between tokens place) (λ place. group-length between tokens place)
-        (close-rest start (λ q. q.0.1) (λ span. made.List (record { path = path; delimiter = between; tokens = stream tokens; span = span })) (λ q span. made.List (record { path = q.1; delimiter = between; tokens = stream tokens; span = span }))
+        (close-rest start (λ q. q.0.1) (λ span. made.List (record { path = path; delimiter = between; tokens = stream_of tokens; span = span })) (λ q span. made.List (record { path = q.1; delimiter = between; tokens = stream_of tokens; span = span }))
         (λ span. rw (contents-stream tokens, append-nil) refl) (λ span other q ok. rw (ok.1) refl))
         (λ input tail place f. (contents_of-group between tokens tail place, group-grouped between tokens input.rest tail place)))
         (λ tokens rest tail is f. f)

@@ -21,7 +21,8 @@ use Rattle.print_core.specs.Nodes.{expr_tokens}
 use Rattle.law_spans.specs.Erased.{erased_expr, erased_lit}
 use Rattle.law_spans.proofs.Made.{bare_expr-Lit}
 use Rattle.law_prefix.specs.SameLookahead.{Any}
-use Rattle.syn_items.specs.Attributes.{expr_in, negative, number_in, signed, stream, value_by, value_of}
+use Rattle.tok_types.specs.Stream.{stream_of}
+use Rattle.syn_items.specs.Attributes.{expr_in, negative, number_in, signed, value_by, value_of}
 use Rattle.law_round_trip.specs.Follow.{NotEnded}
 use Rattle.law_round_trip.specs.Parts.{AllRoundTrip}
 use Rattle.law_round_trip.specs.Printed.{RoundTrips}
@@ -63,10 +64,10 @@ signed-back = whole (here-rest (λ start. expect-rest {Second = Any} 1 (is_mark 
 
 -- ---- values
 
-print-Verbatim : (trees : Trees) → expr_tokens (expr.Verbatim (stream trees)) ≡ trees
+print-Verbatim : (trees : Trees) → expr_tokens (expr.Verbatim (stream_of trees)) ≡ trees
 print-Verbatim trees = verbatim ∙ contents-stream trees
   where
-    verbatim : expr_tokens (expr.Verbatim (stream trees)) ≡ contents (stream trees)
+    verbatim : expr_tokens (expr.Verbatim (stream_of trees)) ≡ contents (stream_of trees)
     verbatim = search the_lemmas
 
 -- the printing of the value that the tokens are is no empty list, and is the same value

@@ -22,7 +22,8 @@ use Rattle.syn_grammar.specs.Literals.{lit_of}
 use Rattle.syn_grammar.specs.Readers.{any_level}
 use Rattle.syn_grammar.specs.Token.{Layer, ident_of, literal_of, contents_of}
 use Rattle.syn_items.specs.declared.lists.While.TheVariants as while
-use Rattle.syn_items.specs.Attributes.{meta_segment, meta_path, negative, signed, number_in, expr_in, stream, value_by, value_of, delimiter_in, delimiter_of, meta_list, name_value, meta_by, meta, attribute, attributes}
+use Rattle.tok_types.specs.Stream.{stream_of}
+use Rattle.syn_items.specs.Attributes.{meta_segment, meta_path, negative, signed, number_in, expr_in, value_by, value_of, delimiter_in, delimiter_of, meta_list, name_value, meta_by, meta, attribute, attributes}
 use Rattle.law_spans.specs.Erased.{erased_ident, erased_lit, erased_tree, erased_expr, erased_path, erased_segment}
 use Rattle.law_spans.specs.IgnoresSpans.{IgnoresSpans}
 use Rattle.law_spans.proofs.Made.{bare_arguments-None, bare_expr-Lit, bare_expr-Verbatim, bare_path-make, bare_segment-make}
@@ -78,7 +79,7 @@ expr_in-bare = all_of-bare ((within-blind max_depth).expr any_level)
 value_by-bare : (trees : List TokenTree) (number : Option Lit) (found : Option Expr) → value_by (map erased_tree trees) (option_map erased_lit number) (option_map erased_expr found) ≡ erased_expr (value_by trees number found)
 value_by-bare trees (Some number) found = sym (bare_expr-Lit number)
 value_by-bare trees None (Some found) = refl
-value_by-bare trees None None = sym (bare_expr-Verbatim (stream trees) ∙ ap expr.Verbatim (bare_stream-roll trees))
+value_by-bare trees None None = sym (bare_expr-Verbatim (stream_of trees) ∙ ap expr.Verbatim (bare_stream-roll trees))
 
 pub value_of-bare : (trees : List TokenTree) → value_of (map erased_tree trees) ≡ erased_expr (value_of trees)
 unfolding value_of
@@ -106,8 +107,8 @@ module _ (start there : Span) (s : CallSite ≡ there) (path path' : Path) (p : 
   unfolding meta_list
   meta_list-blind between = then-blind {bare = map erased_tree} (test-blind contents_of contents_of contents_of-bare) (λ tokens tokens' t. so-blind skip-blind (λ group.
       close-blind start there s
-      (λ span. made.List (record { path = path; delimiter = between; tokens = stream tokens; span = span }))
-      (λ span. made.List (record { path = path'; delimiter = between; tokens = stream tokens'; span = span }))
+      (λ span. made.List (record { path = path; delimiter = between; tokens = stream_of tokens; span = span }))
+      (λ span. made.List (record { path = path'; delimiter = between; tokens = stream_of tokens'; span = span }))
       (λ span. rw (← p, ← t, bare_stream-roll tokens) refl)))
 
   name_value-blind : IgnoresSpans erased_meta (name_value start path) (name_value there path')

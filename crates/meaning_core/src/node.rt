@@ -1,9 +1,9 @@
-//! The kinds of literals, and the paths of metas.
+//! The kinds of literals.
 
 ghost use Rattle.std.specs.Prelude.{◌≡◌};
-ghost use Rattle.meaning_core.specs.Node.{lit_kind, meta_path};
+ghost use Rattle.meaning_core.specs.Node.{lit_kind};
 
-use node_core::{Lit, Meta, Path};
+use node_core::Lit;
 
 /// The name of the literal's kind.
 pub(crate) fn lit_kind(lit: &Lit) -> &'static str
@@ -18,15 +18,5 @@ pub(crate) fn lit_kind(lit: &Lit) -> &'static str
         Lit::Int(_) => "int",
         Lit::Float(_) => "float",
         Lit::Verbatim(_) => "verbatim",
-    }
-}
-
-pub(crate) fn meta_path(meta: &Meta) -> &Path
-    ensures { result.now ≡ meta_path meta.now }
-{
-    match meta {
-        Meta::Path(path) => path,
-        Meta::List(list) => &list.path,
-        Meta::NameValue(pair) => &pair.path,
     }
 }

@@ -6,7 +6,6 @@ ghost use Rattle.meaning_core.specs.Node.{meta_name};
 ghost use Rattle.meaning_core.specs.Receiver.{receiver_of, receiver_decl, subject_meaning, option_names, meta_names, words_of, field_names, attribute_names};
 
 use crate::names::Names;
-use crate::node::meta_path;
 use crate::outcome::Outcome;
 use crate::walk::Walk;
 use node_core::{
@@ -41,7 +40,7 @@ impl Receiver {
     pub fn reads(&self, alloc: Global, meta: &Meta) -> Mem<bool>
         ensures { IfOk result (λ reads. reads ≡ has_name self.now.attributes (meta_name meta.now)) }
     {
-        let name = path_to_string(alloc, meta_path(meta))?;
+        let name = path_to_string(alloc, meta.path())?;
         Ok(self.attributes.contains(name.as_str()))
     }
 

@@ -9,16 +9,14 @@ ghost use Rattle.meaning_core.specs.Entries.{ItemEntry, entries_of, events, name
 ghost use Rattle.meaning_core.specs.Receiver.{no_earlier, receiver_decl, text_field};
 ghost use Rattle.meaning_core.specs.Slots.{IsTold, member_one, missing_one, slot_of, state_of};
 ghost use Rattle.meaning_core.specs.State.{arm, arm_slot, arms, entry_step, filled, put, rest, slot_at, step};
-ghost use Rattle.meaning_core.specs.Node.{full_path_text};
 ghost use Rattle.meaning_core.specs.Walk.{closed};
 
-use crate::node::meta_path;
 use crate::outcome::Outcome;
 use crate::receiver::Receiver;
 use crate::text::{list_fault, read_text};
 use crate::value::{Style, Value};
 use error_fault::Fault;
-use node_core::{Attribute, Items, Mem, Meta, Path, Text, TryClone, path_to_string};
+use node_core::{Attribute, Items, Mem, Meta, Text, TryClone, path_to_string, push_full_path};
 use node_span::Spanned;
 use run_first::{NestedMeta, parse_meta_list};
 use std::alloc::Global;
@@ -117,7 +115,7 @@ impl Walk {
                 self.faults.push(fault)
             }
             NestedMeta::Meta(meta) => {
-                let name = path_to_string(alloc, meta_path(meta))?;
+                let name = path_to_string(alloc, meta.path())?;
                 let fields = &receiver.fields;
                 match fields.place_of(name.as_str()) {
                     Some(at) => self.fill(alloc, at, &fields.as_slice()[at], meta),
@@ -234,20 +232,9 @@ pub(crate) fn name_value_fault(alloc: Global, meta: &Meta) -> Mem<Fault>
     ensures { IfOk result (λ fault. fault ≡ name_value_fault meta.now) }
 {
     let mut message = Text::from_str(alloc, "Name-value arguments are not supported. Use #[")?;
-    push_path(alloc, &mut message, meta_path(meta))?;
+    push_full_path(&mut message, meta.path())?;
     message.push_str("(...)]")?;
     Fault::custom(alloc, message.as_str(), meta.spanned())
-}
-
-/// Writes a path behind `text`, with the `::` that it may begin with.
-fn push_path(alloc: Global, text: &mut Text, path: &Path) -> Mem<()>
-    ensures { OnOk result (text.new ≡ text.old ++ full_path_text path.now) }
-{
-    if path.leading_colon {
-        text.push_str("::")?;
-    }
-    let name = path_to_string(alloc, path)?;
-    text.push_str(name.as_str())
 }
 
 impl Drop for Slot {

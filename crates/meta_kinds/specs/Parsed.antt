@@ -1,8 +1,9 @@
 -- What tokens are in their grammar: the tokens of a text, those of an expression, and those of a list.
 use Rattle.std.specs.Prelude.{List, Option, option_and_then}
 use Rattle.base_core.specs.declared.text.Text.{Text}
+use Rattle.tok_types.specs.Stream.{stream_of}
 use Rattle.tok_types.specs.declared.span.Span.{Span}
-use Rattle.tok_types.specs.declared.tree.TokenStream.{TokenStream, roll-TokenStream}
+use Rattle.tok_types.specs.declared.tree.TokenStream.{TokenStream}
 use Rattle.node_expr.specs.declared.expr.Expr.{Expr}
 use Rattle.node_core.specs.declared.punctuated.Comma.{Comma}
 use Rattle.node_core.specs.declared.punctuated.Punctuated.{Punctuated}
@@ -22,7 +23,7 @@ parsed_tokens expected tree tokens = tree_or (fault_over expected tokens) (tree 
 
 -- the tokens of an expression
 abbrev pub printed : Expr → TokenStream
-printed it = roll-TokenStream (record { trees = expr_tokens it })
+printed it = stream_of (expr_tokens it)
 
 -- the list of these items, which commas separate
 abbrev pub punctuated : {A : Type 0} → List A → Punctuated A Comma

@@ -2,10 +2,8 @@
 use Rattle.std.specs.Prelude.{ℕ, Bool, true, false, if◌then◌else◌, List, [], ◌∷◌, map, Option, Some, None, codes}
 use Rattle.std.specs.Str.{bytes_eq, chars}
 use Rattle.base_core.specs.declared.text.Text.{Text}
-use Rattle.node_expr.specs.declared.path.Path.{Path}
 use Rattle.node_make.specs.PathText.{path_text}
-use Rattle.node_core.specs.declared.attr.Meta.{Meta}
-use Rattle.node_core.specs.declared.attr.Meta.TheVariants as meta
+use Rattle.node_core.specs.Meta.{path_of_meta}
 use Rattle.node_span.specs.Spanned.{lit_span, meta_span, path_span}
 use Rattle.error_fault.specs.Fault.{at_span}
 use Rattle.error_fault.specs.Kind.{set_of}
@@ -30,12 +28,6 @@ only_char _ = None
 -- the character that a text is
 abbrev pub char_in : Text → Option ℕ
 char_in text = only_char (chars text)
-
--- the path in front of a meta
-abbrev pub path_of_meta : Meta → Path
-path_of_meta (meta.Path path) = path
-path_of_meta (meta.List list) = list.path
-path_of_meta (meta.NameValue pair) = pair.path
 
 -- the fault of an item where there is to be none
 abbrev pub unexpected_item : NestedMeta → Fault

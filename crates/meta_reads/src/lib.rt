@@ -8,4 +8,4 @@ mod integers;
 mod words;
 
 pub use integers::{read_non_zero_signed, read_non_zero_unsigned, read_signed, read_unsigned};
-pub use words::{bool_in, char_in, no_items, path_of_meta};
+pub use words::{bool_in, char_in, no_items};

@@ -5,9 +5,8 @@ ghost use Rattle.error_core.specs.Answers.{Answers};
 ghost use Rattle.error_core.specs.ErrorView.{One};
 ghost use Rattle.meta_reads.specs.Words as spec;
 
-use error_core::{Accumulator, Error, Fail, Mem, Path, Result};
+use error_core::{Accumulator, Error, Fail, Mem, Result};
 use meta_nested::NestedMeta;
-use node_core::Meta;
 use std::alloc::Global;
 
 /// The `bool` that the text is.
@@ -26,17 +25,6 @@ pub fn char_in(text: &str) -> Option<char>
     ensures { result ≡ spec.char_in text.now }
 {
     text.parse().ok()
-}
-
-/// The path in front of the meta.
-pub fn path_of_meta(meta: &Meta) -> &Path
-    ensures { result.now ≡ spec.path_of_meta meta.now }
-{
-    match meta {
-        Meta::Path(path) => path,
-        Meta::List(list) => &list.path,
-        Meta::NameValue(pair) => &pair.path,
-    }
 }
 
 /// `()` for a list without items; else the errors of all its items.
@@ -68,9 +56,7 @@ fn unexpected_item(alloc: Global, item: &NestedMeta) -> Mem<Error>
     ensures { IfOk result (λ error. error ≡ One (spec.unexpected_item item.now)) }
 {
     match item {
-        NestedMeta::Meta(it) => {
-            Ok(Error::unknown_field_path(alloc, path_of_meta(it))?.with_span(it))
-        }
+        NestedMeta::Meta(it) => { Ok(Error::unknown_field_path(alloc, it.path())?.with_span(it)) }
         NestedMeta::Lit(it) => Ok(Error::unexpected_type(alloc, "lit")?.with_span(it)),
         NestedMeta::NameValueInvalidExpr(it) => {
             Ok(Error::unknown_field_path(alloc, &it.path)?.with_span(&it.path))

@@ -1,5 +1,8 @@
 //! Attributes and what they hold.
 
+ghost use Rattle.std.specs.Prelude.{◌≡◌};
+ghost use Rattle.node_core.specs.Meta.{path_of_meta};
+
 use node_expr::{Expr, Path};
 use tok_types::{Delimiter, Span, TokenStream};
 
@@ -41,6 +44,19 @@ pub struct MetaNameValue {
     pub value: Expr,
     #[derive_where(skip(EqHashOrd))]
     pub span: Span,
+}
+
+impl Meta {
+    /// The path in front: the whole of a word, what stands before a list or before `=`.
+    pub fn path(&self) -> &Path
+        ensures { result.now ≡ path_of_meta self.now }
+    {
+        match self {
+            Meta::Path(path) => path,
+            Meta::List(list) => &list.path,
+            Meta::NameValue(pair) => &pair.path,
+        }
+    }
 }
 
 impl Drop for Attribute {

@@ -32,5 +32,5 @@ pub use node_expr::{
     TypeArray, TypeFnPtr, TypeGroup, TypeImplTrait, TypeInfer, TypeNever, TypeParamBound,
     TypeParen, TypePath, TypePtr, TypeReference, TypeSlice, TypeTraitObject, TypeTuple, UnOp,
 };
-pub use node_make::{make, path_to_string};
+pub use node_make::{make, path_to_string, push_full_path};
 pub use punctuated::{Comma, Punctuated};

@@ -1,5 +1,5 @@
 -- The text of a path.
-use Rattle.std.specs.Prelude.{ℕ, List, map, codes}
+use Rattle.std.specs.Prelude.{ℕ, List, [], ◌++◌, map, codes, if◌then◌else◌}
 use Rattle.std.specs.List.{join_by}
 use Rattle.tok_types.specs.Ident.{ident_text}
 use Rattle.tok_types.specs.declared.ident.Ident.{Ident}
@@ -12,6 +12,10 @@ segment_text segment = ident_text (out-PathSegment segment).ident
 -- the identifiers of its segments, joined by `::`; a leading `::` and arguments are left out
 abbrev pub path_text : Path → List ℕ
 path_text path = join_by segment_text (codes "::") (out-Path path).segments
+
+-- the text with the `::` that the path may begin with
+abbrev pub full_path_text : Path → List ℕ
+full_path_text path = (if (out-Path path).leading_colon then codes "::" else []) ++ path_text path
 
 -- the identifiers of its segments
 abbrev pub idents_of : Path → List Ident

@@ -4,4 +4,4 @@
 pub mod make;
 mod path_text;
 
-pub use path_text::path_to_string;
+pub use path_text::{path_to_string, push_full_path};

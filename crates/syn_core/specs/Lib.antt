@@ -6,6 +6,7 @@ pub use Rattle.node_core.specs.Error
 pub use Rattle.node_core.specs.Folds
 pub use Rattle.node_core.specs.Kinds
 pub use Rattle.node_core.specs.Layers
+pub use Rattle.node_core.specs.Meta
 pub use Rattle.node_core.specs.PathIdent
 pub use Rattle.node_core.specs.PathText
 pub use Rattle.node_span.specs.Spanned

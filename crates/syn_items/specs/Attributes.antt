@@ -1,11 +1,12 @@
 -- Attributes, and the meta items in them.
 use Rattle.std.specs.Prelude.{true, if◌then◌else◌, List, [], ◌∷◌, Option, Some, None}
+use Rattle.tok_types.specs.Stream.{stream_of}
 use Rattle.tok_types.specs.Ascii.{hash, minus}
 use Rattle.tok_types.specs.declared.span.Span.{Span}
 use Rattle.tok_types.specs.declared.tree.Delimiter.{Delimiter}
 use Rattle.tok_types.specs.declared.tree.Delimiter.TheVariants as delimiter
 use Rattle.tok_types.specs.declared.tree.Group.{out-Group}
-use Rattle.tok_types.specs.declared.tree.TokenStream.{TokenStream, roll-TokenStream}
+use Rattle.tok_types.specs.declared.tree.TokenStream.{TokenStream}
 use Rattle.tok_types.specs.declared.tree.TokenTree.{TokenTree, out-TokenTree}
 use Rattle.tok_types.specs.declared.tree.TokenTree.TheOpen.{TokenTree-F}
 use Rattle.node_make.specs.Make.{make_path, make_segment}
@@ -70,13 +71,10 @@ number_in trees = all (signed (start_of trees))
 abbrev pub expr_in : List TokenTree → Option Expr
 expr_in trees = all ((within max_depth).expr any_level (start_of trees))
 
-abbrev pub stream : List TokenTree → TokenStream
-stream trees = roll-TokenStream (record { trees = trees })
-
 abbrev pub value_by : List TokenTree → Option Lit → Option Expr → Expr
 value_by trees (Some number) found = expr.Lit number
 value_by trees None (Some found) = found
-value_by trees None None = expr.Verbatim (stream trees)
+value_by trees None None = expr.Verbatim (stream_of trees)
 
 -- What tokens are as the value of an attribute: a number with its sign, or an expression; else they are kept.
 unfoldable pub value_of : List TokenTree → Expr
@@ -99,7 +97,7 @@ meta_list start path between = do
   tokens ← test contents_of
   group ← skip
   span ← upto start
-  pure (made.List (record { path = path; delimiter = between; tokens = stream tokens; span = span }))
+  pure (made.List (record { path = path; delimiter = between; tokens = stream_of tokens; span = span }))
 
 -- `=` and at least one token behind the path
 unfoldable pub name_value : Span → Path → Parser Meta

@@ -1,6 +1,7 @@
 //! Attributes, and the meta items in them.
 
 ghost use Rattle.std.specs.Prelude.{◌≡◌, IfOk};
+ghost use Rattle.tok_types.specs.Stream.{stream_of};
 ghost use Rattle.syn_items.specs.Attributes as spec;
 ghost use Rattle.syn_items.specs.Lists.{Flat};
 
@@ -110,7 +111,7 @@ pub fn number_of(alloc: Global, trees: &[TokenTree]) -> Mem<Option<Lit>>
 
 /// The tokens as a stream of their own.
 pub fn stream_of(alloc: Global, trees: &[TokenTree]) -> Mem<TokenStream>
-    ensures { IfOk result (λ kept. kept ≡ spec.stream trees.now) }
+    ensures { IfOk result (λ kept. kept ≡ stream_of trees.now) }
 {
     let mut kept = Items::new(alloc);
     kept.extend_from_slice(alloc, trees)?;

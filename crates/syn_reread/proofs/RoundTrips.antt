@@ -3,7 +3,8 @@ use Rattle.std.proofs.Common.{◌≡◌, ℕ, List, Option, Some, Result, Ok, Er
 use Rattle.tok_types.specs.declared.tree.TokenStream.{TokenStream}
 use Rattle.print_core.specs.Marks.{Trees, contents}
 use Rattle.law_round_trip.proofs.Streams.{stream-contents}
-use Rattle.law_round_trip.specs.Printed.{ReadBack, stream}
+use Rattle.tok_types.specs.Stream.{stream_of}
+use Rattle.law_round_trip.specs.Printed.{ReadBack}
 use Rattle.syn_core.specs.Parses.{Parses}
 use Rattle.syn_core.specs.declared.fail.ParseFail.{ParseFail}
 use Rattle.syn_core.specs.declared.fail.ParseFail.TheVariants.{Syn, NoMemory}
@@ -21,5 +22,5 @@ module _ {A B : Type 0} {bare : A → B} {print : A → Trees} {tree_of : TokenS
   pub comes-back : (text : List ℕ) (printed : TokenStream) (tree : A) (result : Result A ParseFail) → contents printed ≡ print tree → Parses text printed (tree_of printed) result → ComesBack bare tree_of tree result
   comes-back text printed tree result is parses = λ tokens e.
       let again = law.of tokens tree e in
-      let read = ap tree_of (sym (stream-contents printed) ∙ ap stream is) ∙ again.1 in
+      let read = ap tree_of (sym (stream-contents printed) ∙ ap stream_of is) ∙ again.1 in
       same text printed tree again.0 result read again.2 parses

@@ -15,6 +15,9 @@ line_feed = code_of (codes "\n")
 abbrev pub carriage_return : ℕ
 carriage_return = code_of (codes "\r")
 
+abbrev pub space : ℕ
+space = code_of (codes " ")
+
 abbrev pub exclamation : ℕ
 exclamation = code_of (codes "!")
 
