@@ -1,0 +1,10 @@
+pub mod Walk
+pub mod Steps
+pub mod Tokens
+pub mod Looks
+pub mod Paths
+pub mod Types
+pub mod Atoms
+pub mod Postfixes
+pub mod Operators
+pub mod Within
