@@ -4,3 +4,8 @@ pub mod Numbers
 pub mod Runs
 pub mod Commas
 pub mod Ends
+pub mod Before
+pub mod Rows
+pub mod Tables
+pub mod Onward
+pub mod Vain

@@ -10,7 +10,8 @@ use Rattle.node_expr.specs.declared.lit.Lit.{Lit}
 use Rattle.syn_grammar.specs.Input.{Parser, ◌>>=◌, ◌>>◌, pure, test, skip_by}
 use Rattle.syn_grammar.specs.Token.{is_comma, span_of}
 use Rattle.law_prefix.specs.SameLookahead.{stops}
-use Rattle.syn_items.specs.Attributes.{number_in, expr_in, stream}
+use Rattle.tok_types.specs.Stream.{stream_of}
+use Rattle.syn_items.specs.Attributes.{number_in, expr_in}
 use Rattle.meta_nested.specs.declared.value.Value.{Value}
 use Rattle.meta_nested.specs.declared.value.Value.TheVariants as kind
 
@@ -48,7 +49,7 @@ unfoldable pub bad_value : Span → Parser Value
 bad_value eq_span = do
   trees ← test before_comma
   skip_by (length trees)
-  pure (kind.Bad (stream trees) (bad_place eq_span trees))
+  pure (kind.Bad (stream_of trees) (bad_place eq_span trees))
 
 abbrev pub value_by : Span → Option (Expr × ℕ) → Parser Value
 value_by eq_span (Some run) = skip_by run.1 >>= (λ done. pure (kind.Expr run.0))

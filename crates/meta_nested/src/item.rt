@@ -1,7 +1,9 @@
 //! One nested item.
 
-ghost use Rattle.std.specs.Prelude.{◌≡◌, IfOk};
+ghost use Rattle.std.specs.Prelude.{◌≡◌, true, IfOk};
+ghost use Rattle.syn_grammar.specs.Token.{is_equals};
 ghost use Rattle.syn_items.specs.Lists.{Flat};
+ghost use Rattle.meta_nested.specs.Angles.{Tells, TellsHere};
 ghost use Rattle.meta_nested.specs.Nested as spec;
 
 use crate::nested::NestedMeta;
@@ -101,13 +103,15 @@ fn attribute_item(tokens: &mut Cursor<'_>) -> Parsed<Found>
 fn value_item(
     alloc: Global,
     tokens: &mut Cursor<'_>,
+    closings: &[bool],
     start: Span,
     path: Path,
     eq_span: Span,
 ) -> Parsed<Found>
+    requires { TellsHere closings.now tokens.old.rest }
     ensures { Flat (spec.value_item start path eq_span tokens.old) result tokens.new }
 {
-    let (value, _) = take_value(alloc, tokens, eq_span)?;
+    let (value, _) = take_value(alloc, tokens, closings, eq_span)?;
     let span = tokens.upto(start);
     let item = value.into_item(alloc, path, eq_span, span)?;
     Ok((Found::Item(item), 0))
@@ -115,7 +119,15 @@ fn value_item(
 
 /// `=` and what stands behind it.
 #[tactic(auto, unfolding(crate::specs::Nested::name_value))]
-fn name_value(alloc: Global, tokens: &mut Cursor<'_>, start: Span, path: Path) -> Parsed<Found>
+fn name_value(
+    alloc: Global,
+    tokens: &mut Cursor<'_>,
+    closings: &[bool],
+    start: Span,
+    path: Path,
+) -> Parsed<Found>
+    requires tells { Tells closings.now tokens.old.rest }
+    requires equals { is_equals tokens.old.rest ≡ true }
     ensures { Flat (spec.name_value start path tokens.old) result tokens.new }
 {
     let eq_span = tokens.here();
@@ -123,13 +135,14 @@ fn name_value(alloc: Global, tokens: &mut Cursor<'_>, start: Span, path: Path) -
     if is_attribute(tokens.rest()) {
         attribute_item(tokens)
     } else {
-        value_item(alloc, tokens, start, path, eq_span)
+        value_item(alloc, tokens, closings, start, path, eq_span)
     }
 }
 
 /// `path`, `path(tokens)`, `path = value`
 #[tactic(auto, unfolding(crate::specs::Nested::path_item))]
-fn path_item(alloc: Global, tokens: &mut Cursor<'_>) -> Parsed<Found>
+fn path_item(alloc: Global, tokens: &mut Cursor<'_>, closings: &[bool]) -> Parsed<Found>
+    requires { Tells closings.now tokens.old.rest }
     ensures { Flat (spec.path_item tokens.old) result tokens.new }
 {
     let start = tokens.here();
@@ -139,7 +152,7 @@ fn path_item(alloc: Global, tokens: &mut Cursor<'_>) -> Parsed<Found>
         return Ok((Found::Item(NestedMeta::Meta(list)), 0));
     }
     if is_equals(tokens.rest()) {
-        return name_value(alloc, tokens, start, path);
+        return name_value(alloc, tokens, closings, start, path);
     }
     Ok((Found::Item(NestedMeta::Meta(Meta::Path(path))), 0))
 }
@@ -170,15 +183,17 @@ fn item_start(trees: &[TokenTree]) -> ItemStart
     }
 }
 
+/// One item. `closings` says of each value whether its angles close.
 #[tactic(auto, unfolding(crate::specs::Nested::item))]
-pub(crate) fn item(alloc: Global, tokens: &mut Cursor<'_>) -> Parsed<Found>
+pub(crate) fn item(alloc: Global, tokens: &mut Cursor<'_>, closings: &[bool]) -> Parsed<Found>
+    requires { Tells closings.now tokens.old.rest }
     ensures { Flat (spec.item tokens.old) result tokens.new }
 {
     let (lit, _) = match item_start(tokens.rest()) {
         ItemStart::Literal => literal(alloc, tokens)?,
         ItemStart::Boolean => boolean(tokens)?,
         ItemStart::Minus => signed(alloc, tokens)?,
-        ItemStart::Path => return path_item(alloc, tokens),
+        ItemStart::Path => return path_item(alloc, tokens, closings),
     };
     Ok((Found::Item(NestedMeta::Lit(lit)), 0))
 }

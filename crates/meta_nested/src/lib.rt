@@ -4,6 +4,7 @@
 //! its fault, so that whoever asked for it may read its tokens in another way.
 #![tactic(auto)]
 
+mod angles;
 mod item;
 mod nested;
 mod nodes;

@@ -6,6 +6,7 @@ ghost use Rattle.syn_items.specs.Lists.{Flat};
 ghost use Rattle.meta_nested.specs.Answers.{ParsesNested};
 ghost use Rattle.meta_nested.specs.Nested as spec;
 
+use crate::angles::closings_of;
 use crate::item::{Found, item};
 use base_core::{Items, Mem};
 use error_core::Error;
@@ -14,8 +15,8 @@ use node_expr::{Lit, Path, Span, TokenStream};
 use node_span::Spanned;
 use std::alloc::Global;
 use syn_core::{Parse, ParseFail};
-use syn_grammar::Cursor;
-use syn_rules::{Parsed, all_of, items_after};
+use syn_grammar::{Cursor, ReadFail};
+use syn_rules::{Parsed, all_of};
 
 /// One item of the list in an attribute.
 #[derive_where(PartialEq, Eq, Hash)]
@@ -64,14 +65,23 @@ impl NestedMeta {
 fn list(alloc: Global, tokens: &mut Cursor<'_>) -> Parsed<Items<Found>>
     ensures { Flat (input.items_after spec.item [] tokens.old) result tokens.new }
 {
-    let none = Items::new(alloc);
-    let (found, _) = items_after(
-        tokens,
-        |tokens: &mut Cursor<'_>| item(alloc, tokens),
-        none,
-        0,
-    )?;
-    Ok((found, 0))
+    let closings = closings_of(alloc, tokens.rest())?;
+    let mut found = Items::new(alloc);
+    for _turn in 0..tokens.left() {
+        if tokens.at_end() {
+            return Ok((found, 0));
+        }
+        let (next, _) = item(alloc, tokens, closings.as_slice())?;
+        found.push(next)?;
+        if !tokens.eat_mark(',') {
+            return Ok((found, 0));
+        }
+    }
+    if tokens.at_end() {
+        Ok((found, 0))
+    } else {
+        Err(ReadFail::Syntax)
+    }
 }
 
 /// What all of the tokens are, as far as they go without an attribute.

@@ -4,6 +4,7 @@ ghost use Rattle.std.specs.Prelude.{◌≡◌, IfOk};
 ghost use Rattle.law_prefix.specs.SameLookahead.{stops};
 ghost use Rattle.syn_items.specs.Attributes.{number_in};
 ghost use Rattle.syn_items.specs.Lists.{Flat};
+ghost use Rattle.meta_nested.specs.Angles.{TellsHere};
 ghost use Rattle.meta_nested.specs.Nested.{expected_expression, with_value};
 ghost use Rattle.meta_nested.specs.Values as spec;
 
@@ -139,11 +140,21 @@ fn bad_value(alloc: Global, tokens: &mut Cursor<'_>, eq_span: Span) -> Parsed<Va
     Ok((Value::Bad(kept, bad_place(eq_span, trees)), 0))
 }
 
-/// The value behind the `=` that stands at `eq_span`.
+/// The value behind the `=` that stands at `eq_span`. Where its angles do not close it is a bad one, and
+/// nothing is read in vain.
 #[tactic(auto, unfolding(crate::specs::Values::value))]
-pub(crate) fn take_value(alloc: Global, tokens: &mut Cursor<'_>, eq_span: Span) -> Parsed<Value>
+pub(crate) fn take_value(
+    alloc: Global,
+    tokens: &mut Cursor<'_>,
+    closings: &[bool],
+    eq_span: Span,
+) -> Parsed<Value>
+    requires { TellsHere closings.now tokens.old.rest }
     ensures { Flat (spec.value eq_span tokens.old) result tokens.new }
 {
+    if !closings[tokens.left()] {
+        return bad_value(alloc, tokens, eq_span);
+    }
     match shortest_run(alloc, tokens.rest())? {
         Some((expr, count)) => {
             tokens.skip_by(count);
