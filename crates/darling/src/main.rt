@@ -23,6 +23,20 @@ Status: 0 done, 2 usage, 3 refused, 4 read fault, 5 write fault, 6 out of memory
 
 const VERSION: &str = "darling 0.1.0\n";
 
+/// How many bytes of stack the deepest tree takes, and some more.
+const DEEPEST: usize = 2 << 20;
+
+/// Touches as much of the stack as the deepest tree takes. The pages stay, so that memory ends where a status tells
+/// it, and not where a deep tree is dropped.
+#[inline(never)]
+fn take_stack(word_count: usize) -> bool {
+    let mut room = [0u8; DEEPEST];
+    // The places are not known before the program runs, so that the room is not optimized away.
+    let at = word_count % DEEPEST;
+    room[at] = 1;
+    room[(at + 1) % DEEPEST] == 0
+}
+
 fn main(rt: HostRuntime) -> ExitCode {
     let words = match words(&rt) {
         Ok(words) => words,
@@ -38,6 +52,9 @@ fn main(rt: HostRuntime) -> ExitCode {
             "--version" => return say(&rt, VERSION),
             _ => {}
         }
+    }
+    if !take_stack(words.len()) {
+        return ExitCode::from(NO_MEMORY);
     }
     let mut source = StdSource::new(rt.stdin());
     let mut sink = StdSink::new(rt.stdout());
