@@ -1,5 +1,10 @@
 pub mod Lists
 pub mod Rows
+pub mod Keys
+pub mod Maps
+pub mod Sets
+pub mod PathLists
+pub mod KnownKeys
 pub mod Types
 pub mod Wrappers
 pub use Rattle.error_core.specs.Answers

@@ -5,10 +5,16 @@
 #![tactic(auto)]
 
 mod from_meta;
+mod from_meta_tag;
+mod key;
+mod map_key;
+mod path_list;
 mod rows;
 
 pub use error_core::{Error, Fail, Result, Spanned};
 pub use from_meta::FromMeta;
+pub use from_meta_tag::{FromMetaTag, FromMetaTagAll};
+pub use key::KeyFromPath;
 pub use meta_cells::Call;
 pub use meta_nested::{MetaNameValueInvalidExpr, NestedMeta};
 pub use node_core::{
@@ -18,4 +24,5 @@ pub use node_core::{
     TypeImplTrait, TypeInfer, TypeNever, TypeParam, TypeParen, TypePath, TypePtr, TypeReference,
     TypeSlice, TypeTraitObject, TypeTuple, Visibility, WhereClause, WherePredicate, path_to_string,
 };
+pub use path_list::{Intersection, PathList};
 pub use syn_core::{Parse, ParseFail};

@@ -1,7 +1,10 @@
 //! The types that are read: one implementation a row of the conversions.
 
+mod entries;
 mod literals;
+mod maps;
 mod name_lists;
+mod name_sets;
 mod non_zero_signed;
 mod non_zero_unsigned;
 mod signed;

@@ -55,7 +55,7 @@ impl FromMeta for Vec<Path> {
 }
 
 /// A name that is the item of a list.
-trait Name: Sized {
+pub(crate) trait Name: Sized {
     ghost use Rattle.error_fault.specs.Outcome.{Outcome};
     ghost use Rattle.error_core.specs.Answers.{Answers};
     ghost use Rattle.meta_nested.specs.declared.nested.NestedMeta.{NestedMeta};
@@ -135,7 +135,7 @@ fn collect_names<T: Name + Drop>(
     Ok(names)
 }
 
-fn collect_name<T: Name>(
+pub(crate) fn collect_name<T: Name>(
     alloc: Global,
     item: &NestedMeta,
     errors: &mut Accumulator,

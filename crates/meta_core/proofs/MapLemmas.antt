@@ -1,0 +1,56 @@
+-- The keys so far, and the faults that an accumulator takes.
+use Rattle.std.proofs.Common.{◌≡◌, refl, ap, sym, ◌∙◌, List, [], ◌∷◌, ◌++◌, Result, Ok, Err, Option, Some, None, append-nil, ℕ, ◌<◌, ◌+◌, suc, length, drop, get_or, drop-cons, add-one}
+use Rattle.std.specs.Prelude.{option_map, OnOk, Bool, ◌||◌}
+use Rattle.std.proofs.lemmas.Grind.{flat_map-append}
+use Rattle.error_fault.specs.declared.fault.Fault.{Fault}
+use Rattle.error_fault.specs.Outcome.{Outcome, Value, Faults, faults_of, value_of, settle, on_value}
+use Rattle.error_core.specs.Answers.{Answers, Handles}
+use Rattle.error_core.specs.ErrorView.{ErrorView, held, leaves}
+use Rattle.error_core.specs.declared.fail.Fail.{Fail}
+use Rattle.error_core.specs.declared.fail.Fail.TheVariants as fails
+use Rattle.meta_core.specs.KnownKeys.{Knows}
+
+pub held-push : (errors : List ErrorView) (error : ErrorView) → held (errors ++ error ∷ []) ≡ held errors ++ leaves error
+held-push errors error = flat_map-append leaves errors (error ∷ []) ∙ ap (λ last. held errors ++ last) (append-nil (leaves error))
+
+-- the value is handed on, and the faults are taken
+pub handled : {X A : Type 0} (see : X → A) (answer : Result X Fail) (outcome : Outcome A) (old new : List ErrorView) (found : Option X)
+    → Answers see answer outcome → Handles answer old (Ok found) new
+    → (option_map see found ≡ value_of outcome) × (held new ≡ held old ++ faults_of outcome)
+handled see (Ok value) outcome old new found is takes =
+    let same : found ≡ Some value = cc (takes.0) in (
+      ap (option_map see) same ∙ sym (ap value_of is),
+      ap held takes.1 ∙ sym (append-nil (held old)) ∙ sym (ap (λ o. held old ++ faults_of o) is),
+    )
+handled see (Err (fails.Faults error)) outcome old new found is takes = (
+  ap (option_map see) takes.0 ∙ sym (ap value_of is),
+  ap held takes.1 ∙ held-push old error ∙ sym (ap (λ o. held old ++ faults_of o) is),
+)
+handled see (Err fails.NoMemory) outcome old new found is takes =
+    let never : ⊥ = cc (takes.0) in
+    absurd never
+
+settle-on : {X A : Type 0} (see : X → A) (faults : List Fault) (value : X) → settle faults (Value (see value)) ≡ on_value see (settle faults (Value value))
+settle-on see [] value = refl
+settle-on see (fault ∷ more) value = refl
+
+-- an answer that is seen as it is, as another sees it
+pub finished : {X A : Type 0} (see : X → A) (answer : Result X Fail) (faults : List Fault) (value : X) (x : A) → see value ≡ x
+    → Answers (λ it. it) answer (settle faults (Value value)) → Answers see answer (settle faults (Value x))
+finished see (Ok found) faults value x same is = sym (ap (λ y. settle faults (Value y)) same) ∙ settle-on see faults value ∙ ap (on_value see) is
+finished see (Err (fails.Faults error)) faults value x same is = sym (ap (λ y. settle faults (Value y)) same) ∙ settle-on see faults value ∙ ap (on_value see) is
+finished see (Err fails.NoMemory) faults value x same is = tt
+
+pub left_here : {X : Type 0} (items : List X) (i : ℕ) (x : X) → i < length items → x ≡ get_or items i x → drop i items ≡ x ∷ drop (i + 1) items
+left_here items i x lt is = rw add-one (drop-cons items i x lt ∙ ap (λ y. y ∷ drop (suc i) items) (sym is))
+
+-- one key more, of which a copy is put in
+pub knows-more : {K S : Type 0} (eq : K → K → Bool) (same : S → S → Bool) (see : K → S) (old new : K → Bool) (copy : K) (key : S) (before : List S)
+    → ((a b : K) → eq a b ≡ same (see a) (see b)) → see copy ≡ key → ((other : K) → new other ≡ (eq copy other || old other))
+    → Knows same see old before → Knows same see new (key ∷ before)
+knows-more eq same see old new copy key before law is puts knows = λ other.
+    puts other ∙ ap (λ b. b || old other) (law copy other ∙ ap (λ k. same k (see other)) is) ∙ ap (λ b. same key (see other) || b) (knows other)
+
+pub on_ok_map : {X E : Type 0} {P Q : Type 0} (r : Result X E) → (P → Q) → OnOk r P → OnOk r Q
+on_ok_map (Ok x) f p = f p
+on_ok_map (Err e) f p = tt

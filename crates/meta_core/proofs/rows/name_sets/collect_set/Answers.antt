@@ -1,0 +1,48 @@
+use Rattle.std.proofs.Common.{◌++◌, ◌+◌, ◌∙◌, ap, sym, refl, [], drop, append_assoc}
+use Rattle.std.specs.Prelude.{◌||◌}
+use Rattle.std.specs.HashSet.{contains}
+use Rattle.std.specs.List.{list_any}
+use Rattle.error_core.specs.ErrorView.{held}
+use Rattle.meta_core.specs.Maps.{with_key}
+use Rattle.meta_core.specs.Sets.{is_item, is_name, name_faults, set_faults}
+use Rattle.meta_core.proofs.MapLemmas.{left_here}
+use Rattle.meta_core.proofs.SetLemmas.{knows-with, or_regroup}
+use Rattle.meta_core.proofs.rows.name_sets.collect_set.Goals as goal
+
+pub loop-item-init : goal.loop-item-init
+loop-item-init g c =
+    let eq = g.T.PartialEq.eq in (
+      λ name. sym (ap (λ keys. list_any (eq name) keys || is_item eq g.T.Name.of_item c.args.items.now name) c.new-names.ensures.empty),
+      (
+        [],
+        λ name. ap (list_any (eq name)) c.new-names.ensures.empty,
+        refl,
+      ),
+    )
+
+pub loop-item-preserved : goal.loop-item-preserved
+loop-item-preserved g c =
+    let eq = g.T.PartialEq.eq in
+    let read = g.T.Name.of_item in
+    let span_of = g.T.Spanned.span_of in
+    let inv = c.loop-item.invariant in
+    let before = inv.1.0 in
+    let item = c.item-item.result in
+    let rest = drop (c.loop-item.item-index + 1) c.args.items.now in
+    let here = left_here c.args.items.now c.loop-item.item-index item c.loop-item-test.true c.item-item.is in
+    let put = c.in_ok-put_item.ensures.names in
+    let told = c.in_ok-put_item.ensures.faults before inv.1.1 in
+    let here_faults = name_faults eq (λ name. g.T.KeyFromPath.text (g.T.KeyFromPath.seen name)) span_of before (read item) in
+    let faults = set_faults eq (λ name. g.T.KeyFromPath.text (g.T.KeyFromPath.seen name)) span_of read in
+    let old = held c.loop-item.errors in
+    let after = with_key before (read item) in (
+      λ name. inv.0 name ∙ ap (λ items. contains eq c.loop-item.names name || is_item eq read items name) here
+          ∙ or_regroup (contains eq c.loop-item.names name) (is_name eq name (read item)) (is_item eq read rest name)
+          ∙ ap (λ b. b || is_item eq read rest name) (sym (put name)),
+      (
+        after,
+        knows-with eq (contains eq c.loop-item.names) (contains eq c.put_item.new.names) before (read item) put inv.1.1,
+        inv.1.2 ∙ ap (λ items. old ++ faults before items) here
+            ∙ sym (append_assoc old here_faults (faults after rest)) ∙ ap (λ them. them ++ faults after rest) (sym told),
+      ),
+    )
