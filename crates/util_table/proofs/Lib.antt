@@ -3,3 +3,4 @@ mod FirstPlaces
 mod Adding
 mod Lines
 mod Looking
+pub mod RuleAsText

@@ -10,7 +10,8 @@ use Rattle.std.proofs.lemmas.List.Elements.{filter_map-append}
 use Rattle.std.proofs.lemmas.List.Splits.{length-slice_split}
 use Rattle.std.proofs.lemmas.List.Sums.{count_by-le-length}
 use Rattle.util_table.specs.Places.{or_at}
-use Rattle.util_table.specs.Table.{line_feed, lines_of, is_empty, row_of, rows_of, is_bad, bad_line}
+use Rattle.tok_types.specs.Ascii.{line_feed}
+use Rattle.util_table.specs.Table.{lines_of, is_empty, row_of, rows_of, is_bad, bad_line}
 use Rattle.util_table.specs.declared.row.Row.{Row}
 use Rattle.util_table.proofs.FirstPlaces.{position-push, position-found}
 

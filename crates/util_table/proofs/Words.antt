@@ -3,7 +3,8 @@ use Rattle.std.proofs.Common.{◌≡◌, ℕ, ◌≤◌, lit<, eqb, List, [], �
 use Rattle.std.proofs.lemmas.List.Sums.{fails_before_first}
 use Rattle.std.proofs.lemmas.List.Splits.{slice_split_none, slice_split_first, length-slice_split}
 use Rattle.std.proofs.lemmas.Str.Pattern.{IsSplitOnceResult, split_once_first}
-use Rattle.util_table.specs.Table.{space, words_of}
+use Rattle.tok_types.specs.Ascii.{space}
+use Rattle.util_table.specs.Table.{words_of}
 
 -- a line without a space is one word
 pub words_of_one : (line : List ℕ) → IsSplitOnceResult space line None → words_of line ≡ line ∷ []

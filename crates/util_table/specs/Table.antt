@@ -1,6 +1,7 @@
 -- A table of names: the rows that the lines of a text spell, and what they rename. A carriage return is a character as any other.
 use Rattle.std.specs.Prelude.{◌≡◌, ◌+◌, ◌==◌, ◌&&◌, ◌||◌, ℕ, Bool, true, false, not, is_some, List, [], ◌∷◌, length, codes, if◌then◌else◌, Option, Some, None, option_map, unwrap_or, slice_get, find, position, filter_map, bytes_eq}
 use Rattle.std.specs.List.{slice_split}
+use Rattle.tok_types.specs.Ascii.{line_feed, space}
 use Rattle.util_table.specs.declared.fail.TableFail.{TableFail}
 use Rattle.util_table.specs.declared.fail.TableFail.TheVariants.{BadTable, NoMemory}
 use Rattle.util_table.specs.declared.row.RenameKind.{RenameKind}
@@ -8,14 +9,6 @@ use Rattle.util_table.specs.declared.row.RenameKind.TheVariants.{Field, Variant}
 use Rattle.util_table.specs.declared.row.Row.{Row}
 use Rattle.util_table.specs.declared.rule.RenameRule.{RenameRule}
 use Rattle.util_table.specs.declared.rule.RenameRule.TheVariants.{Keep, Named}
-
--- the line feed
-abbrev pub line_feed : ℕ
-line_feed = 10
-
--- the space
-abbrev pub space : ℕ
-space = 32
 
 -- the lines of a text, with a line feed between each two
 abbrev pub lines_of : List ℕ → List (List ℕ)

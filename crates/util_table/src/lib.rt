@@ -8,6 +8,7 @@
 //! A line feed ends a line. A carriage return in front of it belongs to the line's last word.
 #![tactic(auto)]
 
+mod asked;
 mod fail;
 mod places;
 mod reading;
