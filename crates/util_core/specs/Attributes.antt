@@ -1,11 +1,9 @@
 -- What an attribute lists.
-use Rattle.std.specs.Prelude.{[], ◌++◌, codes, if◌then◌else◌}
-use Rattle.base_core.specs.declared.text.Text.{Text}
+use Rattle.std.specs.Prelude.{[], ◌++◌, codes}
+use Rattle.tok_types.specs.Stream.{stream_of}
 use Rattle.tok_types.specs.declared.span.Span.{Span}
 use Rattle.tok_types.specs.declared.tree.Delimiter.TheVariants.{Parenthesis}
-use Rattle.tok_types.specs.declared.tree.TokenStream.{roll-TokenStream}
-use Rattle.node_expr.specs.declared.path.Path.{Path, out-Path}
-use Rattle.node_make.specs.PathText.{path_text}
+use Rattle.node_make.specs.PathText.{full_path_text}
 use Rattle.node_core.specs.declared.attr.Attribute.{Attribute}
 use Rattle.node_core.specs.declared.attr.Meta.{Meta}
 use Rattle.node_core.specs.declared.attr.Meta.TheVariants as meta
@@ -16,10 +14,6 @@ use Rattle.error_fault.specs.Outcome.{Outcome, Value, Faults}
 use Rattle.error_fault.specs.declared.fault.Fault.{Fault}
 use Rattle.error_fault.specs.declared.kind.FaultKind.TheVariants.{Custom}
 
--- the text of a path with the `::` that it may begin with
-abbrev pub full_path_text : Path → Text
-full_path_text path = (if (out-Path path).leading_colon then codes "::" else []) ++ path_text path
-
 -- a value where a list is to be, at its place
 abbrev pub name_value : MetaNameValue → Fault
 name_value pair =
@@ -29,7 +23,7 @@ abbrev pub meta_list_by : Span → Meta → Outcome MetaList
 meta_list_by span (meta.List list) = Value list
 meta_list_by span (meta.NameValue pair) = Faults (name_value pair) []
 meta_list_by span (meta.Path path) =
-    Value (record { path = path; delimiter = Parenthesis; tokens = roll-TokenStream (record { trees = [] }); span = span })
+    Value (record { path = path; delimiter = Parenthesis; tokens = stream_of []; span = span })
 
 -- the list that the attribute holds; a word is an empty list in parentheses, at the attribute's place
 abbrev pub meta_list_of : Attribute → Outcome MetaList

@@ -1,7 +1,10 @@
 pub mod Attributes
 pub mod Callable
 pub mod Exprs
+pub mod ExtractOption
 pub mod Flag
+pub mod IdentString
+pub mod Lending
 pub mod Override
 pub use Rattle.meta_core.specs.Answers
 pub use Rattle.meta_core.specs.Cells

@@ -1,5 +1,5 @@
 -- A value that is given, or is to come from elsewhere.
-use Rattle.std.specs.Prelude.{Option, Some, None}
+use Rattle.std.specs.Prelude.{ℕ, List, ◌++◌, Option, Some, None, option_map, codes}
 use Rattle.node_core.specs.declared.attr.Meta.{Meta}
 use Rattle.node_core.specs.declared.attr.Meta.TheVariants as meta
 use Rattle.error_fault.specs.Outcome.{Outcome, Value, on_value}
@@ -22,6 +22,11 @@ of_option (Some x) = Explicit x
 abbrev pub on_explicit : {A B : Type 0} → (A → B) → Override A → Override B
 on_explicit f Inherit = Inherit
 on_explicit f (Explicit x) = Explicit (f x)
+
+-- the text of an override, by that of its value where this has one
+abbrev pub shown : {A : Type 0} → (A → Option (List ℕ)) → Override A → Option (List ℕ)
+shown text Inherit = Some (codes "Inherit")
+shown text (Explicit x) = option_map (λ of_x. codes "Explicit `" ++ of_x ++ codes "`") (text x)
 
 module _ {A : Type 0} (cells : Cells A) where
   -- every meta but a word, as the type reads it

@@ -1,19 +1,21 @@
 //! What an option may name to be called.
 
-ghost use Rattle.std.specs.Prelude.{◌≡◌, IfOk};
+ghost use Rattle.std.specs.Prelude.{◌≡◌, IfOk, codes};
 ghost use Rattle.node_expr.specs.declared.expr.Expr.{out-Expr};
 ghost use Rattle.meta_core.specs.Answers.{Answers};
 ghost use Rattle.print_core.specs.Nodes.{expr_tokens};
+ghost use Rattle.syn_core.specs.Parses.{Parses};
 ghost use Rattle.util_core.specs.Callable as spec;
 
 use meta_core::{
-    Call, Error, Expr, ExprPath, Fail, FromMeta, Items, Lit, LitStr, Mem, ParseFail, Path, Result,
-    Span, Spanned, TryClone,
+    Call, Error, Expr, ExprPath, Fail, FromMeta, Items, Lit, LitStr, Mem, Parse, ParseFail, Path,
+    Result, Span, Spanned, TokenStream, TryClone,
 };
 use meta_text::tokens_of_text;
+use node_core::ExprClosure;
 use print_core::{ToTokens, TokenTree};
 use std::alloc::Global;
-use syn_core::parse_path;
+use syn_core::{parse_expr, parse_path};
 
 /// A path or a closure, as in `with = a::b` and `with = |item| item`; a string is a path.
 #[derive_where(PartialEq, Eq, Hash)]
@@ -33,6 +35,60 @@ impl Callable {
         ensures { IfOk result (λ it. it.call ≡ spec.path_call path) }
     {
         let call = path_call(path);
+        Ok(Callable { call })
+    }
+
+    /// The expression that all of the tokens are, whatever its kind: `a::b`, `|item| item`, `a + b`
+    pub fn parse(alloc: Global, tokens: &TokenStream) -> Parse<Callable>
+        ensures { Parses (codes "expected an expression") tokens.now (spec.callable_of tokens.now) result }
+    {
+        let call = parse_expr(alloc, tokens)?;
+        Ok(Callable { call })
+    }
+
+    /// What is called.
+    pub fn as_ref(&self) -> &Expr
+        ensures { result.now ≡ self.now.call }
+    {
+        &self.call
+    }
+
+    /// What is called, alone.
+    pub fn into_expr(self) -> Expr
+        ensures { result ≡ self.call }
+    {
+        let Self { call } = self;
+        call
+    }
+}
+
+impl From<ExprPath> for Callable {
+    ghost use Rattle.std.specs.Prelude.{◌≡◌};
+    ghost use Rattle.node_expr.specs.declared.expr.Expr.TheVariants as expr;
+
+    ghost from_gives = { λ path it. it.call ≡ expr.Path path };
+
+    fn from(path: ExprPath) -> Callable {
+        let call = Expr::Path(path);
+        Callable { call }
+    }
+}
+
+impl From<ExprClosure> for Callable {
+    ghost use Rattle.std.specs.Prelude.{◌≡◌};
+    ghost use Rattle.node_expr.specs.declared.expr.Expr.TheVariants as expr;
+
+    ghost from_gives = { λ closure it. it.call ≡ expr.Closure closure };
+
+    fn from(closure: ExprClosure) -> Callable {
+        let call = Expr::Closure(closure);
+        Callable { call }
+    }
+}
+
+impl TryClone for Callable {
+    fn try_clone(&self, alloc: Global) -> Mem<Callable> {
+        let call = self.call.try_clone(alloc)?;
         Ok(Callable { call })
     }
 }

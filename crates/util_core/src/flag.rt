@@ -7,7 +7,7 @@ ghost use Rattle.tok_types.specs.declared.span.Span.TheVariants.{CallSite};
 use meta_core::{Call, Error, Fail, FromMeta, Meta, Result, Span, Spanned};
 use std::alloc::Global;
 
-/// Whether a word stands in a list, and where. Where no item is, it is absent, so it needs no default.
+/// Whether a word stands in a list, and where. Where no item is, it is absent.
 #[derive(Clone, Copy, Debug, PartialEq, Eq)]
 pub struct Flag {
     /// Where the word stands, if it is there.
@@ -43,6 +43,17 @@ impl Flag {
         ensures { result ≡ unwrap_or self.now.place CallSite }
     {
         self.place.unwrap_or(Span::CallSite)
+    }
+}
+
+/// An absent flag.
+impl Default for Flag {
+    ghost use Rattle.std.specs.Prelude.{◌≡◌, None};
+
+    ghost is_default = { λ flag. flag.place ≡ None };
+
+    fn default() -> Flag {
+        Flag { place: None }
     }
 }
 

@@ -2,7 +2,10 @@
 #![tactic(auto)]
 
 mod callable;
+pub mod extract_option;
 mod flag;
+mod ident_string;
+mod laws;
 mod over_ride;
 mod parse_attribute;
 pub mod parse_expr;
@@ -10,12 +13,16 @@ mod preserved_str_expr;
 
 pub use callable::Callable;
 pub use flag::Flag;
+pub use ident_string::IdentString;
+pub use laws::equal_ident_strings_are_alike;
 pub use meta_core::{
-    Call, Error, Expr, Fail, FromMeta, Mem, Meta, MetaList, NestedMeta, Path, Result, Span,
-    path_to_string,
+    Call, Error, Expr, ExprPath, Fail, FromMeta, Ident, Items, Mem, Meta, MetaList, NestedMeta,
+    Parse, ParseFail, Path, Result, Span, TokenStream, TryClone, Type, path_to_string,
 };
-pub use node_core::Attribute;
+pub use node_core::{Attribute, ExprClosure};
 pub use over_ride::Override;
 pub use parse_attribute::parse_attribute_to_meta_list;
 pub use preserved_str_expr::PreservedStrExpr;
+pub use print_core::ToTokens;
+pub use tok_types::IdentError;
 pub use util_table::{RenameKind, RenameRule, RenameTable, TableFail};

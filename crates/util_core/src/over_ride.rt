@@ -1,13 +1,17 @@
 //! A value that is given, or is to come from elsewhere.
 
-ghost use Rattle.std.specs.Prelude.{◌≡◌, is_some, unwrap_or};
+ghost use Rattle.std.specs.Prelude.{◌≡◌, is_some, unwrap_or, MatchOption};
+ghost use Rattle.std.specs.Option.{ForNone, UnwrapsOrElse};
+ghost use Rattle.std.specs.Borrow.{sem};
 ghost use Rattle.util_core.specs.Override as spec;
+ghost use Rattle.util_core.specs.Lending.{lends_explicit};
 
-use meta_core::{Call, FromMeta, Meta, Result};
+use meta_core::{Call, FromMeta, Mem, Meta, Result, TryClone};
 use std::alloc::Global;
+use std::fmt::{self, Display};
 
 /// A value that is given, or that is to come from elsewhere: `default = path`, or `default` alone.
-#[derive(Debug)]
+#[derive(Debug, Drop)]
 #[derive_where(PartialEq, Eq; T)]
 pub enum Override<T> {
     /// A word alone.
@@ -15,16 +19,28 @@ pub enum Override<T> {
     Explicit(T),
 }
 
-impl<T: Drop> Drop for Override<T> {
-    fn drop(self) {
+impl<T> Override<T> {
+    /// The same over a reference to the value.
+    pub fn as_ref(&self) -> Override<&T>
+        ensures { spec.on_explicit (λ it. it.now) result ≡ self.now }
+    {
         match self {
-            Override::Inherit => {}
-            Override::Explicit(_value) => {}
+            Override::Inherit => Override::Inherit,
+            Override::Explicit(value) => Override::Explicit(value),
         }
     }
-}
 
-impl<T> Override<T> {
+    /// The same over the place of the value, to write there.
+    pub fn as_mut(&mut self) -> Override<&mut T>
+        ensures value { spec.on_explicit (λ it. it.now) result ≡ self.old }
+        ensures* writes_back { sem 𝓛 (lends_explicit T.row self.entry result) }
+    {
+        match self {
+            Override::Inherit => Override::Inherit,
+            Override::Explicit(value) => Override::Explicit(value),
+        }
+    }
+
     /// Whether a value is given.
     pub fn is_explicit(&self) -> bool
         ensures { result ≡ is_some (spec.explicit self.now) }
@@ -41,6 +57,17 @@ impl<T> Override<T> {
             Override::Explicit(value) => Some(value),
         }
     }
+
+    /// The value that is given, or else what `op` answers.
+    pub fn unwrap_or_else<F: FnOnce() -> T>(self, op: F) -> T
+        requires { ForNone (spec.explicit self) (F.pre op) }
+        ensures { MatchOption (spec.explicit self) (F.post op result) (λ value. result ≡ value) }
+    {
+        match self {
+            Override::Inherit => op(),
+            Override::Explicit(value) => value,
+        }
+    }
 }
 
 impl<T: Drop> Override<T> {
@@ -55,6 +82,29 @@ impl<T: Drop> Override<T> {
     }
 }
 
+impl<T: Default> Override<T> {
+    /// The value that is given, or else the type's default.
+    pub fn unwrap_or_default(self) -> T
+        ensures { UnwrapsOrElse (spec.explicit self) T.is_default result }
+    {
+        match self {
+            Override::Inherit => T::default(),
+            Override::Explicit(value) => value,
+        }
+    }
+}
+
+impl<T> Default for Override<T> {
+    ghost use Rattle.std.specs.Prelude.{◌≡◌};
+    ghost use Rattle.util_core.specs.declared.over_ride.Override.TheVariants.{Inherit};
+
+    ghost is_default = { λ it. it ≡ Inherit };
+
+    fn default() -> Override<T> {
+        Override::Inherit
+    }
+}
+
 impl<T> From<Option<T>> for Override<T> {
     ghost use Rattle.std.specs.Prelude.{◌≡◌};
     ghost use Rattle.util_core.specs.Override.{of_option};
@@ -65,6 +115,29 @@ impl<T> From<Option<T>> for Override<T> {
         match value {
             None => Override::Inherit,
             Some(value) => Override::Explicit(value),
+        }
+    }
+}
+
+/// `Inherit`, or the value as ``Explicit `value` ``.
+impl<T: Display> Display for Override<T> {
+    ghost use Rattle.util_core.specs.Override.{shown};
+
+    ghost output = { shown T.output };
+
+    fn fmt<W: fmt::Write>(&self, f: &mut fmt::Formatter<W>) -> fmt::Result {
+        match self {
+            Override::Inherit => f.write_str("Inherit"),
+            Override::Explicit(value) => write!(f, "Explicit `{value}`"),
+        }
+    }
+}
+
+impl<T: TryClone + Drop> TryClone for Override<T> {
+    fn try_clone(&self, alloc: Global) -> Mem<Override<T>> {
+        match self {
+            Override::Inherit => Ok(Override::Inherit),
+            Override::Explicit(value) => Ok(Override::Explicit(value.try_clone(alloc)?)),
         }
     }
 }

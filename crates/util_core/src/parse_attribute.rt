@@ -1,15 +1,14 @@
 //! What an attribute lists.
 
-ghost use Rattle.std.specs.Prelude.{◌≡◌, ◌++◌, IfOk, OnOk};
+ghost use Rattle.std.specs.Prelude.{◌≡◌, IfOk};
 ghost use Rattle.error_core.specs.ErrorView.{One};
 ghost use Rattle.meta_core.specs.Answers.{Answers};
 ghost use Rattle.util_core.specs.Attributes as spec;
 
 use meta_core::{
-    Error, Fail, Items, Mem, Meta, MetaList, MetaNameValue, Path, Result, Text, TokenStream,
-    TryClone, path_to_string,
+    Error, Fail, Items, Mem, Meta, MetaList, MetaNameValue, Result, Text, TokenStream, TryClone,
 };
-use node_core::{Attribute, Delimiter};
+use node_core::{Attribute, Delimiter, push_full_path};
 use std::alloc::Global;
 
 /// The list that the attribute holds. A word is an empty list, and a value is a fault.
@@ -34,18 +33,7 @@ fn name_value(alloc: Global, pair: &MetaNameValue) -> Mem<Error>
     ensures { IfOk result (λ error. error ≡ One (spec.name_value pair.now)) }
 {
     let mut text = Text::from_str(alloc, "Name-value arguments are not supported. Use #[")?;
-    push_path(alloc, &mut text, &pair.path)?;
+    push_full_path(&mut text, &pair.path)?;
     text.push_str("(...)]")?;
     Ok(Error::custom(alloc, text.as_str())?.with_span_at(pair.span))
-}
-
-/// Puts the path's text behind what stands there, with the `::` that it may begin with.
-fn push_path(alloc: Global, text: &mut Text, path: &Path) -> Mem<()>
-    ensures { OnOk result (text.new ≡ text.old ++ spec.full_path_text path.now) }
-{
-    if path.leading_colon {
-        text.push_str("::")?;
-    }
-    text.push_str(path_to_string(alloc, path)?.as_str())?;
-    Ok(())
 }

@@ -1,6 +1,10 @@
 //! An expression in which a string is not parsed.
 
-use meta_core::{Call, Expr, FromMeta, Result, TryClone};
+ghost use Rattle.std.specs.Prelude.{◌≡◌};
+ghost use Rattle.print_core.specs.Nodes.{expr_tokens};
+
+use meta_core::{Call, Expr, FromMeta, Items, Mem, Result, TryClone};
+use print_core::{ToTokens, TokenTree};
 use std::alloc::Global;
 
 /// Any expression, as it stands: a string stays a string, and an invisible group stays around it.
@@ -12,6 +16,50 @@ pub struct PreservedStrExpr {
 impl Drop for PreservedStrExpr {
     fn drop(self) {
         let Self { expr: _expr } = self;
+    }
+}
+
+impl PreservedStrExpr {
+    fn into_expr(self) -> Expr
+        ensures { result ≡ self.expr }
+    {
+        let Self { expr } = self;
+        expr
+    }
+}
+
+impl From<Expr> for PreservedStrExpr {
+    ghost use Rattle.std.specs.Prelude.{◌≡◌};
+
+    ghost from_gives = { λ expr it. it.expr ≡ expr };
+
+    fn from(expr: Expr) -> PreservedStrExpr {
+        PreservedStrExpr { expr }
+    }
+}
+
+impl From<PreservedStrExpr> for Expr {
+    ghost use Rattle.std.specs.Prelude.{◌≡◌};
+
+    ghost from_gives = { λ it expr. expr ≡ it.expr };
+
+    fn from(it: PreservedStrExpr) -> Expr {
+        it.into_expr()
+    }
+}
+
+impl TryClone for PreservedStrExpr {
+    fn try_clone(&self, alloc: Global) -> Mem<PreservedStrExpr> {
+        let expr = self.expr.try_clone(alloc)?;
+        Ok(PreservedStrExpr { expr })
+    }
+}
+
+impl ToTokens for PreservedStrExpr {
+    ghost printing = { λ it. expr_tokens it.expr };
+
+    fn print(&self, alloc: Global, trees: &mut Items<TokenTree>) -> Mem<()> {
+        self.expr.print(alloc, trees)
     }
 }
 
