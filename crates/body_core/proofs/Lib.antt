@@ -1,0 +1,3 @@
+mod CallsLemmas
+mod MembersLemmas
+mod ShapeLemmas
