@@ -1,0 +1,9 @@
+pub mod Ast
+pub mod Items
+pub mod Kinds
+pub mod Mentions
+pub mod Nodes
+pub mod Occurs
+pub mod Parameters
+pub mod Rules
+pub mod Selected
