@@ -1,0 +1,21 @@
+//! The types of fields as rows of the table of conversions: what a type names is found once, with the
+//! declarations of the text, and not again for each item that is read at it.
+//!
+//! [`row_of`] resolves a type. A name that is neither a declaration's nor of the table is the host's.
+#![tactic(auto)]
+
+mod arguments;
+mod head;
+mod items;
+mod leaf;
+mod name;
+mod path;
+mod resolve;
+mod row;
+mod table;
+mod wrapper;
+
+pub use leaf::{Integer, Leaf, LitKind, Parsed, PunctuatedItem, SetItem, Unsigned, VecItem};
+pub use resolve::{element_of, row_of};
+pub use row::Row;
+pub use wrapper::{HashKey, TreeKey};
