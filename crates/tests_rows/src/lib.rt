@@ -16,7 +16,11 @@ mod lists;
 #[cfg(test)]
 mod literals;
 #[cfg(test)]
+mod maps;
+#[cfg(test)]
 mod non_zero;
+#[cfg(test)]
+mod sets;
 #[cfg(test)]
 mod shown;
 #[cfg(test)]

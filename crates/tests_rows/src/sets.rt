@@ -1,0 +1,163 @@
+//! Sets of names, and lists of paths.
+
+use crate::asked::rows;
+use crate::shown::Shown;
+use error_core::{Path, Text};
+use meta_core::{
+    FromMeta, FromMetaTag, FromMetaTagAll, Ident, KeyFromPath, NestedMeta, PathList, TryClone,
+};
+use std::alloc::Global;
+use std::collections::{BTreeSet, HashSet};
+use std::hash::Hash;
+use std::test::Fail;
+use tests_checks::{Tested, given, kind_of, row_of, tokens};
+
+/// The names in the order of their texts.
+impl<T: KeyFromPath + Hash> Shown for HashSet<T> {
+    fn show(&self, alloc: Global, text: &mut Text) -> Tested<()> {
+        let mut shown = BTreeSet::new(alloc);
+        for name in self.iter() {
+            shown.insert(name.to_display(alloc)?)?;
+        }
+        for name in shown.iter() {
+            text.push_str(name.as_str())?;
+            text.push(';')?;
+        }
+        Ok(())
+    }
+}
+
+impl Shown for PathList {
+    fn show(&self, alloc: Global, text: &mut Text) -> Tested<()> {
+        let texts = self.to_strings(alloc)?;
+        for path in texts.iter() {
+            text.push_str(path.as_str())?;
+            text.push(';')?;
+        }
+        Ok(())
+    }
+}
+
+#[test]
+fn hash_set_ident_succeeds(rt: HostRuntime) -> Tested<()> {
+    rows::<HashSet<Ident>>(rt.alloc(), "ignore(hello, world) => hello;world;")
+}
+
+#[test]
+fn hash_set_ident_duplicate(rt: HostRuntime) -> Tested<()> {
+    rows::<HashSet<Ident>>(
+        rt.alloc(),
+        "ignore(hello, hello) => 14..19 Duplicate field `hello`;",
+    )
+}
+
+#[test]
+fn hash_set_ident_multiple_errors(rt: HostRuntime) -> Tested<()> {
+    rows::<HashSet<Ident>>(
+        rt.alloc(),
+        "ignore(hello, hello, the::world) => 14..19 Duplicate field `hello`;21..31 expected an identifier;",
+    )
+}
+
+#[test]
+fn hash_set_path_succeeds(rt: HostRuntime) -> Tested<()> {
+    rows::<HashSet<Path>>(rt.alloc(), "ignore(hello, the::world) => hello;the::world;")
+}
+
+#[test]
+fn hash_set_path_duplicate(rt: HostRuntime) -> Tested<()> {
+    rows::<HashSet<Path>>(
+        rt.alloc(),
+        "ignore(the::world, the::world) => 19..29 Duplicate field `the::world`;",
+    )
+}
+
+const NAMES: &str = r#"a() => 
+a(c, r#b, b) => b;c;r#b;
+a(r#b, r#b) => 7..10 Duplicate field `r#b`;
+a(b, b(c), 1, d = 2, d, b) => 5..9 expected a path only;- Unexpected meta-item format `expression`;14..19 expected a path only;24..25 Duplicate field `b`;
+a(d = b c, d) => 0..13 Unexpected meta-item format `expression`;
+a => 0..1 Unexpected meta-item format `word`;
+a = b => 4..5 Unexpected type `path`;"#;
+
+const OTHER_PATHS: &str = "a(b, ::c, d::e) => b;c;d::e;
+a(::b, ::b, b) => 7..10 Duplicate field `b`;";
+
+#[test]
+fn sets_of_names(rt: HostRuntime) -> Tested<()> {
+    let alloc = rt.alloc();
+    rows::<HashSet<Ident>>(alloc, NAMES)?;
+    rows::<HashSet<Path>>(alloc, NAMES)?;
+    rows::<HashSet<Path>>(alloc, OTHER_PATHS)
+}
+
+// The first fault is told alone.
+const WORDS: &str = r#"ignore(Debug, Clone, Eq) => Debug;Clone;Eq;
+ignore(serde::Debug, Clone, Clone) => serde::Debug;Clone;Clone;
+ignore() => 
+ignore(Debug, Clone = false) => 14..27 Unexpected type `non-word`;
+ignore(Debug, Clone(a), 1) => 14..22 Unexpected type `non-word`;
+ignore(1, Debug = 2) => 7..8 Unexpected type `non-word`;
+ignore(Debug = a b) => 7..18 Unexpected type `non-word`;
+ignore => 0..6 Unexpected meta-item format `word`;"#;
+
+#[test]
+fn path_lists(rt: HostRuntime) -> Tested<()> {
+    rows::<PathList>(rt.alloc(), WORDS)
+}
+
+/// The list of `a(..)`.
+fn path_list(alloc: Global, text: &str) -> Tested<PathList> {
+    let tokens = tokens(alloc, 0, text)?;
+    let items = given(NestedMeta::parse_meta_list(alloc, &tokens), text)?;
+    let [item] = items.as_slice() else {
+        return Err(Fail::new(format_args!("{text} is no one item")));
+    };
+    match PathList::from_nested_meta(alloc, item) {
+        Ok(list) => Ok(list),
+        Err(_) => Err(Fail::new(format_args!("{text} is no list of paths"))),
+    }
+}
+
+/// What the lists have in common.
+fn common(alloc: Global, left: &str, right: &str) -> Tested<PathList> {
+    let (left, right) = (path_list(alloc, left)?, path_list(alloc, right)?);
+    let mut paths = Vec::new(alloc);
+    for path in left.intersection(&right) {
+        paths.push(path.try_clone(alloc)?)?;
+    }
+    Ok(PathList::new(paths))
+}
+
+// Two lists, and what they have in common: in the order and number of the first.
+const COMMON: &str = "a(Debug, Clone, Eq) | a(Clone, Eq, Clone) => Clone;Eq;
+a(Clone, Eq, Clone) | a(Debug, Eq, Clone) => Clone;Eq;Clone;
+a(b, ::b, b::c) | a(::b, b::d) => b;
+a(Debug) | a() => 
+a() | a(Debug) => ";
+
+#[test]
+fn intersections(rt: HostRuntime) -> Tested<()> {
+    let alloc = rt.alloc();
+    for row in COMMON.lines() {
+        let (lists, wanted) = row_of(row);
+        let (left, right) = kind_of(lists)?;
+        let mut text = Text::new(alloc);
+        common(alloc, left, right)?.show(alloc, &mut text)?;
+        if !text.is(wanted) {
+            return Err(Fail::new(format_args!("{row}: {}", text.as_str())));
+        }
+    }
+    Ok(())
+}
+
+#[test]
+fn tags(rt: HostRuntime) -> Tested<()> {
+    let asked = FromMetaTag::<Option<bool>>::new().from_none(rt.alloc())?;
+    let unasked = FromMetaTag::<bool>::new().from_none(rt.alloc())?;
+    let other = FromMetaTagAll::<Option<bool>>::new().from_none();
+    match (asked, unasked, other) {
+        (Some(None), None, None) => Ok(()),
+        _ => Err(Fail::new(format_args!("a tag asks another type"))),
+    }
+}
