@@ -1,5 +1,5 @@
 -- Keys and values that are there or not.
-use Rattle.std.proofs.Common.{◌≡◌, refl, ap, sym, ◌∙◌, List, [], ◌∷◌, ◌++◌, Option, Some, None, append-nil}
+use Rattle.std.proofs.Common.{◌≡◌, refl, ap, ◌∙◌, List, [], ◌∷◌, ◌++◌, Some, None, append-nil}
 use Rattle.std.specs.Prelude.{Bool}
 use Rattle.base_core.specs.declared.text.Text.{Text}
 use Rattle.tok_types.specs.declared.span.Span.{Span}

@@ -1,9 +1,9 @@
 -- The keys so far, and the faults that an accumulator takes.
-use Rattle.std.proofs.Common.{◌≡◌, refl, ap, sym, ◌∙◌, List, [], ◌∷◌, ◌++◌, Result, Ok, Err, Option, Some, None, append-nil, ℕ, ◌<◌, ◌+◌, suc, length, drop, get_or, drop-cons, add-one}
+use Rattle.std.proofs.Common.{◌≡◌, refl, ap, sym, ◌∙◌, List, [], ◌∷◌, ◌++◌, Result, Ok, Err, Option, Some, append-nil, ℕ, ◌<◌, ◌+◌, suc, length, drop, get_or, drop-cons, add-one}
 use Rattle.std.specs.Prelude.{option_map, OnOk, Bool, ◌||◌}
 use Rattle.std.proofs.lemmas.Grind.{flat_map-append}
 use Rattle.error_fault.specs.declared.fault.Fault.{Fault}
-use Rattle.error_fault.specs.Outcome.{Outcome, Value, Faults, faults_of, value_of, settle, on_value}
+use Rattle.error_fault.specs.Outcome.{Outcome, Value, faults_of, value_of, settle, on_value}
 use Rattle.error_core.specs.Answers.{Answers, Handles}
 use Rattle.error_core.specs.ErrorView.{ErrorView, held, leaves}
 use Rattle.error_core.specs.declared.fail.Fail.{Fail}

@@ -3,12 +3,10 @@ use Rattle.std.specs.Prelude.{Bool, if◌then◌else◌, List, [], ◌∷◌, �
 use Rattle.std.specs.List.{fold, list_any}
 use Rattle.std.specs.Ordering.{bool_cmp, nat_cmp, ordering_then}
 use Rattle.std.specs.Cmp.Lexicographic.{slice_cmp}
-use Rattle.std.specs.Str.{bytes_eq}
 use Rattle.std.specs.declared.cmp.Ordering.{Ordering}
 use Rattle.std.specs.BTreeMap.{insert_entry}
 use Rattle.std.specs.Map.{lookup, update_all}
 use Rattle.base_core.specs.declared.text.Text.{Text}
-use Rattle.tok_types.specs.Ident.{ident_text}
 use Rattle.tok_types.specs.declared.ident.Ident.{Ident}
 use Rattle.tok_types.specs.declared.span.Span.{Span}
 use Rattle.node_core.specs.Meta.{path_of_meta}
@@ -23,7 +21,6 @@ use Rattle.meta_nested.specs.declared.nested.NestedMeta.{NestedMeta}
 use Rattle.meta_nested.specs.declared.nested.NestedMeta.TheVariants as nested
 use Rattle.meta_cells.specs.Cells.{Cells, no_cells}
 use Rattle.meta_cells.specs.Dispatch.{from_meta, from_invalid_expr}
-use Rattle.meta_core.specs.Keys.{text_key, ident_key}
 
 -- a path, and what is read behind it, whose faults stand in the field of that name
 abbrev pub pair : {A : Type 0} → Path → Outcome A → Option (Path × Outcome A)

@@ -2,6 +2,7 @@
 use Rattle.std.proofs.Common.{◌≡◌, ℕ, zero, suc, ◌+◌, ◌≤◌, Bool, true, false, ◌&&◌, not, ◌==◌, if◌then◌else◌, List, [], ◌∷◌, take, drop, slice_index_or, refl, arith, sym, subst, ◌∙◌, length-drop}
 use Rattle.std.proofs.lemmas.Grind.{get_or_after_one}
 use Rattle.std.proofs.lemmas.List.{get_or_past, get_or-take, length-take}
+use Rattle.std.proofs.Math.Bool.{and-false, and-true}
 use Rattle.tok_types.specs.declared.tree.TokenTree.{TokenTree}
 use Rattle.syn_grammar.specs.Token.{is_comma, is_greater, is_less}
 use Rattle.law_angles.specs.Ends.{Before, behind, ends, max_angles, too_many}
@@ -12,6 +13,7 @@ use Rattle.meta_nested.specs.Angles.{RowTells, role_of}
 
 -- ---- what a role says of the token
 
+-- by whether it is a comma, a `<`, a `<` behind two colons, a `>` that ends no arrow
 abbrev Says : Role → Bool → Bool → Bool → Bool → Type 0
 Says role.Comma comma less colons greater = comma ≡ true
 Says role.Turbofish comma less colons greater = (comma ≡ false) × (less ≡ true) × (colons ≡ true)
@@ -32,16 +34,9 @@ seen before trees = go (is_comma trees) (is_less trees) before.colons (is_greate
     go false false colons true = (refl, refl, refl)
     go false false colons false = (refl, refl, refl)
 
+-- what is so of the token that has the role
 seen-as : (it : Role) (before : Before) (trees : List TokenTree) → it ≡ role_of before trees → Seen it before trees
 seen-as it before trees is = subst (λ it. Seen it before trees) (sym is) (seen before trees)
-
-and-false : (a : Bool) → (a && false) ≡ false
-and-false true = refl
-and-false false = refl
-
-and-true : (a : Bool) → (a && true) ≡ a
-and-true true = refl
-and-true false = refl
 
 some-open : (angles : ℕ) → (suc angles == 0) ≡ false
 some-open angles = grind arith
@@ -52,16 +47,19 @@ no_angle trees e = (grind arith, grind arith)
 
 -- ---- the walk over one token
 
+-- no angle is open
 ends-none : (before : Before) (tree : TokenTree) (trees : List TokenTree) (comma turbofish : Bool) → is_comma (tree ∷ trees) ≡ comma → (before.colons && is_less (tree ∷ trees)) ≡ turbofish
     → ends before 0 (tree ∷ trees) ≡ (if comma then true else ends (behind before (tree ∷ trees)) (if turbofish then 1 else 0) trees)
 unfolding Rattle.law_angles.specs.Ends.angles_behind
 ends-none before tree trees comma turbofish e f = rw (e, f) refl
 
+-- some are, and a `<` comes
 less-on : (before : Before) (tree : TokenTree) (trees : List TokenTree) (angles : ℕ) → is_less (tree ∷ trees) ≡ true
     → ends before (suc angles) (tree ∷ trees) ≡ (if suc angles == max_angles then false else ends (behind before (tree ∷ trees)) (suc (suc angles)) trees)
 unfolding Rattle.law_angles.specs.Ends.angles_behind
 less-on before tree trees angles e = rw (some-open angles, e, and-true (suc angles == max_angles)) refl
 
+-- some are, and no `<` comes
 greater-on : (before : Before) (tree : TokenTree) (trees : List TokenTree) (angles : ℕ) (greater : Bool) → is_less (tree ∷ trees) ≡ false → (is_greater (tree ∷ trees) && not before.minus) ≡ greater
     → ends before (suc angles) (tree ∷ trees) ≡ ends (behind before (tree ∷ trees)) (if greater then angles else suc angles) trees
 unfolding Rattle.law_angles.specs.Ends.angles_behind
@@ -93,6 +91,7 @@ module _ (before : Before) (tree : TokenTree) (trees : List TokenTree) (row : Ro
           let same : 1 + angles ≡ suc angles = omega arith in
           rw same (tells.each (suc (suc angles)) more)
 
+  -- each role
   pub row-comma : role.Comma ≡ role_of before (tree ∷ trees) → RowTells before (tree ∷ trees) (record { none = true; some = row.some })
   row-comma is = record { fits = tells.fits; each = each }
     where

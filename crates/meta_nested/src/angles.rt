@@ -17,7 +17,7 @@ use syn_rules::MAX_DEPTH;
 const MAX_ANGLES: usize = 2 * MAX_DEPTH;
 
 /// What a token is to the angles round it.
-#[derive(Clone, Copy, Debug, PartialEq, Eq)]
+#[derive(Clone, Copy)]
 enum Role {
     Comma,
     /// A `<` behind `::`.
@@ -29,7 +29,7 @@ enum Role {
     Other,
 }
 
-/// Whether the angles close that are open at a place.
+/// Whether the angles close that are open at a place of the list.
 #[derive(Drop)]
 struct Row {
     /// Where none is open.

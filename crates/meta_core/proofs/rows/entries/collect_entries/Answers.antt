@@ -1,5 +1,4 @@
-use Rattle.std.proofs.Common.{rules, ◌≡◌, ◌++◌, ◌+◌, ◌∙◌, ap, sym, refl, [], drop, append_assoc, append-nil}
-use Rattle.std.proofs.lemmas.List.{drop_all}
+use Rattle.std.proofs.Common.{rules, ◌≡◌, ◌++◌, ◌+◌, ◌∙◌, ap, sym, refl, [], drop, append_assoc}
 use Rattle.error_core.specs.ErrorView.{held}
 use Rattle.meta_core.specs.Maps.{entries_of, entry_of, item_faults, keys_with, map_faults, pair_in, seen_entries}
 use Rattle.meta_core.proofs.MapLemmas.{left_here}

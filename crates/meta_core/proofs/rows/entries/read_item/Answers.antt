@@ -1,4 +1,4 @@
-use Rattle.std.proofs.Common.{◌++◌, ◌∙◌, ap, refl}
+use Rattle.std.proofs.Common.{◌++◌, ◌∙◌, ap}
 use Rattle.node_make.specs.PathText.{path_text}
 use Rattle.error_fault.specs.Outcome.{under}
 use Rattle.error_core.specs.ErrorView.{held, leaves}

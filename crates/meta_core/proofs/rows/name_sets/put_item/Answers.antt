@@ -2,7 +2,6 @@ use Rattle.std.proofs.Common.{◌++◌, ◌∙◌, ap, sym}
 use Rattle.std.specs.Prelude.{◌||◌}
 use Rattle.std.specs.HashSet.{contains}
 use Rattle.error_core.specs.ErrorView.{held}
-use Rattle.meta_core.specs.Sets.{is_name}
 use Rattle.meta_core.proofs.SetLemmas.{is_name-none, is_name-some, name_faults-none, name_faults-some, or_none}
 use Rattle.meta_core.proofs.rows.name_sets.put_item.Goals as goal
 
