@@ -1,25 +1,18 @@
 -- Bodies whose members are of any type.
 use Rattle.std.specs.Prelude.{◌≡◌, List, [], Option, Some, None, map, codes}
 use Rattle.tok_types.specs.declared.span.Span.{Span}
-use Rattle.node_core.specs.declared.data.Fields.{Fields as NodeFields}
-use Rattle.node_core.specs.declared.data.Fields.TheVariants as fields
 use Rattle.node_core.specs.declared.data.«Data».{«Data» as NodeData}
 use Rattle.node_core.specs.declared.data.«Data».TheVariants as body
+use Rattle.node_core.specs.Style.{style_of}
 use Rattle.error_fault.specs.Outcome.{Outcome, Value, refused}
 use Rattle.error_fault.specs.declared.kind.FaultKind.{FaultKind}
 use Rattle.error_fault.specs.declared.kind.FaultKind.TheVariants.{Custom}
 use Rattle.body_core.specs.declared.ast.data.«Data».{«Data»}
 use Rattle.body_core.specs.declared.ast.data.«Data».TheVariants as container
-use Rattle.body_core.specs.declared.ast.style.Style.{Style}
-use Rattle.body_core.specs.declared.ast.style.Style.TheVariants as style
+use Rattle.node_core.specs.declared.style.Style.{Style}
+use Rattle.node_core.specs.declared.style.Style.TheVariants as style
 use Rattle.body_core.specs.declared.ast.fields.Fields.{Fields}
 use Rattle.body_core.specs.Calls.{AnswersEach}
-
--- how a node's fields are written
-abbrev pub style_of : NodeFields → Style
-style_of (fields.Named it) = style.Struct
-style_of (fields.Unnamed it) = style.Tuple
-style_of fields.Unit = style.Unit
 
 -- where the members stand, where that is known
 abbrev pub place : {A : Type 0} → Fields A → Option Span

@@ -14,7 +14,8 @@ use Rattle.body_core.specs.declared.ast.data.«Data».{«Data»}
 use Rattle.body_core.specs.declared.ast.data.«Data».TheVariants as container
 use Rattle.body_core.specs.declared.ast.fields.Fields.{Fields}
 use Rattle.body_core.specs.Each.{every}
-use Rattle.body_core.specs.Data.{style_of, placed, no_unions}
+use Rattle.node_core.specs.Style.{style_of}
+use Rattle.body_core.specs.Data.{placed, no_unions}
 
 module _ {A : Type 0} (read : Field → Outcome A) where
   -- the faults in the field of this name, where there is one

@@ -6,8 +6,8 @@ use Rattle.node_core.specs.declared.data.Fields.TheVariants as fields
 use Rattle.error_fault.specs.Outcome.{Outcome, Value, refused}
 use Rattle.error_fault.specs.declared.kind.FaultKind.TheVariants.{UnsupportedShape}
 use Rattle.body_core.specs.declared.ast.fields.Fields.{Fields as Members}
-use Rattle.body_core.specs.declared.ast.style.Style.{Style}
-use Rattle.body_core.specs.declared.ast.style.Style.TheVariants as style
+use Rattle.node_core.specs.declared.style.Style.{Style}
+use Rattle.node_core.specs.declared.style.Style.TheVariants as style
 use Rattle.body_core.specs.declared.shape.Shape.{Shape}
 use Rattle.body_core.specs.declared.shape.Shape.TheVariants as shape
 use Rattle.body_core.specs.declared.shape.ShapeSet.{ShapeSet}

@@ -6,8 +6,8 @@ use Rattle.tok_types.specs.declared.span.Span.TheVariants.{CallSite}
 use Rattle.tok_types.specs.declared.tree.Delimiter.TheVariants as delimiter
 use Rattle.print_core.specs.Marks.{Trees, comma, ended, group, joined}
 use Rattle.body_core.specs.declared.ast.fields.Fields.{Fields}
-use Rattle.body_core.specs.declared.ast.style.Style.{Style}
-use Rattle.body_core.specs.declared.ast.style.Style.TheVariants as style
+use Rattle.node_core.specs.declared.style.Style.{Style}
+use Rattle.node_core.specs.declared.style.Style.TheVariants as style
 use Rattle.body_core.specs.Data.{place}
 
 -- in braces, each with a comma behind it; in parentheses, with commas between them; or nothing

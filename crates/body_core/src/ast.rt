@@ -8,9 +8,8 @@ mod fields_tokens;
 mod generics;
 mod generics_from;
 mod members;
-mod style;
 
 pub use data::Data;
 pub use fields::Fields;
 pub use generics::{GenericParam, GenericParamExt, Generics, TypeParams};
-pub use style::Style;
+pub use node_core::Style;

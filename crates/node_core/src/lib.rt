@@ -12,6 +12,7 @@ mod derive;
 mod generics;
 mod laws;
 mod punctuated;
+mod style;
 
 pub use attr::{Attribute, Meta, MetaList, MetaNameValue};
 pub use data::{
@@ -34,3 +35,4 @@ pub use node_expr::{
 };
 pub use node_make::{make, path_to_string, push_full_path};
 pub use punctuated::{Comma, Punctuated};
+pub use style::Style;

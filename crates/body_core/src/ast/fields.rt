@@ -2,13 +2,13 @@
 
 ghost use Rattle.std.specs.Prelude.{◌≡◌, ◌↔◌, [], IfOk, IsTrue, Some, length, map};
 ghost use Rattle.std.specs.Slice.Iter.{iter_rest};
+ghost use Rattle.node_core.specs.Style.{style_of};
 ghost use Rattle.error_fault.specs.Fault.{span_or};
 ghost use Rattle.body_core.specs.Calls.{AnswersEach};
 ghost use Rattle.body_core.specs.Data as spec;
 
 use crate::ast::members::{map_members, references};
-use crate::ast::style::Style;
-use node_core::{Items, Mem, Span, TryClone};
+use node_core::{Items, Mem, Span, Style, TryClone};
 use std::alloc::Global;
 use std::{slice, vec};
 
@@ -48,7 +48,7 @@ impl<T> Fields<T> {
 
     /// No members, in the style of a node's fields.
     pub fn empty_from(alloc: Global, vd: &node_core::Fields) -> Fields<T>
-        ensures { result ≡ spec.unplaced (spec.style_of vd.now) [] }
+        ensures { result ≡ spec.unplaced (style_of vd.now) [] }
     {
         Fields::from_style(alloc, Style::of(vd))
     }

@@ -9,10 +9,9 @@ ghost use Rattle.body_core.specs.Members as spec;
 
 use crate::ast::fields::Fields;
 use crate::ast::members::{ReadMember, read_members};
-use crate::ast::style::Style;
 use crate::from_field::FromField;
 use error_core::{Fail, Result};
-use node_core::{Field, Ident, Items};
+use node_core::{Field, Ident, Items, Style};
 use node_span::Spanned;
 use std::alloc::Global;
 use std::marker::PhantomData;

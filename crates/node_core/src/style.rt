@@ -1,10 +1,14 @@
-//! How the members of a body are written.
+//! How the members of a body are written, as `darling_core::ast::Style`.
 
 ghost use Rattle.std.specs.Prelude.{◌≡◌, ◌↔◌, IsTrue};
-ghost use Rattle.body_core.specs.Data as spec;
+ghost use Rattle.node_core.specs.Style as spec;
+
+use crate::data::Fields;
+use node_expr::{Mem, TryClone};
+use std::alloc::Global;
 
 /// How the members of a body are written.
-#[derive(Clone, Copy, PartialEq, Eq)]
+#[derive(Clone, Copy, Debug, PartialEq, Eq, Hash)]
 pub enum Style {
     /// `(A, B)`
     Tuple,
@@ -34,13 +38,19 @@ impl Style {
     }
 
     /// The style of a node's fields.
-    pub fn of(fields: &node_core::Fields) -> Style
+    pub fn of(fields: &Fields) -> Style
         ensures { result ≡ spec.style_of fields.now }
     {
         match fields {
-            node_core::Fields::Named(_) => Style::Struct,
-            node_core::Fields::Unnamed(_) => Style::Tuple,
-            node_core::Fields::Unit => Style::Unit,
+            Fields::Named(_) => Style::Struct,
+            Fields::Unnamed(_) => Style::Tuple,
+            Fields::Unit => Style::Unit,
         }
+    }
+}
+
+impl TryClone for Style {
+    fn try_clone(&self, _alloc: Global) -> Mem<Style> {
+        Ok(*self)
     }
 }
