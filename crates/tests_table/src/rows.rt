@@ -1,5 +1,6 @@
 //! Which texts are tables, and what these rename.
 
+use base_core::TryClone;
 use std::alloc::Global;
 use std::test::Fail;
 use util_table::{MAX_LEN, RenameRule, RenameTable, TableFail};
@@ -131,4 +132,18 @@ fn an_empty_table_keeps_names(rt: HostRuntime) {
     assert_eq!(rt; table.named("kebab"), RenameRule::Keep);
     assert_eq!(rt; table.field(RenameRule::Named(0), "a"), "a");
     assert_eq!(rt; table.variant(RenameRule::Keep, "A"), "A");
+}
+
+#[test]
+fn a_copy_renames_the_same(rt: HostRuntime) -> Tested<()> {
+    let alloc = rt.alloc();
+    match parsed(alloc, "kebab field a b")? {
+        Ok(table) => {
+            let copy = table.try_clone(alloc)?;
+            assert_eq!(rt; copy.field(copy.named("kebab"), "a"), "b");
+            assert_eq!(rt; copy.field(copy.named("kebab"), "c"), "c");
+            Ok(())
+        }
+        Err(_) => Err(Fail::new(format_args!("the text is no table"))),
+    }
 }

@@ -1,5 +1,5 @@
 -- Where the rows of a table stand, as the look-ups find them.
-use Rattle.std.specs.Prelude.{◌≡◌, ◌&&◌, ℕ, Bool, List, if◌then◌else◌, Option, Some, None, String, option_map, option_and_then, position}
+use Rattle.std.specs.Prelude.{◌≡◌, ◌<◌, ◌^◌, ◌&&◌, ℕ, Bool, List, if◌then◌else◌, Option, Some, None, String, option_map, option_and_then, position, length}
 use Rattle.std.specs.BTreeMap.{BTreeMap, get_by_text}
 use Rattle.std.specs.Option.{option_or}
 use Rattle.std.specs.declared.alloc.Global.{Global}
@@ -41,3 +41,8 @@ pub record ArePlaces (places : Places) (rows : List Row) : Type 0 where
   pub first : (rule : List ℕ) → first_of places rule ≡ position (has_rule rule) rows
   pub rest : (rule : List ℕ) (kind : RenameKind) (identifier : List ℕ)
       → place_of places rule kind identifier ≡ position (λ row. has_rule rule row && is_for kind identifier row) rows
+
+-- the places are those of these rows, of which there are no more than a place can count
+pub record IsTable (places : Places) (rows : List Row) : Type 0 where
+  pub placed : ArePlaces places rows
+  pub count : length rows < 2 ^ 32

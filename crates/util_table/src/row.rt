@@ -4,7 +4,7 @@ ghost use Rattle.std.specs.Prelude.{◌≡◌, ◌≢◌, ◌∷◌, [], length,
 ghost use Rattle.util_table.specs.Table as spec;
 ghost use Rattle.util_table.specs.Table.{words_of};
 
-use base_core::{Mem, Text};
+use base_core::{Mem, Text, TryClone};
 use std::alloc::Global;
 
 /// What a row renames.
@@ -30,6 +30,17 @@ impl Drop for Row {
             identifier: _identifier,
             name: _name,
         } = self;
+    }
+}
+
+impl TryClone for Row {
+    fn try_clone(&self, alloc: Global) -> Mem<Row> {
+        Ok(Row {
+            rule: self.rule.try_clone(alloc)?,
+            kind: self.kind,
+            identifier: self.identifier.try_clone(alloc)?,
+            name: self.name.try_clone(alloc)?,
+        })
     }
 }
 

@@ -9,7 +9,7 @@ use crate::places::{RulePlaces, places_of};
 use crate::reading::{MAX_LEN, rows_of};
 use crate::row::{RenameKind, Row};
 use crate::rule::RenameRule;
-use base_core::Items;
+use base_core::{Items, Mem, TryClone};
 use std::alloc::Global;
 use std::collections::BTreeMap;
 use std::marker::Model;
@@ -22,14 +22,14 @@ pub struct RenameTable {
 
 impl Model for RenameTable {
     ghost use Rattle.std.specs.Prelude.{List};
-    ghost use Rattle.util_table.specs.Places.{ArePlaces};
+    ghost use Rattle.util_table.specs.Places.{IsTable};
     ghost use Rattle.util_table.specs.declared.row.Row.{Row};
 
     ghost Value = { List Row };
 
     ghost view = { λ it. it.rows };
 
-    ghost invariant = { λ it. ArePlaces it.places it.rows };
+    ghost invariant = { λ it. IsTable it.places it.rows };
 }
 
 impl RenameTable {
@@ -108,6 +108,14 @@ impl RenameTable {
         let rule = self.rows.get(number as usize)?.rule.as_str();
         let at = self.places.get(rule)?.place_of(kind, identifier)?;
         self.rows.get(at as usize)
+    }
+}
+
+impl TryClone for RenameTable {
+    fn try_clone(&self, alloc: Global) -> Mem<RenameTable> {
+        let rows = self.rows.try_clone(alloc)?;
+        let places = places_of(alloc, rows.as_slice())?;
+        Ok(RenameTable { rows, places })
     }
 }
 

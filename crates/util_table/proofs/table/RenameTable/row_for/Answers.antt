@@ -12,7 +12,7 @@ returns-in_err-get-2 c =
     let found = rw c.as_str-rule.ensures at c.in_err-get-2.ensures.value in
     ap option_copied c.from_residual-in_err-get-2.ensures
     ∙ ap (λ it. option_and_then (slice_get rows) (option_and_then (λ of_rule. place_in of_rule kind identifier) it)) found
-    ∙ sym (row_for-place c.self.inside.places rows c.self.invariant c.args.number c.in_ok-get.field-0.now (sym c.in_ok-get.ensures.value) kind identifier)
+    ∙ sym (row_for-place c.self.inside.places rows c.self.invariant.placed c.args.number c.in_ok-get.field-0.now (sym c.in_ok-get.ensures.value) kind identifier)
     ∙ ap (λ it. option_and_then (λ rule. row_for it rule kind identifier) (rule_at it c.args.number)) c.self.view_is
 
 pub returns-in_err-at : goal.returns-in_err-at
@@ -24,7 +24,7 @@ returns-in_err-at c =
     ap option_copied c.from_residual-in_err-at.ensures
     ∙ ap (option_and_then (slice_get rows)) c.in_err-at.ensures
     ∙ ap (λ it. option_and_then (slice_get rows) (option_and_then (λ of_rule. place_in of_rule kind identifier) it)) found
-    ∙ sym (row_for-place c.self.inside.places rows c.self.invariant c.args.number c.in_ok-get.field-0.now (sym c.in_ok-get.ensures.value) kind identifier)
+    ∙ sym (row_for-place c.self.inside.places rows c.self.invariant.placed c.args.number c.in_ok-get.field-0.now (sym c.in_ok-get.ensures.value) kind identifier)
     ∙ ap (λ it. option_and_then (λ rule. row_for it rule kind identifier) (rule_at it c.args.number)) c.self.view_is
 
 pub returns : goal.returns
@@ -36,5 +36,5 @@ returns c =
     c.get-3.ensures.value
     ∙ ap (option_and_then (slice_get rows)) c.in_ok-at.ensures
     ∙ ap (λ it. option_and_then (slice_get rows) (option_and_then (λ of_rule. place_in of_rule kind identifier) it)) found
-    ∙ sym (row_for-place c.self.inside.places rows c.self.invariant c.args.number c.in_ok-get.field-0.now (sym c.in_ok-get.ensures.value) kind identifier)
+    ∙ sym (row_for-place c.self.inside.places rows c.self.invariant.placed c.args.number c.in_ok-get.field-0.now (sym c.in_ok-get.ensures.value) kind identifier)
     ∙ ap (λ it. option_and_then (λ rule. row_for it rule kind identifier) (rule_at it c.args.number)) c.self.view_is
