@@ -1,6 +1,6 @@
 //! How a test asks a type, and what it tells of the answer.
 
-use crate::shown::Shown;
+use crate::shown::Shows;
 use error_core::{Fail as Refusal, Items, Text};
 use error_fault::{Fault, push_fault_line};
 use meta_core::{FromMeta, NestedMeta};
@@ -17,10 +17,10 @@ fn push_faults(alloc: Global, text: &mut Text, faults: &[Fault]) -> Tested<()> {
 }
 
 /// The value, or each fault with its place.
-pub fn told<T: Shown + Drop>(alloc: Global, answer: Result<T, Refusal>) -> Tested<Text> {
+pub fn told<T: Drop, S: Shows<T>>(alloc: Global, answer: Result<T, Refusal>) -> Tested<Text> {
     let mut text = Text::new(alloc);
     match answer {
-        Ok(value) => value.show(alloc, &mut text)?,
+        Ok(value) => S::show(alloc, &mut text, &value)?,
         Err(refusal) => match refusal.into_error() {
             Some(error) => {
                 let faults = error.into_faults(alloc)?;
@@ -33,13 +33,13 @@ pub fn told<T: Shown + Drop>(alloc: Global, answer: Result<T, Refusal>) -> Teste
 }
 
 /// Whether the answer is told so.
-pub fn expects<T: Shown + Drop>(
+pub fn expects<T: Drop, S: Shows<T>>(
     alloc: Global,
     answer: Result<T, Refusal>,
     row: &str,
     wanted: &str,
 ) -> Tested<()> {
-    let text = told(alloc, answer)?;
+    let text = told::<T, S>(alloc, answer)?;
     if text.is(wanted) {
         return Ok(());
     }
@@ -58,14 +58,14 @@ fn answer<T: FromMeta>(
     }
 }
 
-/// What the type makes of the item of each row.
-pub fn rows<T: FromMeta + Shown + Drop>(alloc: Global, table: &str) -> Tested<()> {
+/// What the type makes of the item of each row, shown in the form.
+pub fn rows<T: FromMeta + Drop, S: Shows<T>>(alloc: Global, table: &str) -> Tested<()> {
     for row in table.lines() {
         let (item, wanted) = row_of(row);
         let tokens = tokens(alloc, 0, item)?;
         let items = given(NestedMeta::parse_meta_list(alloc, &tokens), row)?;
         let answer = answer::<T>(alloc, items.as_slice(), row)?;
-        expects(alloc, answer, row, wanted)?;
+        expects::<T, S>(alloc, answer, row, wanted)?;
     }
     Ok(())
 }

@@ -1,7 +1,7 @@
 //! The calls asked alone, and a type that has no cell.
 
 use crate::asked::{expects, rows};
-use crate::shown::Shown;
+use crate::shown::{Displayed, Own, Printed, Shows};
 use error_core::{Result, Text};
 use meta_core::{Boxed, Call, Expr, ExprArray, FromMeta, Ident, Path, Span, Type, TypePath};
 use std::alloc::Global;
@@ -34,8 +34,8 @@ impl FromMeta for Unread {
     }
 }
 
-impl Shown for Unread {
-    fn show(&self, _alloc: Global, text: &mut Text) -> Tested<()> {
+impl Shows<Unread> for Own {
+    fn show(_alloc: Global, text: &mut Text, _value: &Unread) -> Tested<()> {
         text.push_str("read")?;
         Ok(())
     }
@@ -76,7 +76,7 @@ a = => 2..3 expected an expression;
 
 #[test]
 fn defaults(rt: HostRuntime) -> Tested<()> {
-    rows::<Unread>(rt.alloc(), DEFAULTS)
+    rows::<Unread, Own>(rt.alloc(), DEFAULTS)
 }
 
 fn has_no_none<T: FromMeta + Drop>(alloc: Global, name: &str) -> Tested<()> {
@@ -99,60 +99,37 @@ fn no_item_is_nothing(rt: HostRuntime) -> Tested<()> {
     has_no_none::<NonZeroI8>(alloc, "NonZeroI8")
 }
 
+/// What the defaults refuse alone.
+fn defaults_alone(alloc: Global) -> Tested<()> {
+    let word = "- Unexpected meta-item format `word`;";
+    let list = "- Unexpected meta-item format `list`;";
+    let string = "- Unexpected type `string`;";
+    let char = "- Unexpected type `char`;";
+    let bool = "- Unexpected type `bool`;";
+    expects::<Unread, Own>(alloc, Unread::from_word(alloc), "word", word)?;
+    expects::<Unread, Own>(alloc, Unread::from_list(alloc, &[]), "list", list)?;
+    expects::<Unread, Own>(alloc, Unread::from_string(alloc, "b"), "string", string)?;
+    expects::<Unread, Own>(alloc, Unread::from_char(alloc, 'b'), "char", char)?;
+    expects::<Unread, Own>(alloc, Unread::from_bool(alloc, true), "bool", bool)
+}
+
 /// What stands alone has no place.
 #[test]
 fn calls_alone_set_no_place(rt: HostRuntime) -> Tested<()> {
     let alloc = rt.alloc();
-    let word = "- Unexpected meta-item format `word`;";
-    let list = "- Unexpected meta-item format `list`;";
+    let yes = "- Unknown value: `yes`;";
+    let zero = "- Unknown value: `0`;";
+    let large = "- Unknown value: `256`;";
     let string = "- Unexpected type `string`;";
-    expects(alloc, Unread::from_word(alloc), "from_word", word)?;
-    expects(alloc, Unread::from_list(alloc, &[]), "from_list", list)?;
-    expects(
-        alloc,
-        Unread::from_string(alloc, "b"),
-        "from_string",
-        string,
-    )?;
-    expects(
-        alloc,
-        Unread::from_char(alloc, 'b'),
-        "from_char",
-        "- Unexpected type `char`;",
-    )?;
-    expects(
-        alloc,
-        Unread::from_bool(alloc, true),
-        "from_bool",
-        "- Unexpected type `bool`;",
-    )?;
-    expects(alloc, <()>::from_list(alloc, &[]), "()", "()")?;
-    expects(alloc, bool::from_word(alloc), "bool", "true")?;
-    expects(
-        alloc,
-        bool::from_string(alloc, "yes"),
-        "bool",
-        "- Unknown value: `yes`;",
-    )?;
-    expects(alloc, char::from_string(alloc, "bc"), "char", string)?;
-    expects(
-        alloc,
-        u8::from_string(alloc, "256"),
-        "u8",
-        "- Unknown value: `256`;",
-    )?;
-    expects(
-        alloc,
-        u8::from_char(alloc, '1'),
-        "u8",
-        "- Unexpected type `char`;",
-    )?;
-    expects(
-        alloc,
-        NonZeroU8::from_string(alloc, "0"),
-        "NonZeroU8",
-        "- Unknown value: `0`;",
-    )
+    let char = "- Unexpected type `char`;";
+    defaults_alone(alloc)?;
+    expects::<(), Own>(alloc, <()>::from_list(alloc, &[]), "()", "()")?;
+    expects::<bool, Displayed>(alloc, bool::from_word(alloc), "bool", "true")?;
+    expects::<bool, Displayed>(alloc, bool::from_string(alloc, "yes"), "bool", yes)?;
+    expects::<char, Displayed>(alloc, char::from_string(alloc, "bc"), "char", string)?;
+    expects::<u8, Displayed>(alloc, u8::from_string(alloc, "256"), "u8", large)?;
+    expects::<u8, Displayed>(alloc, u8::from_char(alloc, '1'), "u8", char)?;
+    expects::<NonZeroU8, Displayed>(alloc, NonZeroU8::from_string(alloc, "0"), "NonZeroU8", zero)
 }
 
 /// The expression of the text in two groups without delimiters, as no text has them.
@@ -168,23 +145,27 @@ fn grouped(alloc: Global, text: &str) -> Tested<Expr> {
 }
 
 /// What the type makes of the expression in two groups.
-fn in_groups<T: FromMeta + Shown + Drop>(alloc: Global, text: &str, wanted: &str) -> Tested<()> {
+fn in_groups<T: FromMeta + Drop, S: Shows<T>>(
+    alloc: Global,
+    text: &str,
+    wanted: &str,
+) -> Tested<()> {
     let expr = grouped(alloc, text)?;
-    expects(alloc, T::from_expr(alloc, &expr), text, wanted)
+    expects::<T, S>(alloc, T::from_expr(alloc, &expr), text, wanted)
 }
 
 #[test]
 fn groups_without_delimiters_are_looked_through(rt: HostRuntime) -> Tested<()> {
     let alloc = rt.alloc();
-    in_groups::<u8>(alloc, "7", "7")?;
-    in_groups::<u8>(alloc, "300", "0..3 number too large to fit in target type;")?;
-    in_groups::<u8>(alloc, "a + b", "0..5 Unexpected type `binary`;")?;
-    in_groups::<Ident>(alloc, "a", "a")?;
-    in_groups::<Path>(alloc, "a::b", "a :: b")?;
-    in_groups::<Expr>(alloc, "a + b", "a + b")?;
-    in_groups::<Expr>(alloc, "\"a + b\"", "a + b")?;
-    in_groups::<ExprArray>(alloc, "[a]", "[a]")?;
-    in_groups::<TypePath>(alloc, "a::b", "a :: b")?;
-    in_groups::<Type>(alloc, "(a, b)", "(a , b)")?;
-    in_groups::<Type>(alloc, "a + b", "0..5 expected a type;")
+    in_groups::<u8, Displayed>(alloc, "7", "7")?;
+    in_groups::<u8, Displayed>(alloc, "300", "0..3 number too large to fit in target type;")?;
+    in_groups::<u8, Displayed>(alloc, "a + b", "0..5 Unexpected type `binary`;")?;
+    in_groups::<Ident, Printed>(alloc, "a", "a")?;
+    in_groups::<Path, Printed>(alloc, "a::b", "a :: b")?;
+    in_groups::<Expr, Printed>(alloc, "a + b", "a + b")?;
+    in_groups::<Expr, Printed>(alloc, "\"a + b\"", "a + b")?;
+    in_groups::<ExprArray, Printed>(alloc, "[a]", "[a]")?;
+    in_groups::<TypePath, Printed>(alloc, "a::b", "a :: b")?;
+    in_groups::<Type, Printed>(alloc, "(a, b)", "(a , b)")?;
+    in_groups::<Type, Printed>(alloc, "a + b", "0..5 expected a type;")
 }

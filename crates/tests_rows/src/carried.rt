@@ -1,7 +1,7 @@
 //! The crate's own tests of conversions, each by its name there; those of floats, lists, sets and maps apart.
 
 use crate::asked::rows;
-use crate::shown::Shown;
+use crate::shown::{Displayed, Own, Printed, Shows};
 use error_core::{Expr, Path, Text};
 use meta_core::FromMeta;
 use node_core::{
@@ -16,12 +16,12 @@ use tests_checks::Tested;
 
 #[test]
 fn unit_succeeds(rt: HostRuntime) -> Tested<()> {
-    rows::<()>(rt.alloc(), "ignore => ()\nignore() => ()")
+    rows::<(), Own>(rt.alloc(), "ignore => ()\nignore() => ()")
 }
 
 #[test]
 fn unit_fails(rt: HostRuntime) -> Tested<()> {
-    rows::<()>(
+    rows::<(), Own>(
         rt.alloc(),
         r#"ignore(foo = "bar") => 7..18 Unknown field: `foo`;"#,
     )
@@ -35,60 +35,60 @@ ignore = "false" => false"#;
 
 #[test]
 fn bool_succeeds(rt: HostRuntime) -> Tested<()> {
-    rows::<bool>(rt.alloc(), BOOL)
+    rows::<bool, Displayed>(rt.alloc(), BOOL)
 }
 
 #[test]
 fn char_succeeds(rt: HostRuntime) -> Tested<()> {
-    rows::<char>(rt.alloc(), "ignore = '😬' => 😬\nignore = \"😬\" => 😬")
+    rows::<char, Displayed>(rt.alloc(), "ignore = '😬' => 😬\nignore = \"😬\" => 😬")
 }
 
 #[test]
 fn string_succeeds(rt: HostRuntime) -> Tested<()> {
     let text = r##"ignore = "world" => world
 ignore = r#"world"# => world"##;
-    rows::<String>(rt.alloc(), text)?;
-    rows::<Text>(rt.alloc(), text)
+    rows::<String, Displayed>(rt.alloc(), text)?;
+    rows::<Text, Own>(rt.alloc(), text)
 }
 
 #[test]
 fn pathbuf_succeeds(rt: HostRuntime) -> Tested<()> {
-    rows::<PathBuf>(rt.alloc(), r##"ignore = r#"C:\"# => C:\"##)
+    rows::<PathBuf, Own>(rt.alloc(), r##"ignore = r#"C:\"# => C:\"##)
 }
 
 #[test]
 fn number_succeeds(rt: HostRuntime) -> Tested<()> {
-    rows::<u8>(rt.alloc(), r#"ignore = "2" => 2"#)?;
-    rows::<i16>(rt.alloc(), r#"ignore = "-25" => -25"#)
+    rows::<u8, Displayed>(rt.alloc(), r#"ignore = "2" => 2"#)?;
+    rows::<i16, Displayed>(rt.alloc(), r#"ignore = "-25" => -25"#)
 }
 
 #[test]
 fn nonzero_number_fails(rt: HostRuntime) -> Tested<()> {
-    rows::<NonZeroU64>(rt.alloc(), r#"ignore = "0" => 9..12 Unknown value: `0`;"#)
+    rows::<NonZeroU64, Displayed>(rt.alloc(), r#"ignore = "0" => 9..12 Unknown value: `0`;"#)
 }
 
 #[test]
 fn nonzero_number_succeeds(rt: HostRuntime) -> Tested<()> {
-    rows::<NonZeroU32>(rt.alloc(), r#"ignore = "2" => 2"#)
+    rows::<NonZeroU32, Displayed>(rt.alloc(), r#"ignore = "2" => 2"#)
 }
 
 #[test]
 fn int_without_quotes(rt: HostRuntime) -> Tested<()> {
     let alloc = rt.alloc();
-    rows::<u8>(alloc, "ignore = 2 => 2")?;
-    rows::<u16>(alloc, "ignore = 255 => 255")?;
-    rows::<u32>(alloc, "ignore = 5000 => 5000\nignore = 5000i32 => 5000")
+    rows::<u8, Displayed>(alloc, "ignore = 2 => 2")?;
+    rows::<u16, Displayed>(alloc, "ignore = 255 => 255")?;
+    rows::<u32, Displayed>(alloc, "ignore = 5000 => 5000\nignore = 5000i32 => 5000")
 }
 
 #[test]
 fn negative_int_without_quotes(rt: HostRuntime) -> Tested<()> {
-    rows::<i8>(rt.alloc(), "ignore = -2 => -2")?;
-    rows::<i32>(rt.alloc(), "ignore = -255 => -255")
+    rows::<i8, Displayed>(rt.alloc(), "ignore = -2 => -2")?;
+    rows::<i32, Displayed>(rt.alloc(), "ignore = -255 => -255")
 }
 
 #[test]
 fn too_large_int_produces_error(rt: HostRuntime) -> Tested<()> {
-    rows::<u8>(
+    rows::<u8, Displayed>(
         rt.alloc(),
         "ignore = 2000 => 9..13 number too large to fit in target type;",
     )
@@ -96,14 +96,17 @@ fn too_large_int_produces_error(rt: HostRuntime) -> Tested<()> {
 
 #[test]
 fn meta_succeeds(rt: HostRuntime) -> Tested<()> {
-    rows::<Meta>(rt.alloc(), "hello(world, today) => hello (world , today)")
+    rows::<Meta, Printed>(rt.alloc(), "hello(world, today) => hello (world , today)")
 }
 
 #[test]
 fn test_punctuated(rt: HostRuntime) -> Tested<()> {
     let alloc = rt.alloc();
-    rows::<Punctuated<FnArg, Comma>>(alloc, r#"ignore = "a: u8, b: Type" => a : u8 , b : Type"#)?;
-    rows::<Punctuated<Expr, Comma>>(alloc, r#"ignore = "a, b, c" => a , b , c"#)
+    rows::<Punctuated<FnArg, Comma>, Printed>(
+        alloc,
+        r#"ignore = "a: u8, b: Type" => a : u8 , b : Type"#,
+    )?;
+    rows::<Punctuated<Expr, Comma>, Printed>(alloc, r#"ignore = "a, b, c" => a , b , c"#)
 }
 
 const ARRAY: &str = r#"ignore = "[0x1, 0x2]" => [0x1 , 0x2]
@@ -111,7 +114,7 @@ ignore = "[\"Hello World\", \"Test Array\"]" => ["Hello World" , "Test Array"]"#
 
 #[test]
 fn test_expr_array(rt: HostRuntime) -> Tested<()> {
-    rows::<ExprArray>(rt.alloc(), ARRAY)
+    rows::<ExprArray, Printed>(rt.alloc(), ARRAY)
 }
 
 const EXPR: &str = r#"ignore = "x + y" => x + y
@@ -120,7 +123,7 @@ ignore = "{ a_statement(); in_a_block }" => {a_statement () ; in_a_block}"#;
 
 #[test]
 fn test_expr(rt: HostRuntime) -> Tested<()> {
-    rows::<Expr>(rt.alloc(), EXPR)
+    rows::<Expr, Printed>(rt.alloc(), EXPR)
 }
 
 const BARE_EXPR: &str = "ignore = x + y => x + y
@@ -129,7 +132,7 @@ ignore = { a_statement(); in_a_block } => {a_statement () ; in_a_block}";
 
 #[test]
 fn test_expr_without_quotes(rt: HostRuntime) -> Tested<()> {
-    rows::<Expr>(rt.alloc(), BARE_EXPR)
+    rows::<Expr, Printed>(rt.alloc(), BARE_EXPR)
 }
 
 const QUOTED_PATH: &str = r#"ignore = "std::mem::replace" => std :: mem :: replace
@@ -142,13 +145,13 @@ ignore = x => x";
 // A path is printed as in a type: without `::` before its arguments.
 #[test]
 fn test_expr_path(rt: HostRuntime) -> Tested<()> {
-    rows::<ExprPath>(rt.alloc(), QUOTED_PATH)
+    rows::<ExprPath, Printed>(rt.alloc(), QUOTED_PATH)
 }
 
 #[test]
 fn test_expr_path_without_quotes(rt: HostRuntime) -> Tested<()> {
-    rows::<ExprPath>(rt.alloc(), BARE_PATH)?;
-    rows::<ExprPath>(
+    rows::<ExprPath, Printed>(rt.alloc(), BARE_PATH)?;
+    rows::<ExprPath, Printed>(
         rt.alloc(),
         "ignore = example::<Test> => example :: < Test >",
     )
@@ -156,8 +159,8 @@ fn test_expr_path_without_quotes(rt: HostRuntime) -> Tested<()> {
 
 #[test]
 fn test_path_without_quotes(rt: HostRuntime) -> Tested<()> {
-    rows::<Path>(rt.alloc(), BARE_PATH)?;
-    rows::<Path>(rt.alloc(), "ignore = example::<Test> => example < Test >")
+    rows::<Path, Printed>(rt.alloc(), BARE_PATH)?;
+    rows::<Path, Printed>(rt.alloc(), "ignore = example::<Test> => example < Test >")
 }
 
 const RANGE: &str = "ignore = 0..5 => 0 .. 5
@@ -167,7 +170,7 @@ ignore = ..(x + y) => .. (x + y)";
 
 #[test]
 fn expr_range_without_quotes(rt: HostRuntime) -> Tested<()> {
-    rows::<ExprRange>(rt.alloc(), RANGE)
+    rows::<ExprRange, Printed>(rt.alloc(), RANGE)
 }
 
 const WHERE: &str = r#"ignore = where T: Deserialize<'de> => where T : Deserialize < 'de >
@@ -175,21 +178,21 @@ ignore = "where T: Deserialize<'de>, D: 'static" => where T : Deserialize < 'de 
 
 #[test]
 fn test_where_clause(rt: HostRuntime) -> Tested<()> {
-    rows::<WhereClause>(rt.alloc(), WHERE)
+    rows::<WhereClause, Printed>(rt.alloc(), WHERE)
 }
 
 #[test]
 fn test_vis(rt: HostRuntime) -> Tested<()> {
-    rows::<Visibility>(
+    rows::<Visibility, Printed>(
         rt.alloc(),
         "ignore = pub(in crate::module) => pub (in crate :: module)\nignore = pub => pub",
     )
 }
 
 /// What the kind of type reads, each type does: without quotes and as a string.
-fn test_type<T: FromMeta + Shown + Drop>(alloc: Global, table: &str) -> Tested<()> {
-    rows::<T>(alloc, table)?;
-    rows::<Type>(alloc, table)
+fn test_type<T: FromMeta + Drop, S: Shows<T>>(alloc: Global, table: &str) -> Tested<()> {
+    rows::<T, S>(alloc, table)?;
+    rows::<Type, Printed>(alloc, table)
 }
 
 const TYPE_ARRAY: &str = r#"ignore = [u32; 4] => [u32 ; 4]
@@ -197,7 +200,7 @@ ignore = "[u32; 4]" => [u32 ; 4]"#;
 
 #[test]
 fn test_type_array(rt: HostRuntime) -> Tested<()> {
-    test_type::<TypeArray>(rt.alloc(), TYPE_ARRAY)
+    test_type::<TypeArray, Printed>(rt.alloc(), TYPE_ARRAY)
 }
 
 const TYPE_INFER: &str = r#"ignore = _ => _
@@ -205,7 +208,7 @@ ignore = "_" => _"#;
 
 #[test]
 fn test_type_infer(rt: HostRuntime) -> Tested<()> {
-    test_type::<TypeInfer>(rt.alloc(), TYPE_INFER)
+    test_type::<TypeInfer, Printed>(rt.alloc(), TYPE_INFER)
 }
 
 const TYPE_SLICE: &str = r#"ignore = [u32] => [u32]
@@ -213,7 +216,7 @@ ignore = "[u32]" => [u32]"#;
 
 #[test]
 fn test_type_slice(rt: HostRuntime) -> Tested<()> {
-    test_type::<TypeSlice>(rt.alloc(), TYPE_SLICE)
+    test_type::<TypeSlice, Printed>(rt.alloc(), TYPE_SLICE)
 }
 
 const TYPE_PTR: &str = r#"ignore = *const T => * const T
@@ -223,7 +226,7 @@ ignore = "*mut T" => * mut T"#;
 
 #[test]
 fn test_type_ptr(rt: HostRuntime) -> Tested<()> {
-    test_type::<TypePtr>(rt.alloc(), TYPE_PTR)
+    test_type::<TypePtr, Printed>(rt.alloc(), TYPE_PTR)
 }
 
 const TYPE_TRAIT_OBJECT: &str = r#"ignore = dyn Trait => dyn Trait
@@ -231,7 +234,7 @@ ignore = "dyn Trait" => dyn Trait"#;
 
 #[test]
 fn test_type_trait_object(rt: HostRuntime) -> Tested<()> {
-    test_type::<TypeTraitObject>(rt.alloc(), TYPE_TRAIT_OBJECT)
+    test_type::<TypeTraitObject, Printed>(rt.alloc(), TYPE_TRAIT_OBJECT)
 }
 
 const TYPE_NEVER: &str = r#"ignore = ! => !
@@ -239,7 +242,7 @@ ignore = "!" => !"#;
 
 #[test]
 fn test_type_never(rt: HostRuntime) -> Tested<()> {
-    test_type::<TypeNever>(rt.alloc(), TYPE_NEVER)
+    test_type::<TypeNever, Printed>(rt.alloc(), TYPE_NEVER)
 }
 
 const TYPE_IMPL_TRAIT: &str = r#"ignore = impl Trait + 'a => impl Trait + 'a
@@ -247,7 +250,7 @@ ignore = "impl Trait + 'a" => impl Trait + 'a"#;
 
 #[test]
 fn test_type_impl_trait(rt: HostRuntime) -> Tested<()> {
-    test_type::<TypeImplTrait>(rt.alloc(), TYPE_IMPL_TRAIT)
+    test_type::<TypeImplTrait, Printed>(rt.alloc(), TYPE_IMPL_TRAIT)
 }
 
 const TYPE_TUPLE: &str = r#"ignore = (u32, i32) => (u32 , i32)
@@ -255,7 +258,7 @@ ignore = "(u32, i32)" => (u32 , i32)"#;
 
 #[test]
 fn test_type_tuple(rt: HostRuntime) -> Tested<()> {
-    test_type::<TypeTuple>(rt.alloc(), TYPE_TUPLE)
+    test_type::<TypeTuple, Printed>(rt.alloc(), TYPE_TUPLE)
 }
 
 const TYPE_REFERENCE: &str = r#"ignore = &u32 => & u32
@@ -265,7 +268,7 @@ ignore = "&'a mut u32" => & 'a mut u32"#;
 
 #[test]
 fn test_type_reference(rt: HostRuntime) -> Tested<()> {
-    test_type::<TypeReference>(rt.alloc(), TYPE_REFERENCE)
+    test_type::<TypeReference, Printed>(rt.alloc(), TYPE_REFERENCE)
 }
 
 const TYPE_FN_PTR: &str = r#"ignore = fn(usize) -> bool => fn (usize) -> bool
@@ -273,7 +276,7 @@ ignore = "fn(usize) -> bool" => fn (usize) -> bool"#;
 
 #[test]
 fn test_type_bare_fn(rt: HostRuntime) -> Tested<()> {
-    test_type::<TypeFnPtr>(rt.alloc(), TYPE_FN_PTR)
+    test_type::<TypeFnPtr, Printed>(rt.alloc(), TYPE_FN_PTR)
 }
 
 const TYPE_PAREN: &str = r#"ignore = (u32) => (u32)
@@ -281,5 +284,5 @@ ignore = "(u32)" => (u32)"#;
 
 #[test]
 fn test_type_paren(rt: HostRuntime) -> Tested<()> {
-    test_type::<TypeParen>(rt.alloc(), TYPE_PAREN)
+    test_type::<TypeParen, Printed>(rt.alloc(), TYPE_PAREN)
 }

@@ -2,6 +2,7 @@
 
 use crate::asked::rows;
 use crate::every::EVERY;
+use crate::shown::Displayed;
 use tests_checks::Tested;
 
 // A minus is no digit, not before zero either.
@@ -109,36 +110,36 @@ a = "-9223372036854775809" => 4..26 Unknown value: `-9223372036854775809`;"#;
 fn unsigned_integers(rt: HostRuntime) -> Tested<()> {
     let alloc = rt.alloc();
     for table in [EVERY, UNSIGNED, ZERO] {
-        rows::<u8>(alloc, table)?;
-        rows::<u16>(alloc, table)?;
-        rows::<u32>(alloc, table)?;
-        rows::<u64>(alloc, table)?;
-        rows::<u128>(alloc, table)?;
-        rows::<usize>(alloc, table)?;
+        rows::<u8, Displayed>(alloc, table)?;
+        rows::<u16, Displayed>(alloc, table)?;
+        rows::<u32, Displayed>(alloc, table)?;
+        rows::<u64, Displayed>(alloc, table)?;
+        rows::<u128, Displayed>(alloc, table)?;
+        rows::<usize, Displayed>(alloc, table)?;
     }
-    rows::<u8>(alloc, U8)?;
-    rows::<u16>(alloc, U16)?;
-    rows::<u32>(alloc, U32)?;
-    rows::<u64>(alloc, U64)?;
-    rows::<u128>(alloc, U128)?;
-    rows::<usize>(alloc, USIZE)
+    rows::<u8, Displayed>(alloc, U8)?;
+    rows::<u16, Displayed>(alloc, U16)?;
+    rows::<u32, Displayed>(alloc, U32)?;
+    rows::<u64, Displayed>(alloc, U64)?;
+    rows::<u128, Displayed>(alloc, U128)?;
+    rows::<usize, Displayed>(alloc, USIZE)
 }
 
 #[test]
 fn signed_integers(rt: HostRuntime) -> Tested<()> {
     let alloc = rt.alloc();
     for table in [EVERY, SIGNED, ZERO] {
-        rows::<i8>(alloc, table)?;
-        rows::<i16>(alloc, table)?;
-        rows::<i32>(alloc, table)?;
-        rows::<i64>(alloc, table)?;
-        rows::<i128>(alloc, table)?;
-        rows::<isize>(alloc, table)?;
+        rows::<i8, Displayed>(alloc, table)?;
+        rows::<i16, Displayed>(alloc, table)?;
+        rows::<i32, Displayed>(alloc, table)?;
+        rows::<i64, Displayed>(alloc, table)?;
+        rows::<i128, Displayed>(alloc, table)?;
+        rows::<isize, Displayed>(alloc, table)?;
     }
-    rows::<i8>(alloc, I8)?;
-    rows::<i16>(alloc, I16)?;
-    rows::<i32>(alloc, I32)?;
-    rows::<i64>(alloc, I64)?;
-    rows::<i128>(alloc, I128)?;
-    rows::<isize>(alloc, ISIZE)
+    rows::<i8, Displayed>(alloc, I8)?;
+    rows::<i16, Displayed>(alloc, I16)?;
+    rows::<i32, Displayed>(alloc, I32)?;
+    rows::<i64, Displayed>(alloc, I64)?;
+    rows::<i128, Displayed>(alloc, I128)?;
+    rows::<isize, Displayed>(alloc, ISIZE)
 }

@@ -1,27 +1,13 @@
 //! Vectors: of literals, of unsigned integers, and of names.
 
 use crate::asked::{expects, rows};
-use crate::shown::Shown;
-use error_core::{Items, Path, Text};
+use crate::shown::{Displayed, Printed, Shows};
+use error_core::{Items, Path};
 use meta_core::{Boxed, Expr, ExprArray, FromMeta, Ident, Span};
 use node_core::{LitBool, LitByte, LitByteStr, LitChar, LitFloat, LitInt, LitStr};
 use std::alloc::Global;
 use syn_core::parse_expr;
 use tests_checks::{Tested, given, tokens};
-
-impl<T: Shown> Shown for Vec<T> {
-    fn show(&self, alloc: Global, text: &mut Text) -> Tested<()> {
-        text.push('[')?;
-        for (index, item) in self.iter().enumerate() {
-            if index > 0 {
-                text.push_str(", ")?;
-            }
-            item.show(alloc, text)?;
-        }
-        text.push(']')?;
-        Ok(())
-    }
-}
 
 // What is told is the first fault alone.
 const INTS: &str = r#"a(1, 2u8, - 3) => [1, 2u8, - 3]
@@ -56,15 +42,18 @@ a = b c => 4..5 expected an expression;
 #[test]
 fn vectors_of_literals(rt: HostRuntime) -> Tested<()> {
     let alloc = rt.alloc();
-    rows::<Vec<LitInt>>(alloc, INTS)?;
-    rows::<Vec<LitInt>>(alloc, OTHERS)?;
-    rows::<Vec<LitFloat>>(alloc, "a(1.5, 2e3) => [1.5, 2e3]\na = [1.5] => [1.5]")?;
-    rows::<Vec<LitStr>>(alloc, "a(\"b\", \"c\") => [\"b\", \"c\"]")?;
-    rows::<Vec<LitStr>>(alloc, OTHERS)?;
-    rows::<Vec<LitByte>>(alloc, "a(b'b') => [b'b']\na = [b'c'] => [b'c']")?;
-    rows::<Vec<LitByteStr>>(alloc, "a(b\"b\") => [b\"b\"]\na = [b\"c\"] => [b\"c\"]")?;
-    rows::<Vec<LitChar>>(alloc, "a('b') => ['b']\na = \"['c']\" => ['c']")?;
-    rows::<Vec<LitBool>>(
+    rows::<Vec<LitInt>, Vec<Printed>>(alloc, INTS)?;
+    rows::<Vec<LitInt>, Vec<Printed>>(alloc, OTHERS)?;
+    rows::<Vec<LitFloat>, Vec<Printed>>(alloc, "a(1.5, 2e3) => [1.5, 2e3]\na = [1.5] => [1.5]")?;
+    rows::<Vec<LitStr>, Vec<Printed>>(alloc, "a(\"b\", \"c\") => [\"b\", \"c\"]")?;
+    rows::<Vec<LitStr>, Vec<Printed>>(alloc, OTHERS)?;
+    rows::<Vec<LitByte>, Vec<Printed>>(alloc, "a(b'b') => [b'b']\na = [b'c'] => [b'c']")?;
+    rows::<Vec<LitByteStr>, Vec<Printed>>(
+        alloc,
+        "a(b\"b\") => [b\"b\"]\na = [b\"c\"] => [b\"c\"]",
+    )?;
+    rows::<Vec<LitChar>, Vec<Printed>>(alloc, "a('b') => ['b']\na = \"['c']\" => ['c']")?;
+    rows::<Vec<LitBool>, Vec<Printed>>(
         alloc,
         "a(true, b = false) => [true, false]\na = [1] => 5..6 Unexpected type `int`;",
     )
@@ -91,16 +80,16 @@ a(1, 2) => 0..7 Unexpected meta-item format `list`;"#;
 #[test]
 fn vectors_of_unsigned_integers(rt: HostRuntime) -> Tested<()> {
     let alloc = rt.alloc();
-    rows::<Vec<u8>>(alloc, BYTES)?;
-    rows::<Vec<u8>>(alloc, OTHERS)?;
-    rows::<Vec<u16>>(alloc, "a = [300, \"300\"] => [300, 300]")?;
-    rows::<Vec<u16>>(
+    rows::<Vec<u8>, Vec<Displayed>>(alloc, BYTES)?;
+    rows::<Vec<u8>, Vec<Displayed>>(alloc, OTHERS)?;
+    rows::<Vec<u16>, Vec<Displayed>>(alloc, "a = [300, \"300\"] => [300, 300]")?;
+    rows::<Vec<u16>, Vec<Displayed>>(
         alloc,
         "a = [65536] => 5..10 number too large to fit in target type;",
     )?;
-    rows::<Vec<u32>>(alloc, "a = [65536] => [65536]")?;
-    rows::<Vec<u64>>(alloc, "a = [4294967296] => [4294967296]")?;
-    rows::<Vec<usize>>(alloc, "a = [4294967296] => [4294967296]")
+    rows::<Vec<u32>, Vec<Displayed>>(alloc, "a = [65536] => [65536]")?;
+    rows::<Vec<u64>, Vec<Displayed>>(alloc, "a = [4294967296] => [4294967296]")?;
+    rows::<Vec<usize>, Vec<Displayed>>(alloc, "a = [4294967296] => [4294967296]")
 }
 
 /// The expression of the text in so many groups without delimiters, as no text has them.
@@ -116,7 +105,7 @@ fn grouped(alloc: Global, text: &str, groups: usize) -> Tested<Expr> {
 }
 
 /// What the type makes of an array in two groups, whose one element is in so many.
-fn element_in_groups<T: FromMeta + Shown + Drop>(
+fn element_in_groups<T: FromMeta + Drop, S: Shows<T>>(
     alloc: Global,
     text: &str,
     groups: usize,
@@ -127,19 +116,19 @@ fn element_in_groups<T: FromMeta + Shown + Drop>(
     let array = Boxed::new(alloc, Expr::Array(ExprArray { elems, span }))?;
     let group = Boxed::new(alloc, Expr::Group { expr: array, span })?;
     let expr = Expr::Group { expr: group, span };
-    expects(alloc, T::from_expr(alloc, &expr), text, wanted)
+    expects::<T, S>(alloc, T::from_expr(alloc, &expr), text, wanted)
 }
 
 #[test]
 fn groups_in_arrays(rt: HostRuntime) -> Tested<()> {
     let alloc = rt.alloc();
     let no_integer = "call Expected array of unsigned integers;";
-    element_in_groups::<Vec<u8>>(alloc, "7", 0, "[7]")?;
-    element_in_groups::<Vec<u8>>(alloc, "7", 1, "[7]")?;
-    element_in_groups::<Vec<u8>>(alloc, "7", 2, no_integer)?;
-    element_in_groups::<Vec<u8>>(alloc, "b", 1, no_integer)?;
-    element_in_groups::<Vec<LitInt>>(alloc, "7", 2, "[7]")?;
-    element_in_groups::<Vec<LitInt>>(alloc, "b", 2, "0..1 Unexpected type `path`;")
+    element_in_groups::<Vec<u8>, Vec<Displayed>>(alloc, "7", 0, "[7]")?;
+    element_in_groups::<Vec<u8>, Vec<Displayed>>(alloc, "7", 1, "[7]")?;
+    element_in_groups::<Vec<u8>, Vec<Displayed>>(alloc, "7", 2, no_integer)?;
+    element_in_groups::<Vec<u8>, Vec<Displayed>>(alloc, "b", 1, no_integer)?;
+    element_in_groups::<Vec<LitInt>, Vec<Printed>>(alloc, "7", 2, "[7]")?;
+    element_in_groups::<Vec<LitInt>, Vec<Printed>>(alloc, "b", 2, "0..1 Unexpected type `path`;")
 }
 
 // What is told is every fault; that of a literal among others has no place.
@@ -166,21 +155,21 @@ a = b => 4..5 Unexpected type `path`;"#;
 
 #[test]
 fn vectors_of_names(rt: HostRuntime) -> Tested<()> {
-    rows::<Vec<Ident>>(rt.alloc(), IDENTS)?;
-    rows::<Vec<Path>>(rt.alloc(), PATHS)
+    rows::<Vec<Ident>, Vec<Printed>>(rt.alloc(), IDENTS)?;
+    rows::<Vec<Path>, Vec<Printed>>(rt.alloc(), PATHS)
 }
 
 #[test]
 fn test_number_array(rt: HostRuntime) -> Tested<()> {
     let alloc = rt.alloc();
-    rows::<Vec<u8>>(alloc, "ignore = [16, 0xff] => [16, 255]")?;
-    rows::<Vec<u16>>(alloc, r#"ignore = "[32, 0xffff]" => [32, 65535]"#)?;
-    rows::<Vec<u32>>(alloc, r#"ignore = "[48, 0xffffffff]" => [48, 4294967295]"#)?;
-    rows::<Vec<u64>>(
+    rows::<Vec<u8>, Vec<Displayed>>(alloc, "ignore = [16, 0xff] => [16, 255]")?;
+    rows::<Vec<u16>, Vec<Displayed>>(alloc, r#"ignore = "[32, 0xffff]" => [32, 65535]"#)?;
+    rows::<Vec<u32>, Vec<Displayed>>(alloc, r#"ignore = "[48, 0xffffffff]" => [48, 4294967295]"#)?;
+    rows::<Vec<u64>, Vec<Displayed>>(
         alloc,
         r#"ignore = "[64, 0xffffffffffffffff]" => [64, 18446744073709551615]"#,
     )?;
-    rows::<Vec<usize>>(alloc, r#"ignore = "[80, 0xffffffff]" => [80, 4294967295]"#)
+    rows::<Vec<usize>, Vec<Displayed>>(alloc, r#"ignore = "[80, 0xffffffff]" => [80, 4294967295]"#)
 }
 
 const STRINGS: &str =
@@ -192,9 +181,9 @@ ignore = [] => []"#;
 #[test]
 fn test_lit_array(rt: HostRuntime) -> Tested<()> {
     let alloc = rt.alloc();
-    rows::<Vec<LitStr>>(alloc, STRINGS)?;
-    rows::<Vec<LitChar>>(alloc, r#"ignore = "['a', 'b', 'c']" => ['a', 'b', 'c']"#)?;
-    rows::<Vec<LitBool>>(
+    rows::<Vec<LitStr>, Vec<Printed>>(alloc, STRINGS)?;
+    rows::<Vec<LitChar>, Vec<Printed>>(alloc, r#"ignore = "['a', 'b', 'c']" => ['a', 'b', 'c']"#)?;
+    rows::<Vec<LitBool>, Vec<Printed>>(
         alloc,
         "ignore = \"[true]\" => [true]\nignore = [true, false] => [true, false]",
     )
@@ -202,7 +191,7 @@ fn test_lit_array(rt: HostRuntime) -> Tested<()> {
 
 #[test]
 fn vec_ident_succeeds(rt: HostRuntime) -> Tested<()> {
-    rows::<Vec<Ident>>(
+    rows::<Vec<Ident>, Vec<Printed>>(
         rt.alloc(),
         "ignore(hello, world, there) => [hello, world, there]",
     )
@@ -210,12 +199,12 @@ fn vec_ident_succeeds(rt: HostRuntime) -> Tested<()> {
 
 #[test]
 fn vec_ident_allows_duplicates(rt: HostRuntime) -> Tested<()> {
-    rows::<Vec<Ident>>(rt.alloc(), "ignore(hello, hello) => [hello, hello]")
+    rows::<Vec<Ident>, Vec<Printed>>(rt.alloc(), "ignore(hello, hello) => [hello, hello]")
 }
 
 #[test]
 fn vec_ident_rejects_paths(rt: HostRuntime) -> Tested<()> {
-    rows::<Vec<Ident>>(
+    rows::<Vec<Ident>, Vec<Printed>>(
         rt.alloc(),
         "ignore(the::world) => 7..17 expected an identifier;",
     )
@@ -223,7 +212,7 @@ fn vec_ident_rejects_paths(rt: HostRuntime) -> Tested<()> {
 
 #[test]
 fn vec_path_succeeds(rt: HostRuntime) -> Tested<()> {
-    rows::<Vec<Path>>(
+    rows::<Vec<Path>, Vec<Printed>>(
         rt.alloc(),
         "ignore(hello, the::world) => [hello, the :: world]",
     )
@@ -231,5 +220,5 @@ fn vec_path_succeeds(rt: HostRuntime) -> Tested<()> {
 
 #[test]
 fn vec_path_allows_duplicates(rt: HostRuntime) -> Tested<()> {
-    rows::<Vec<Path>>(rt.alloc(), "ignore(hello, hello) => [hello, hello]")
+    rows::<Vec<Path>, Vec<Printed>>(rt.alloc(), "ignore(hello, hello) => [hello, hello]")
 }

@@ -1,6 +1,7 @@
 //! Literals.
 
 use crate::asked::rows;
+use crate::shown::Printed;
 use error_core::Lit;
 use node_core::{LitBool, LitByte, LitByteStr, LitChar, LitFloat, LitInt, LitStr};
 use tests_checks::Tested;
@@ -40,48 +41,48 @@ a = b => 4..5 Unexpected type `path`;";
 
 #[test]
 fn any_literal(rt: HostRuntime) -> Tested<()> {
-    rows::<Lit>(rt.alloc(), LIT)
+    rows::<Lit, Printed>(rt.alloc(), LIT)
 }
 
 #[test]
 fn literals_of_one_kind(rt: HostRuntime) -> Tested<()> {
     let alloc = rt.alloc();
-    rows::<LitInt>(alloc, "a = 0x2Au8 => 0x2Au8\na = - 1 => - 1\n7 => 7")?;
-    rows::<LitFloat>(alloc, "a = 1.50f32 => 1.50f32\na = -1e3 => - 1e3")?;
-    rows::<LitStr>(
+    rows::<LitInt, Printed>(alloc, "a = 0x2Au8 => 0x2Au8\na = - 1 => - 1\n7 => 7")?;
+    rows::<LitFloat, Printed>(alloc, "a = 1.50f32 => 1.50f32\na = -1e3 => - 1e3")?;
+    rows::<LitStr, Printed>(
         alloc,
         r##"a = "b\n" => "b\n"
 a = r#"b"# => r#"b"#"##,
     )?;
-    rows::<LitByte>(alloc, r"a = b'\n' => b'\n'")?;
-    rows::<LitByteStr>(alloc, r#"a = b"b\n" => b"b\n""#)?;
-    rows::<LitChar>(alloc, r"a = '\u{1F62C}' => '\u{1F62C}'")?;
-    rows::<LitBool>(alloc, "a = true => true\nfalse => false")
+    rows::<LitByte, Printed>(alloc, r"a = b'\n' => b'\n'")?;
+    rows::<LitByteStr, Printed>(alloc, r#"a = b"b\n" => b"b\n""#)?;
+    rows::<LitChar, Printed>(alloc, r"a = '\u{1F62C}' => '\u{1F62C}'")?;
+    rows::<LitBool, Printed>(alloc, "a = true => true\nfalse => false")
 }
 
 #[test]
 fn literals_of_other_kinds(rt: HostRuntime) -> Tested<()> {
     let alloc = rt.alloc();
     for table in [STRING, BYTE_STRING, BYTE, CHAR, FLOAT, BOOL, NONE] {
-        rows::<LitInt>(alloc, table)?;
+        rows::<LitInt, Printed>(alloc, table)?;
     }
     for table in [STRING, BYTE_STRING, BYTE, CHAR, INT, BOOL, NONE] {
-        rows::<LitFloat>(alloc, table)?;
+        rows::<LitFloat, Printed>(alloc, table)?;
     }
     for table in [BYTE_STRING, BYTE, CHAR, INT, FLOAT, BOOL, NONE] {
-        rows::<LitStr>(alloc, table)?;
+        rows::<LitStr, Printed>(alloc, table)?;
     }
     for table in [STRING, BYTE_STRING, CHAR, INT, FLOAT, BOOL, NONE] {
-        rows::<LitByte>(alloc, table)?;
+        rows::<LitByte, Printed>(alloc, table)?;
     }
     for table in [STRING, BYTE, CHAR, INT, FLOAT, BOOL, NONE] {
-        rows::<LitByteStr>(alloc, table)?;
+        rows::<LitByteStr, Printed>(alloc, table)?;
     }
     for table in [STRING, BYTE_STRING, BYTE, INT, FLOAT, BOOL, NONE] {
-        rows::<LitChar>(alloc, table)?;
+        rows::<LitChar, Printed>(alloc, table)?;
     }
     for table in [STRING, BYTE_STRING, BYTE, CHAR, INT, FLOAT, NONE] {
-        rows::<LitBool>(alloc, table)?;
+        rows::<LitBool, Printed>(alloc, table)?;
     }
     Ok(())
 }

@@ -1,71 +1,39 @@
 //! Maps: keys that repeat or are none, values that fail, maps in maps, and one of many keys.
 
 use crate::asked::rows;
-use crate::shown::Shown;
+use crate::shown::{Displayed, Printed};
 use error_core::{Expr, Path, Text};
-use meta_core::{FromMeta, Ident, KeyFromPath, NestedMeta};
+use meta_core::{FromMeta, Ident, NestedMeta};
 use std::alloc::Global;
 use std::collections::{BTreeMap, HashMap};
-use std::hash::Hash;
 use std::test::Fail;
 use tests_checks::{Tested, given, tokens};
-
-impl<K: KeyFromPath + Ord, V: Shown> Shown for BTreeMap<K, V> {
-    fn show(&self, alloc: Global, text: &mut Text) -> Tested<()> {
-        for (key, value) in self.iter() {
-            text.push_str(key.to_display(alloc)?.as_str())?;
-            text.push('=')?;
-            value.show(alloc, text)?;
-            text.push(';')?;
-        }
-        Ok(())
-    }
-}
-
-/// The entries in the order of their texts.
-impl<K: KeyFromPath + Hash, V: Shown> Shown for HashMap<K, V> {
-    fn show(&self, alloc: Global, text: &mut Text) -> Tested<()> {
-        let mut shown = BTreeMap::new(alloc);
-        for (key, value) in self.iter() {
-            let mut entry = Text::new(alloc);
-            value.show(alloc, &mut entry)?;
-            shown.insert(key.to_display(alloc)?, entry)?;
-        }
-        for (key, entry) in shown.iter() {
-            text.push_str(key.as_str())?;
-            text.push('=')?;
-            text.push_str(entry.as_str())?;
-            text.push(';')?;
-        }
-        Ok(())
-    }
-}
 
 const SUCCEEDS: &str =
     r#"ignore(hello, world = false, there = "true") => hello=true;there=true;world=false;"#;
 
 #[test]
 fn btree_map_succeeds(rt: HostRuntime) -> Tested<()> {
-    rows::<BTreeMap<String, bool>>(rt.alloc(), SUCCEEDS)?;
-    rows::<BTreeMap<Text, bool>>(rt.alloc(), SUCCEEDS)
+    rows::<BTreeMap<String, bool>, BTreeMap<String, Displayed>>(rt.alloc(), SUCCEEDS)?;
+    rows::<BTreeMap<Text, bool>, BTreeMap<Text, Displayed>>(rt.alloc(), SUCCEEDS)
 }
 
 #[test]
 fn hash_map_succeeds(rt: HostRuntime) -> Tested<()> {
-    rows::<HashMap<String, bool>>(rt.alloc(), SUCCEEDS)?;
-    rows::<HashMap<Text, bool>>(rt.alloc(), SUCCEEDS)
+    rows::<HashMap<String, bool>, HashMap<String, Displayed>>(rt.alloc(), SUCCEEDS)?;
+    rows::<HashMap<Text, bool>, HashMap<Text, Displayed>>(rt.alloc(), SUCCEEDS)
 }
 
 const DUPLICATE: &str = "ignore(hello, hello = false) => 14..19 Duplicate field `hello`;";
 
 #[test]
 fn hash_map_duplicate(rt: HostRuntime) -> Tested<()> {
-    rows::<HashMap<String, bool>>(rt.alloc(), DUPLICATE)
+    rows::<HashMap<String, bool>, HashMap<String, Displayed>>(rt.alloc(), DUPLICATE)
 }
 
 #[test]
 fn btree_map_duplicate(rt: HostRuntime) -> Tested<()> {
-    rows::<BTreeMap<String, bool>>(rt.alloc(), DUPLICATE)
+    rows::<BTreeMap<String, bool>, BTreeMap<String, Displayed>>(rt.alloc(), DUPLICATE)
 }
 
 const MULTIPLE: &str =
@@ -73,12 +41,12 @@ const MULTIPLE: &str =
 
 #[test]
 fn btree_map_multiple_errors(rt: HostRuntime) -> Tested<()> {
-    rows::<BTreeMap<String, bool>>(rt.alloc(), MULTIPLE)
+    rows::<BTreeMap<String, bool>, BTreeMap<String, Displayed>>(rt.alloc(), MULTIPLE)
 }
 
 #[test]
 fn hash_map_multiple_errors(rt: HostRuntime) -> Tested<()> {
-    rows::<HashMap<String, bool>>(rt.alloc(), MULTIPLE)
+    rows::<HashMap<String, bool>, HashMap<String, Displayed>>(rt.alloc(), MULTIPLE)
 }
 
 const IDENTS_SUCCEED: &str = "ignore(first, second = false) => first=true;second=false;";
@@ -87,27 +55,27 @@ const NON_IDENTS: &str = "ignore(first, the::second) => 14..25 Key must be an id
 
 #[test]
 fn btree_map_ident_succeeds(rt: HostRuntime) -> Tested<()> {
-    rows::<BTreeMap<Ident, bool>>(rt.alloc(), IDENTS_SUCCEED)
+    rows::<BTreeMap<Ident, bool>, BTreeMap<Ident, Displayed>>(rt.alloc(), IDENTS_SUCCEED)
 }
 
 #[test]
 fn btree_map_ident_rejects_non_idents(rt: HostRuntime) -> Tested<()> {
-    rows::<BTreeMap<Ident, bool>>(rt.alloc(), NON_IDENTS)
+    rows::<BTreeMap<Ident, bool>, BTreeMap<Ident, Displayed>>(rt.alloc(), NON_IDENTS)
 }
 
 #[test]
 fn hash_map_ident_succeeds(rt: HostRuntime) -> Tested<()> {
-    rows::<HashMap<Ident, bool>>(rt.alloc(), IDENTS_SUCCEED)
+    rows::<HashMap<Ident, bool>, HashMap<Ident, Displayed>>(rt.alloc(), IDENTS_SUCCEED)
 }
 
 #[test]
 fn hash_map_ident_rejects_non_idents(rt: HostRuntime) -> Tested<()> {
-    rows::<HashMap<Ident, bool>>(rt.alloc(), NON_IDENTS)
+    rows::<HashMap<Ident, bool>, HashMap<Ident, Displayed>>(rt.alloc(), NON_IDENTS)
 }
 
 #[test]
 fn hash_map_path_succeeds(rt: HostRuntime) -> Tested<()> {
-    rows::<HashMap<Path, bool>>(
+    rows::<HashMap<Path, bool>, HashMap<Path, Displayed>>(
         rt.alloc(),
         "ignore(first, the::second = false) => first=true;the::second=false;",
     )
@@ -115,7 +83,7 @@ fn hash_map_path_succeeds(rt: HostRuntime) -> Tested<()> {
 
 #[test]
 fn btree_map_expr_values_succeed(rt: HostRuntime) -> Tested<()> {
-    rows::<BTreeMap<String, Expr>>(
+    rows::<BTreeMap<String, Expr>, BTreeMap<String, Printed>>(
         rt.alloc(),
         "ignore(hello = 2 + 2, world = x.foo()) => hello=2 + 2;world=x . foo ();",
     )
@@ -155,37 +123,37 @@ a(1, b) => 0..7 Unexpected meta-item format `expression`;"#;
 #[test]
 fn keys_and_faults(rt: HostRuntime) -> Tested<()> {
     let alloc = rt.alloc();
-    rows::<BTreeMap<Text, bool>>(alloc, TEXTS)?;
-    rows::<BTreeMap<String, bool>>(alloc, TEXTS)?;
-    rows::<BTreeMap<Ident, bool>>(alloc, IDENTS)?;
-    rows::<HashMap<Text, bool>>(alloc, TEXTS)?;
-    rows::<HashMap<String, bool>>(alloc, TEXTS)?;
-    rows::<HashMap<Ident, bool>>(alloc, IDENTS)?;
-    rows::<HashMap<Path, bool>>(alloc, PATHS)
+    rows::<BTreeMap<Text, bool>, BTreeMap<Text, Displayed>>(alloc, TEXTS)?;
+    rows::<BTreeMap<String, bool>, BTreeMap<String, Displayed>>(alloc, TEXTS)?;
+    rows::<BTreeMap<Ident, bool>, BTreeMap<Ident, Displayed>>(alloc, IDENTS)?;
+    rows::<HashMap<Text, bool>, HashMap<Text, Displayed>>(alloc, TEXTS)?;
+    rows::<HashMap<String, bool>, HashMap<String, Displayed>>(alloc, TEXTS)?;
+    rows::<HashMap<Ident, bool>, HashMap<Ident, Displayed>>(alloc, IDENTS)?;
+    rows::<HashMap<Path, bool>, HashMap<Path, Displayed>>(alloc, PATHS)
 }
 
-type One = BTreeMap<Text, bool>;
+type One<V> = BTreeMap<Text, V>;
 
-type Two = BTreeMap<Text, One>;
+type Two<V> = BTreeMap<Text, One<V>>;
 
-type Three = HashMap<Ident, Two>;
+type Three<V> = HashMap<Ident, Two<V>>;
 
-type Four = BTreeMap<String, Three>;
+type Four<V> = BTreeMap<String, Three<V>>;
 
-type Five = BTreeMap<Text, Four>;
+type Five<V> = BTreeMap<Text, Four<V>>;
 
-type Six = HashMap<Path, Five>;
+type Six<V> = HashMap<Path, Five<V>>;
 
-type Seven = HashMap<String, Six>;
+type Seven<V> = HashMap<String, Six<V>>;
 
-type Eight = BTreeMap<Text, Seven>;
+type Eight<V> = BTreeMap<Text, Seven<V>>;
 
 const EIGHT: &str = "a(b(c(d(e(f(g(h(i)))))))) => b=c=d=e=f=g=h=i=true;;;;;;;;
 a(b(c(d(e(f(g(h(i = 1)))))))) => 20..21 Unexpected type `int` at b/c/d/e/f/g/h/i;";
 
 #[test]
 fn eight_levels(rt: HostRuntime) -> Tested<()> {
-    rows::<Eight>(rt.alloc(), EIGHT)
+    rows::<Eight<bool>, Eight<Displayed>>(rt.alloc(), EIGHT)
 }
 
 /// A list of `a(k0,k1,..)`, of so many keys.

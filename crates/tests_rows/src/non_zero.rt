@@ -2,6 +2,7 @@
 
 use crate::asked::rows;
 use crate::every::EVERY;
+use crate::shown::Displayed;
 use std::num::{
     NonZeroI8, NonZeroI16, NonZeroI32, NonZeroI64, NonZeroI128, NonZeroIsize, NonZeroU8,
     NonZeroU16, NonZeroU32, NonZeroU64, NonZeroU128, NonZeroUsize,
@@ -113,36 +114,36 @@ a = "-9223372036854775809" => 4..26 Unknown value: `-9223372036854775809`;"#;
 fn unsigned_integers_but_zero(rt: HostRuntime) -> Tested<()> {
     let alloc = rt.alloc();
     for table in [EVERY, UNSIGNED, ZERO] {
-        rows::<NonZeroU8>(alloc, table)?;
-        rows::<NonZeroU16>(alloc, table)?;
-        rows::<NonZeroU32>(alloc, table)?;
-        rows::<NonZeroU64>(alloc, table)?;
-        rows::<NonZeroU128>(alloc, table)?;
-        rows::<NonZeroUsize>(alloc, table)?;
+        rows::<NonZeroU8, Displayed>(alloc, table)?;
+        rows::<NonZeroU16, Displayed>(alloc, table)?;
+        rows::<NonZeroU32, Displayed>(alloc, table)?;
+        rows::<NonZeroU64, Displayed>(alloc, table)?;
+        rows::<NonZeroU128, Displayed>(alloc, table)?;
+        rows::<NonZeroUsize, Displayed>(alloc, table)?;
     }
-    rows::<NonZeroU8>(alloc, NON_ZERO_U8)?;
-    rows::<NonZeroU16>(alloc, NON_ZERO_U16)?;
-    rows::<NonZeroU32>(alloc, NON_ZERO_U32)?;
-    rows::<NonZeroU64>(alloc, NON_ZERO_U64)?;
-    rows::<NonZeroU128>(alloc, NON_ZERO_U128)?;
-    rows::<NonZeroUsize>(alloc, NON_ZERO_USIZE)
+    rows::<NonZeroU8, Displayed>(alloc, NON_ZERO_U8)?;
+    rows::<NonZeroU16, Displayed>(alloc, NON_ZERO_U16)?;
+    rows::<NonZeroU32, Displayed>(alloc, NON_ZERO_U32)?;
+    rows::<NonZeroU64, Displayed>(alloc, NON_ZERO_U64)?;
+    rows::<NonZeroU128, Displayed>(alloc, NON_ZERO_U128)?;
+    rows::<NonZeroUsize, Displayed>(alloc, NON_ZERO_USIZE)
 }
 
 #[test]
 fn signed_integers_but_zero(rt: HostRuntime) -> Tested<()> {
     let alloc = rt.alloc();
     for table in [EVERY, SIGNED, ZERO] {
-        rows::<NonZeroI8>(alloc, table)?;
-        rows::<NonZeroI16>(alloc, table)?;
-        rows::<NonZeroI32>(alloc, table)?;
-        rows::<NonZeroI64>(alloc, table)?;
-        rows::<NonZeroI128>(alloc, table)?;
-        rows::<NonZeroIsize>(alloc, table)?;
+        rows::<NonZeroI8, Displayed>(alloc, table)?;
+        rows::<NonZeroI16, Displayed>(alloc, table)?;
+        rows::<NonZeroI32, Displayed>(alloc, table)?;
+        rows::<NonZeroI64, Displayed>(alloc, table)?;
+        rows::<NonZeroI128, Displayed>(alloc, table)?;
+        rows::<NonZeroIsize, Displayed>(alloc, table)?;
     }
-    rows::<NonZeroI8>(alloc, NON_ZERO_I8)?;
-    rows::<NonZeroI16>(alloc, NON_ZERO_I16)?;
-    rows::<NonZeroI32>(alloc, NON_ZERO_I32)?;
-    rows::<NonZeroI64>(alloc, NON_ZERO_I64)?;
-    rows::<NonZeroI128>(alloc, NON_ZERO_I128)?;
-    rows::<NonZeroIsize>(alloc, NON_ZERO_ISIZE)
+    rows::<NonZeroI8, Displayed>(alloc, NON_ZERO_I8)?;
+    rows::<NonZeroI16, Displayed>(alloc, NON_ZERO_I16)?;
+    rows::<NonZeroI32, Displayed>(alloc, NON_ZERO_I32)?;
+    rows::<NonZeroI64, Displayed>(alloc, NON_ZERO_I64)?;
+    rows::<NonZeroI128, Displayed>(alloc, NON_ZERO_I128)?;
+    rows::<NonZeroIsize, Displayed>(alloc, NON_ZERO_ISIZE)
 }

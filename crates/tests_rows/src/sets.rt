@@ -1,51 +1,22 @@
 //! Sets of names, and lists of paths.
 
 use crate::asked::rows;
-use crate::shown::Shown;
+use crate::shown::{Own, Shows};
 use error_core::{Path, Text};
-use meta_core::{
-    FromMeta, FromMetaTag, FromMetaTagAll, Ident, KeyFromPath, NestedMeta, PathList, TryClone,
-};
+use meta_core::{FromMeta, FromMetaTag, FromMetaTagAll, Ident, NestedMeta, PathList, TryClone};
 use std::alloc::Global;
-use std::collections::{BTreeSet, HashSet};
-use std::hash::Hash;
+use std::collections::HashSet;
 use std::test::Fail;
 use tests_checks::{Tested, given, kind_of, row_of, tokens};
 
-/// The names in the order of their texts.
-impl<T: KeyFromPath + Hash> Shown for HashSet<T> {
-    fn show(&self, alloc: Global, text: &mut Text) -> Tested<()> {
-        let mut shown = BTreeSet::new(alloc);
-        for name in self.iter() {
-            shown.insert(name.to_display(alloc)?)?;
-        }
-        for name in shown.iter() {
-            text.push_str(name.as_str())?;
-            text.push(';')?;
-        }
-        Ok(())
-    }
-}
-
-impl Shown for PathList {
-    fn show(&self, alloc: Global, text: &mut Text) -> Tested<()> {
-        let texts = self.to_strings(alloc)?;
-        for path in texts.iter() {
-            text.push_str(path.as_str())?;
-            text.push(';')?;
-        }
-        Ok(())
-    }
-}
-
 #[test]
 fn hash_set_ident_succeeds(rt: HostRuntime) -> Tested<()> {
-    rows::<HashSet<Ident>>(rt.alloc(), "ignore(hello, world) => hello;world;")
+    rows::<HashSet<Ident>, Own>(rt.alloc(), "ignore(hello, world) => hello;world;")
 }
 
 #[test]
 fn hash_set_ident_duplicate(rt: HostRuntime) -> Tested<()> {
-    rows::<HashSet<Ident>>(
+    rows::<HashSet<Ident>, Own>(
         rt.alloc(),
         "ignore(hello, hello) => 14..19 Duplicate field `hello`;",
     )
@@ -53,7 +24,7 @@ fn hash_set_ident_duplicate(rt: HostRuntime) -> Tested<()> {
 
 #[test]
 fn hash_set_ident_multiple_errors(rt: HostRuntime) -> Tested<()> {
-    rows::<HashSet<Ident>>(
+    rows::<HashSet<Ident>, Own>(
         rt.alloc(),
         "ignore(hello, hello, the::world) => 14..19 Duplicate field `hello`;21..31 expected an identifier;",
     )
@@ -61,12 +32,12 @@ fn hash_set_ident_multiple_errors(rt: HostRuntime) -> Tested<()> {
 
 #[test]
 fn hash_set_path_succeeds(rt: HostRuntime) -> Tested<()> {
-    rows::<HashSet<Path>>(rt.alloc(), "ignore(hello, the::world) => hello;the::world;")
+    rows::<HashSet<Path>, Own>(rt.alloc(), "ignore(hello, the::world) => hello;the::world;")
 }
 
 #[test]
 fn hash_set_path_duplicate(rt: HostRuntime) -> Tested<()> {
-    rows::<HashSet<Path>>(
+    rows::<HashSet<Path>, Own>(
         rt.alloc(),
         "ignore(the::world, the::world) => 19..29 Duplicate field `the::world`;",
     )
@@ -86,9 +57,9 @@ a(::b, ::b, b) => 7..10 Duplicate field `b`;";
 #[test]
 fn sets_of_names(rt: HostRuntime) -> Tested<()> {
     let alloc = rt.alloc();
-    rows::<HashSet<Ident>>(alloc, NAMES)?;
-    rows::<HashSet<Path>>(alloc, NAMES)?;
-    rows::<HashSet<Path>>(alloc, OTHER_PATHS)
+    rows::<HashSet<Ident>, Own>(alloc, NAMES)?;
+    rows::<HashSet<Path>, Own>(alloc, NAMES)?;
+    rows::<HashSet<Path>, Own>(alloc, OTHER_PATHS)
 }
 
 // The first fault is told alone.
@@ -103,7 +74,7 @@ ignore => 0..6 Unexpected meta-item format `word`;"#;
 
 #[test]
 fn path_lists(rt: HostRuntime) -> Tested<()> {
-    rows::<PathList>(rt.alloc(), WORDS)
+    rows::<PathList, Own>(rt.alloc(), WORDS)
 }
 
 /// The list of `a(..)`.
@@ -143,7 +114,7 @@ fn intersections(rt: HostRuntime) -> Tested<()> {
         let (lists, wanted) = row_of(row);
         let (left, right) = kind_of(lists)?;
         let mut text = Text::new(alloc);
-        common(alloc, left, right)?.show(alloc, &mut text)?;
+        Own::show(alloc, &mut text, &common(alloc, left, right)?)?;
         if !text.is(wanted) {
             return Err(Fail::new(format_args!("{row}: {}", text.as_str())));
         }

@@ -1,443 +1,217 @@
-//! What a test shows of a value.
+//! What a test shows of a value: its text, its tokens, or a form of the tests' own.
+//!
+//! What stands around a value is shown by what stands so around a form: `Vec<Printed>` shows a vector of nodes.
 
-use error_core::{Expr, Lit, Path, Text};
-use node_core::{
-    Comma, ExprArray, ExprPath, ExprRange, FnArg, Ident, LitBool, LitByte, LitByteStr, LitChar,
-    LitFloat, LitInt, LitStr, Meta, Punctuated, Type, TypeArray, TypeFnPtr, TypeGroup,
-    TypeImplTrait, TypeInfer, TypeNever, TypeParam, TypeParen, TypePath, TypePtr, TypeReference,
-    TypeSlice, TypeTraitObject, TypeTuple, Visibility, WhereClause, WherePredicate,
-};
+use error_core::{Error, Text};
+use meta_core::{Boxed, KeyFromPath, PathList};
+use node_core::WherePredicate;
 use print_core::ToTokens;
 use std::alloc::Global;
+use std::collections::{BTreeMap, BTreeSet, HashMap, HashSet};
 use std::fmt::Display;
-use std::num::{
-    NonZeroI8, NonZeroI16, NonZeroI32, NonZeroI64, NonZeroI128, NonZeroIsize, NonZeroU8,
-    NonZeroU16, NonZeroU32, NonZeroU64, NonZeroU128, NonZeroUsize,
-};
+use std::hash::Hash;
 use std::path::PathBuf;
 use tests_checks::Tested;
 use tok_core::to_text;
+use util_core::{Flag, Override, PreservedStrExpr};
 
-/// What a test shows of a value.
-pub trait Shown {
-    fn show(&self, alloc: Global, text: &mut Text) -> Tested<()>;
+/// A form in which a test shows a value.
+pub trait Shows<T> {
+    fn show(alloc: Global, text: &mut Text, value: &T) -> Tested<()>;
+}
+
+/// The text of a value.
+pub struct Displayed;
+
+impl<T: Display> Shows<T> for Displayed {
+    fn show(alloc: Global, text: &mut Text, value: &T) -> Tested<()> {
+        text.push_str(format!(in alloc; "{value}")?.as_str())?;
+        Ok(())
+    }
 }
 
 /// The tokens of a node.
-pub fn print<T: ToTokens>(node: &T, alloc: Global, text: &mut Text) -> Tested<()> {
-    let tokens = node.to_token_stream(alloc)?;
-    text.push_str(to_text(alloc, &tokens)?.as_str())?;
-    Ok(())
-}
+pub struct Printed;
 
-fn display<T: Display>(value: &T, alloc: Global, text: &mut Text) -> Tested<()> {
-    text.push_str(format!(in alloc; "{value}")?.as_str())?;
-    Ok(())
-}
-
-impl Shown for bool {
-    fn show(&self, alloc: Global, text: &mut Text) -> Tested<()> {
-        display(self, alloc, text)
+impl<T: ToTokens> Shows<T> for Printed {
+    fn show(alloc: Global, text: &mut Text, value: &T) -> Tested<()> {
+        let tokens = value.to_token_stream(alloc)?;
+        text.push_str(to_text(alloc, &tokens)?.as_str())?;
+        Ok(())
     }
 }
 
-impl Shown for char {
-    fn show(&self, alloc: Global, text: &mut Text) -> Tested<()> {
-        display(self, alloc, text)
-    }
-}
+/// A form for a type that has neither text nor tokens.
+pub struct Own;
 
-impl Shown for String {
-    fn show(&self, alloc: Global, text: &mut Text) -> Tested<()> {
-        display(self, alloc, text)
-    }
-}
-
-impl Shown for u8 {
-    fn show(&self, alloc: Global, text: &mut Text) -> Tested<()> {
-        display(self, alloc, text)
-    }
-}
-
-impl Shown for u16 {
-    fn show(&self, alloc: Global, text: &mut Text) -> Tested<()> {
-        display(self, alloc, text)
-    }
-}
-
-impl Shown for u32 {
-    fn show(&self, alloc: Global, text: &mut Text) -> Tested<()> {
-        display(self, alloc, text)
-    }
-}
-
-impl Shown for u64 {
-    fn show(&self, alloc: Global, text: &mut Text) -> Tested<()> {
-        display(self, alloc, text)
-    }
-}
-
-impl Shown for u128 {
-    fn show(&self, alloc: Global, text: &mut Text) -> Tested<()> {
-        display(self, alloc, text)
-    }
-}
-
-impl Shown for usize {
-    fn show(&self, alloc: Global, text: &mut Text) -> Tested<()> {
-        display(self, alloc, text)
-    }
-}
-
-impl Shown for i8 {
-    fn show(&self, alloc: Global, text: &mut Text) -> Tested<()> {
-        display(self, alloc, text)
-    }
-}
-
-impl Shown for i16 {
-    fn show(&self, alloc: Global, text: &mut Text) -> Tested<()> {
-        display(self, alloc, text)
-    }
-}
-
-impl Shown for i32 {
-    fn show(&self, alloc: Global, text: &mut Text) -> Tested<()> {
-        display(self, alloc, text)
-    }
-}
-
-impl Shown for i64 {
-    fn show(&self, alloc: Global, text: &mut Text) -> Tested<()> {
-        display(self, alloc, text)
-    }
-}
-
-impl Shown for i128 {
-    fn show(&self, alloc: Global, text: &mut Text) -> Tested<()> {
-        display(self, alloc, text)
-    }
-}
-
-impl Shown for isize {
-    fn show(&self, alloc: Global, text: &mut Text) -> Tested<()> {
-        display(self, alloc, text)
-    }
-}
-
-impl Shown for NonZeroU8 {
-    fn show(&self, alloc: Global, text: &mut Text) -> Tested<()> {
-        display(self, alloc, text)
-    }
-}
-
-impl Shown for NonZeroU16 {
-    fn show(&self, alloc: Global, text: &mut Text) -> Tested<()> {
-        display(self, alloc, text)
-    }
-}
-
-impl Shown for NonZeroU32 {
-    fn show(&self, alloc: Global, text: &mut Text) -> Tested<()> {
-        display(self, alloc, text)
-    }
-}
-
-impl Shown for NonZeroU64 {
-    fn show(&self, alloc: Global, text: &mut Text) -> Tested<()> {
-        display(self, alloc, text)
-    }
-}
-
-impl Shown for NonZeroU128 {
-    fn show(&self, alloc: Global, text: &mut Text) -> Tested<()> {
-        display(self, alloc, text)
-    }
-}
-
-impl Shown for NonZeroUsize {
-    fn show(&self, alloc: Global, text: &mut Text) -> Tested<()> {
-        display(self, alloc, text)
-    }
-}
-
-impl Shown for NonZeroI8 {
-    fn show(&self, alloc: Global, text: &mut Text) -> Tested<()> {
-        display(self, alloc, text)
-    }
-}
-
-impl Shown for NonZeroI16 {
-    fn show(&self, alloc: Global, text: &mut Text) -> Tested<()> {
-        display(self, alloc, text)
-    }
-}
-
-impl Shown for NonZeroI32 {
-    fn show(&self, alloc: Global, text: &mut Text) -> Tested<()> {
-        display(self, alloc, text)
-    }
-}
-
-impl Shown for NonZeroI64 {
-    fn show(&self, alloc: Global, text: &mut Text) -> Tested<()> {
-        display(self, alloc, text)
-    }
-}
-
-impl Shown for NonZeroI128 {
-    fn show(&self, alloc: Global, text: &mut Text) -> Tested<()> {
-        display(self, alloc, text)
-    }
-}
-
-impl Shown for NonZeroIsize {
-    fn show(&self, alloc: Global, text: &mut Text) -> Tested<()> {
-        display(self, alloc, text)
-    }
-}
-
-impl Shown for Ident {
-    fn show(&self, alloc: Global, text: &mut Text) -> Tested<()> {
-        print(self, alloc, text)
-    }
-}
-
-impl Shown for Path {
-    fn show(&self, alloc: Global, text: &mut Text) -> Tested<()> {
-        print(self, alloc, text)
-    }
-}
-
-impl Shown for Expr {
-    fn show(&self, alloc: Global, text: &mut Text) -> Tested<()> {
-        print(self, alloc, text)
-    }
-}
-
-impl Shown for ExprArray {
-    fn show(&self, alloc: Global, text: &mut Text) -> Tested<()> {
-        print(self, alloc, text)
-    }
-}
-
-impl Shown for ExprPath {
-    fn show(&self, alloc: Global, text: &mut Text) -> Tested<()> {
-        print(self, alloc, text)
-    }
-}
-
-impl Shown for ExprRange {
-    fn show(&self, alloc: Global, text: &mut Text) -> Tested<()> {
-        print(self, alloc, text)
-    }
-}
-
-impl Shown for TypeParam {
-    fn show(&self, alloc: Global, text: &mut Text) -> Tested<()> {
-        print(self, alloc, text)
-    }
-}
-
-impl Shown for Visibility {
-    fn show(&self, alloc: Global, text: &mut Text) -> Tested<()> {
-        print(self, alloc, text)
-    }
-}
-
-impl Shown for WhereClause {
-    fn show(&self, alloc: Global, text: &mut Text) -> Tested<()> {
-        print(self, alloc, text)
-    }
-}
-
-impl Shown for Meta {
-    fn show(&self, alloc: Global, text: &mut Text) -> Tested<()> {
-        print(self, alloc, text)
-    }
-}
-
-impl Shown for Lit {
-    fn show(&self, alloc: Global, text: &mut Text) -> Tested<()> {
-        print(self, alloc, text)
-    }
-}
-
-impl Shown for LitBool {
-    fn show(&self, alloc: Global, text: &mut Text) -> Tested<()> {
-        print(self, alloc, text)
-    }
-}
-
-impl Shown for LitByte {
-    fn show(&self, alloc: Global, text: &mut Text) -> Tested<()> {
-        print(self, alloc, text)
-    }
-}
-
-impl Shown for LitByteStr {
-    fn show(&self, alloc: Global, text: &mut Text) -> Tested<()> {
-        print(self, alloc, text)
-    }
-}
-
-impl Shown for LitChar {
-    fn show(&self, alloc: Global, text: &mut Text) -> Tested<()> {
-        print(self, alloc, text)
-    }
-}
-
-impl Shown for LitFloat {
-    fn show(&self, alloc: Global, text: &mut Text) -> Tested<()> {
-        print(self, alloc, text)
-    }
-}
-
-impl Shown for LitInt {
-    fn show(&self, alloc: Global, text: &mut Text) -> Tested<()> {
-        print(self, alloc, text)
-    }
-}
-
-impl Shown for LitStr {
-    fn show(&self, alloc: Global, text: &mut Text) -> Tested<()> {
-        print(self, alloc, text)
-    }
-}
-
-impl Shown for Type {
-    fn show(&self, alloc: Global, text: &mut Text) -> Tested<()> {
-        print(self, alloc, text)
-    }
-}
-
-impl Shown for TypeArray {
-    fn show(&self, alloc: Global, text: &mut Text) -> Tested<()> {
-        print(self, alloc, text)
-    }
-}
-
-impl Shown for TypeFnPtr {
-    fn show(&self, alloc: Global, text: &mut Text) -> Tested<()> {
-        print(self, alloc, text)
-    }
-}
-
-impl Shown for TypeGroup {
-    fn show(&self, alloc: Global, text: &mut Text) -> Tested<()> {
-        print(self, alloc, text)
-    }
-}
-
-impl Shown for TypeImplTrait {
-    fn show(&self, alloc: Global, text: &mut Text) -> Tested<()> {
-        print(self, alloc, text)
-    }
-}
-
-impl Shown for TypeInfer {
-    fn show(&self, alloc: Global, text: &mut Text) -> Tested<()> {
-        print(self, alloc, text)
-    }
-}
-
-impl Shown for TypeNever {
-    fn show(&self, alloc: Global, text: &mut Text) -> Tested<()> {
-        print(self, alloc, text)
-    }
-}
-
-impl Shown for TypeParen {
-    fn show(&self, alloc: Global, text: &mut Text) -> Tested<()> {
-        print(self, alloc, text)
-    }
-}
-
-impl Shown for TypePath {
-    fn show(&self, alloc: Global, text: &mut Text) -> Tested<()> {
-        print(self, alloc, text)
-    }
-}
-
-impl Shown for TypePtr {
-    fn show(&self, alloc: Global, text: &mut Text) -> Tested<()> {
-        print(self, alloc, text)
-    }
-}
-
-impl Shown for TypeReference {
-    fn show(&self, alloc: Global, text: &mut Text) -> Tested<()> {
-        print(self, alloc, text)
-    }
-}
-
-impl Shown for TypeSlice {
-    fn show(&self, alloc: Global, text: &mut Text) -> Tested<()> {
-        print(self, alloc, text)
-    }
-}
-
-impl Shown for TypeTraitObject {
-    fn show(&self, alloc: Global, text: &mut Text) -> Tested<()> {
-        print(self, alloc, text)
-    }
-}
-
-impl Shown for TypeTuple {
-    fn show(&self, alloc: Global, text: &mut Text) -> Tested<()> {
-        print(self, alloc, text)
-    }
-}
-
-impl Shown for Punctuated<Expr, Comma> {
-    fn show(&self, alloc: Global, text: &mut Text) -> Tested<()> {
-        print(self, alloc, text)
-    }
-}
-
-impl Shown for Punctuated<Ident, Comma> {
-    fn show(&self, alloc: Global, text: &mut Text) -> Tested<()> {
-        print(self, alloc, text)
-    }
-}
-
-impl Shown for Punctuated<Path, Comma> {
-    fn show(&self, alloc: Global, text: &mut Text) -> Tested<()> {
-        print(self, alloc, text)
-    }
-}
-
-impl Shown for Punctuated<FnArg, Comma> {
-    fn show(&self, alloc: Global, text: &mut Text) -> Tested<()> {
-        print(self, alloc, text)
-    }
-}
-
-impl Shown for () {
-    fn show(&self, _alloc: Global, text: &mut Text) -> Tested<()> {
+impl Shows<()> for Own {
+    fn show(_alloc: Global, text: &mut Text, _value: &()) -> Tested<()> {
         text.push_str("()")?;
         Ok(())
     }
 }
 
-impl Shown for Text {
-    fn show(&self, _alloc: Global, text: &mut Text) -> Tested<()> {
-        text.push_str(self.as_str())?;
+impl Shows<Text> for Own {
+    fn show(_alloc: Global, text: &mut Text, value: &Text) -> Tested<()> {
+        text.push_str(value.as_str())?;
         Ok(())
     }
 }
 
-impl Shown for PathBuf {
-    fn show(&self, _alloc: Global, text: &mut Text) -> Tested<()> {
-        text.push_str(self.as_path().as_str())?;
+impl Shows<PathBuf> for Own {
+    fn show(_alloc: Global, text: &mut Text, value: &PathBuf) -> Tested<()> {
+        text.push_str(value.as_path().as_str())?;
         Ok(())
     }
 }
 
-impl Shown for Vec<WherePredicate> {
-    fn show(&self, alloc: Global, text: &mut Text) -> Tested<()> {
-        for predicate in self {
-            print(predicate, alloc, text)?;
+impl Shows<Error> for Own {
+    fn show(alloc: Global, text: &mut Text, value: &Error) -> Tested<()> {
+        text.push_str(value.to_text(alloc)?.as_str())?;
+        Ok(())
+    }
+}
+
+impl Shows<Flag> for Own {
+    fn show(_alloc: Global, text: &mut Text, value: &Flag) -> Tested<()> {
+        let present = value.is_present();
+        text.push_str(if present { "present" } else { "absent" })?;
+        Ok(())
+    }
+}
+
+impl Shows<PreservedStrExpr> for Own {
+    fn show(alloc: Global, text: &mut Text, value: &PreservedStrExpr) -> Tested<()> {
+        Printed::show(alloc, text, &value.expr)
+    }
+}
+
+impl Shows<Vec<WherePredicate>> for Own {
+    fn show(alloc: Global, text: &mut Text, value: &Vec<WherePredicate>) -> Tested<()> {
+        for predicate in value {
+            Printed::show(alloc, text, predicate)?;
+            text.push(';')?;
+        }
+        Ok(())
+    }
+}
+
+impl Shows<PathList> for Own {
+    fn show(alloc: Global, text: &mut Text, value: &PathList) -> Tested<()> {
+        let texts = value.to_strings(alloc)?;
+        for path in texts.iter() {
+            text.push_str(path.as_str())?;
+            text.push(';')?;
+        }
+        Ok(())
+    }
+}
+
+/// The names in the order of their texts.
+impl<T: KeyFromPath + Hash> Shows<HashSet<T>> for Own {
+    fn show(alloc: Global, text: &mut Text, value: &HashSet<T>) -> Tested<()> {
+        let mut shown = BTreeSet::new(alloc);
+        for name in value.iter() {
+            shown.insert(name.to_display(alloc)?)?;
+        }
+        for name in shown.iter() {
+            text.push_str(name.as_str())?;
+            text.push(';')?;
+        }
+        Ok(())
+    }
+}
+
+impl<T, S: Shows<T>> Shows<Vec<T>> for Vec<S> {
+    fn show(alloc: Global, text: &mut Text, value: &Vec<T>) -> Tested<()> {
+        text.push('[')?;
+        for (index, item) in value.iter().enumerate() {
+            if index > 0 {
+                text.push_str(", ")?;
+            }
+            S::show(alloc, text, item)?;
+        }
+        text.push(']')?;
+        Ok(())
+    }
+}
+
+impl<T, S: Shows<T>> Shows<Option<T>> for Option<S> {
+    fn show(alloc: Global, text: &mut Text, value: &Option<T>) -> Tested<()> {
+        match value {
+            Some(value) => {
+                text.push_str("Some ")?;
+                S::show(alloc, text, value)
+            }
+            None => {
+                text.push_str("None")?;
+                Ok(())
+            }
+        }
+    }
+}
+
+impl<T, S: Shows<T>> Shows<Boxed<T>> for Boxed<S> {
+    fn show(alloc: Global, text: &mut Text, value: &Boxed<T>) -> Tested<()> {
+        S::show(alloc, text, value.get())
+    }
+}
+
+impl<T, E, S: Shows<T>, F: Shows<E>> Shows<Result<T, E>> for Result<S, F> {
+    fn show(alloc: Global, text: &mut Text, value: &Result<T, E>) -> Tested<()> {
+        match value {
+            Ok(value) => {
+                text.push_str("Ok ")?;
+                S::show(alloc, text, value)
+            }
+            Err(error) => {
+                text.push_str("Err ")?;
+                F::show(alloc, text, error)
+            }
+        }
+    }
+}
+
+impl<T, S: Shows<T>> Shows<Override<T>> for Override<S> {
+    fn show(alloc: Global, text: &mut Text, value: &Override<T>) -> Tested<()> {
+        match value {
+            Override::Inherit => {
+                text.push_str("Inherit")?;
+                Ok(())
+            }
+            Override::Explicit(value) => {
+                text.push_str("Explicit ")?;
+                S::show(alloc, text, value)
+            }
+        }
+    }
+}
+
+impl<K: KeyFromPath + Ord, V, S: Shows<V>> Shows<BTreeMap<K, V>> for BTreeMap<K, S> {
+    fn show(alloc: Global, text: &mut Text, value: &BTreeMap<K, V>) -> Tested<()> {
+        for (key, value) in value.iter() {
+            text.push_str(key.to_display(alloc)?.as_str())?;
+            text.push('=')?;
+            S::show(alloc, text, value)?;
+            text.push(';')?;
+        }
+        Ok(())
+    }
+}
+
+/// The entries in the order of their texts.
+impl<K: KeyFromPath + Hash, V, S: Shows<V>> Shows<HashMap<K, V>> for HashMap<K, S> {
+    fn show(alloc: Global, text: &mut Text, value: &HashMap<K, V>) -> Tested<()> {
+        let mut shown = BTreeMap::new(alloc);
+        for (key, value) in value.iter() {
+            let mut entry = Text::new(alloc);
+            S::show(alloc, &mut entry, value)?;
+            shown.insert(key.to_display(alloc)?, entry)?;
+        }
+        for (key, entry) in shown.iter() {
+            text.push_str(key.as_str())?;
+            text.push('=')?;
+            text.push_str(entry.as_str())?;
             text.push(';')?;
         }
         Ok(())

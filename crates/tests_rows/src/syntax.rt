@@ -1,6 +1,7 @@
 //! Names, paths, expressions, parameters, visibilities, `where` clauses, lists and metas.
 
 use crate::asked::{expects, rows};
+use crate::shown::{Own, Printed};
 use error_core::{Expr, Path};
 use meta_core::FromMeta;
 use node_core::{
@@ -136,10 +137,10 @@ a = "b" => 4..7 Unknown value: `b`;"#;
 fn names_and_paths(rt: HostRuntime) -> Tested<()> {
     let alloc = rt.alloc();
     for table in [IDENT, NONE, BAD] {
-        rows::<Ident>(alloc, table)?;
+        rows::<Ident, Printed>(alloc, table)?;
     }
     for table in [PATH, NONE, BAD] {
-        rows::<Path>(alloc, table)?;
+        rows::<Path, Printed>(alloc, table)?;
     }
     Ok(())
 }
@@ -148,16 +149,16 @@ fn names_and_paths(rt: HostRuntime) -> Tested<()> {
 fn expressions(rt: HostRuntime) -> Tested<()> {
     let alloc = rt.alloc();
     for table in [EXPR, BAD] {
-        rows::<Expr>(alloc, table)?;
+        rows::<Expr, Printed>(alloc, table)?;
     }
     for table in [ARRAY, NONE, BAD] {
-        rows::<ExprArray>(alloc, table)?;
+        rows::<ExprArray, Printed>(alloc, table)?;
     }
     for table in [EXPR_PATH, NONE, BAD] {
-        rows::<ExprPath>(alloc, table)?;
+        rows::<ExprPath, Printed>(alloc, table)?;
     }
     for table in [RANGE, NONE, BAD] {
-        rows::<ExprRange>(alloc, table)?;
+        rows::<ExprRange, Printed>(alloc, table)?;
     }
     Ok(())
 }
@@ -166,35 +167,35 @@ fn expressions(rt: HostRuntime) -> Tested<()> {
 fn parts_of_items(rt: HostRuntime) -> Tested<()> {
     let alloc = rt.alloc();
     for table in [TYPE_PARAM, NONE] {
-        rows::<TypeParam>(alloc, table)?;
+        rows::<TypeParam, Printed>(alloc, table)?;
     }
     for table in [VISIBILITY, NONE] {
-        rows::<Visibility>(alloc, table)?;
+        rows::<Visibility, Printed>(alloc, table)?;
     }
     for table in [WHERE, NONE] {
-        rows::<WhereClause>(alloc, table)?;
+        rows::<WhereClause, Printed>(alloc, table)?;
     }
     for table in [PREDICATES, NONE, BAD] {
-        rows::<Vec<WherePredicate>>(alloc, table)?;
+        rows::<Vec<WherePredicate>, Own>(alloc, table)?;
     }
-    rows::<Meta>(alloc, META)
+    rows::<Meta, Printed>(alloc, META)
 }
 
 #[test]
 fn lists(rt: HostRuntime) -> Tested<()> {
     let alloc = rt.alloc();
     for table in [EXPRS, NONE, BAD] {
-        rows::<Punctuated<Expr, Comma>>(alloc, table)?;
+        rows::<Punctuated<Expr, Comma>, Printed>(alloc, table)?;
     }
-    rows::<Punctuated<Ident, Comma>>(
+    rows::<Punctuated<Ident, Comma>, Printed>(
         alloc,
         "a = \"b, c,\" => b , c\na = \"b::c\" => 4..10 Unknown value: `b::c`;",
     )?;
-    rows::<Punctuated<Path, Comma>>(
+    rows::<Punctuated<Path, Comma>, Printed>(
         alloc,
         "a = \"b::c, d\" => b :: c , d\na = \"1\" => 4..7 Unknown value: `1`;",
     )?;
-    rows::<Punctuated<FnArg, Comma>>(alloc, FN_ARGS)
+    rows::<Punctuated<FnArg, Comma>, Printed>(alloc, FN_ARGS)
 }
 
 /// A string that stands nowhere: what is parsed in it stands nowhere, and so does the fault of another.
@@ -203,28 +204,28 @@ fn strings_alone(rt: HostRuntime) -> Tested<()> {
     let alloc = rt.alloc();
     let unknown = "- Unknown value: `b c`;";
     let string = "- Unexpected type `string`;";
-    expects(alloc, Ident::from_string(alloc, "b c"), "Ident", unknown)?;
-    expects(alloc, Path::from_string(alloc, "b c"), "Path", unknown)?;
-    expects(alloc, Expr::from_string(alloc, "b c"), "Expr", unknown)?;
-    expects(
+    expects::<Ident, Printed>(alloc, Ident::from_string(alloc, "b c"), "Ident", unknown)?;
+    expects::<Path, Printed>(alloc, Path::from_string(alloc, "b c"), "Path", unknown)?;
+    expects::<Expr, Printed>(alloc, Expr::from_string(alloc, "b c"), "Expr", unknown)?;
+    expects::<Visibility, Printed>(
         alloc,
         Visibility::from_string(alloc, "b c"),
         "Visibility",
         unknown,
     )?;
-    expects(
+    expects::<ExprArray, Printed>(
         alloc,
         ExprArray::from_string(alloc, "[]"),
         "ExprArray",
         string,
     )?;
-    expects(
+    expects::<Punctuated<Expr, Comma>, Printed>(
         alloc,
         Punctuated::<Expr, Comma>::from_string(alloc, "b"),
         "exprs",
         string,
     )?;
-    expects(
+    expects::<Meta, Printed>(
         alloc,
         Meta::from_word(alloc),
         "Meta",

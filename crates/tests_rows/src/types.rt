@@ -1,6 +1,7 @@
 //! Types, of any kind and of one.
 
 use crate::asked::rows;
+use crate::shown::Printed;
 use node_core::{
     Type, TypeArray, TypeFnPtr, TypeGroup, TypeImplTrait, TypeInfer, TypeNever, TypeParen,
     TypePath, TypePtr, TypeReference, TypeSlice, TypeTraitObject, TypeTuple,
@@ -93,49 +94,49 @@ fn types_of_any_kind(rt: HostRuntime) -> Tested<()> {
         TUPLE,
         NONE,
     ] {
-        rows::<Type>(alloc, table)?;
+        rows::<Type, Printed>(alloc, table)?;
     }
-    rows::<TypePath>(alloc, PATH)
+    rows::<TypePath, Printed>(alloc, PATH)
 }
 
 #[test]
 fn types_of_one_kind(rt: HostRuntime) -> Tested<()> {
     let alloc = rt.alloc();
     for table in [ARRAY, OTHER, ANOTHER, NONE] {
-        rows::<TypeArray>(alloc, table)?;
+        rows::<TypeArray, Printed>(alloc, table)?;
     }
     for table in [FN_PTR, OTHER, ANOTHER, NONE] {
-        rows::<TypeFnPtr>(alloc, table)?;
+        rows::<TypeFnPtr, Printed>(alloc, table)?;
     }
     for table in [OTHER, ANOTHER, NONE] {
-        rows::<TypeGroup>(alloc, table)?;
+        rows::<TypeGroup, Printed>(alloc, table)?;
     }
     for table in [IMPL_TRAIT, OTHER, ANOTHER, NONE] {
-        rows::<TypeImplTrait>(alloc, table)?;
+        rows::<TypeImplTrait, Printed>(alloc, table)?;
     }
     for table in [INFER, OTHER, NONE] {
-        rows::<TypeInfer>(alloc, table)?;
+        rows::<TypeInfer, Printed>(alloc, table)?;
     }
     for table in [NEVER, OTHER, ANOTHER, NONE] {
-        rows::<TypeNever>(alloc, table)?;
+        rows::<TypeNever, Printed>(alloc, table)?;
     }
     for table in [PAREN, OTHER, ANOTHER, NONE] {
-        rows::<TypeParen>(alloc, table)?;
+        rows::<TypeParen, Printed>(alloc, table)?;
     }
     for table in [PTR, OTHER, ANOTHER, NONE] {
-        rows::<TypePtr>(alloc, table)?;
+        rows::<TypePtr, Printed>(alloc, table)?;
     }
     for table in [REFERENCE, ANOTHER, NONE] {
-        rows::<TypeReference>(alloc, table)?;
+        rows::<TypeReference, Printed>(alloc, table)?;
     }
     for table in [SLICE, OTHER, ANOTHER, NONE] {
-        rows::<TypeSlice>(alloc, table)?;
+        rows::<TypeSlice, Printed>(alloc, table)?;
     }
     for table in [TRAIT_OBJECT, OTHER, ANOTHER, NONE] {
-        rows::<TypeTraitObject>(alloc, table)?;
+        rows::<TypeTraitObject, Printed>(alloc, table)?;
     }
     for table in [TUPLE, OTHER, ANOTHER, NONE] {
-        rows::<TypeTuple>(alloc, table)?;
+        rows::<TypeTuple, Printed>(alloc, table)?;
     }
     Ok(())
 }

@@ -1,59 +1,14 @@
 //! Types of `util`, and calls beside them.
 
 use crate::asked::{expects, rows};
-use crate::shown::{Shown, print};
-use error_core::Text;
-use meta_core::{Meta, MetaList, NestedMeta};
+use crate::shown::{Displayed, Own, Printed};
+use meta_core::{Expr, Meta, MetaList, NestedMeta};
 use std::alloc::Global;
 use std::test::Fail;
 use syn_core::parse_derive_input;
 use tests_checks::{Tested, given, row_of, tokens};
 use util_core::parse_expr::{parse_str_literal, preserve_str_literal};
 use util_core::{Callable, Flag, Override, PreservedStrExpr, parse_attribute_to_meta_list};
-
-impl Shown for Flag {
-    fn show(&self, _alloc: Global, text: &mut Text) -> Tested<()> {
-        text.push_str(if self.is_present() {
-            "present"
-        } else {
-            "absent"
-        })?;
-        Ok(())
-    }
-}
-
-impl<T: Shown> Shown for Override<T> {
-    fn show(&self, alloc: Global, text: &mut Text) -> Tested<()> {
-        match self {
-            Override::Inherit => {
-                text.push_str("Inherit")?;
-                Ok(())
-            }
-            Override::Explicit(value) => {
-                text.push_str("Explicit ")?;
-                value.show(alloc, text)
-            }
-        }
-    }
-}
-
-impl Shown for PreservedStrExpr {
-    fn show(&self, alloc: Global, text: &mut Text) -> Tested<()> {
-        print(&self.expr, alloc, text)
-    }
-}
-
-impl Shown for Callable {
-    fn show(&self, alloc: Global, text: &mut Text) -> Tested<()> {
-        print(self, alloc, text)
-    }
-}
-
-impl Shown for MetaList {
-    fn show(&self, alloc: Global, text: &mut Text) -> Tested<()> {
-        print(self, alloc, text)
-    }
-}
 
 const FLAG: &str = r#"a => present
 a() => 0..3 Unexpected meta-item format `list`;
@@ -86,12 +41,15 @@ a => 0..1 Unexpected meta-item format `word`;"#;
 #[test]
 fn types_of_util(rt: HostRuntime) -> Tested<()> {
     let alloc = rt.alloc();
-    rows::<Flag>(alloc, FLAG)?;
-    rows::<Override<u8>>(alloc, OVERRIDE)?;
-    rows::<Override<bool>>(alloc, "a => Inherit\na = false => Explicit false")?;
-    rows::<Override<()>>(alloc, "a => Inherit\na() => Explicit ()")?;
-    rows::<PreservedStrExpr>(alloc, PRESERVED)?;
-    rows::<Callable>(alloc, CALLABLE)
+    rows::<Flag, Own>(alloc, FLAG)?;
+    rows::<Override<u8>, Override<Displayed>>(alloc, OVERRIDE)?;
+    rows::<Override<bool>, Override<Displayed>>(
+        alloc,
+        "a => Inherit\na = false => Explicit false",
+    )?;
+    rows::<Override<()>, Override<Own>>(alloc, "a => Inherit\na() => Explicit ()")?;
+    rows::<PreservedStrExpr, Own>(alloc, PRESERVED)?;
+    rows::<Callable, Printed>(alloc, CALLABLE)
 }
 
 #[test]
@@ -114,8 +72,8 @@ fn value(alloc: Global, item: &Meta, row: &str, wanted: &str) -> Tested<()> {
     let Some((preserved, parsed)) = wanted.split_once(" / ") else {
         return Err(Fail::new(format_args!("{row} has two answers")));
     };
-    expects(alloc, preserve_str_literal(alloc, item), row, preserved)?;
-    expects(alloc, parse_str_literal(alloc, item), row, parsed)
+    expects::<Expr, Printed>(alloc, preserve_str_literal(alloc, item), row, preserved)?;
+    expects::<Expr, Printed>(alloc, parse_str_literal(alloc, item), row, parsed)
 }
 
 #[test]
@@ -148,7 +106,7 @@ fn attributes_are_lists(rt: HostRuntime) -> Tested<()> {
         match item.attrs.as_slice() {
             [attr] => {
                 let list = parse_attribute_to_meta_list(alloc, attr);
-                expects(alloc, list, row, wanted)?;
+                expects::<MetaList, Printed>(alloc, list, row, wanted)?;
             }
             _ => return Err(Fail::new(format_args!("{row} has one attribute"))),
         }

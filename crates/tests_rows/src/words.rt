@@ -1,6 +1,7 @@
 //! Words, characters and strings.
 
 use crate::asked::rows;
+use crate::shown::{Displayed, Own};
 use error_core::Text;
 use std::path::PathBuf;
 use tests_checks::Tested;
@@ -54,10 +55,10 @@ a("b") => 0..6 Unexpected meta-item format `list`;"##;
 #[test]
 fn words_and_strings(rt: HostRuntime) -> Tested<()> {
     let alloc = rt.alloc();
-    rows::<()>(alloc, UNIT)?;
-    rows::<bool>(alloc, BOOL)?;
-    rows::<char>(alloc, CHAR)?;
-    rows::<Text>(alloc, STRING)?;
-    rows::<String>(alloc, STRING)?;
-    rows::<PathBuf>(alloc, STRING)
+    rows::<(), Own>(alloc, UNIT)?;
+    rows::<bool, Displayed>(alloc, BOOL)?;
+    rows::<char, Displayed>(alloc, CHAR)?;
+    rows::<Text, Own>(alloc, STRING)?;
+    rows::<String, Displayed>(alloc, STRING)?;
+    rows::<PathBuf, Own>(alloc, STRING)
 }

@@ -1,68 +1,12 @@
 //! Types around a type that is read.
 
 use crate::asked::{expects, rows, told};
-use crate::shown::Shown;
+use crate::shown::{Displayed, Own, Printed, Shows};
 use error_core::{Error, Text};
 use meta_core::{Boxed, FromMeta, Meta};
-use print_core::ToTokens;
 use std::alloc::Global;
 use std::test;
 use tests_checks::Tested;
-use tok_core::to_text;
-
-impl<T: Shown> Shown for Option<T> {
-    fn show(&self, alloc: Global, text: &mut Text) -> Tested<()> {
-        match self {
-            Some(value) => {
-                text.push_str("Some ")?;
-                value.show(alloc, text)
-            }
-            None => {
-                text.push_str("None")?;
-                Ok(())
-            }
-        }
-    }
-}
-
-impl<T: Shown> Shown for Boxed<T> {
-    fn show(&self, alloc: Global, text: &mut Text) -> Tested<()> {
-        self.get().show(alloc, text)
-    }
-}
-
-impl<T: Shown> Shown for Result<T, Error> {
-    fn show(&self, alloc: Global, text: &mut Text) -> Tested<()> {
-        match self {
-            Ok(value) => {
-                text.push_str("Ok ")?;
-                value.show(alloc, text)
-            }
-            Err(error) => {
-                text.push_str("Err ")?;
-                text.push_str(error.to_text(alloc)?.as_str())?;
-                Ok(())
-            }
-        }
-    }
-}
-
-impl<T: Shown> Shown for Result<T, Meta> {
-    fn show(&self, alloc: Global, text: &mut Text) -> Tested<()> {
-        match self {
-            Ok(value) => {
-                text.push_str("Ok ")?;
-                value.show(alloc, text)
-            }
-            Err(item) => {
-                text.push_str("Err ")?;
-                let tokens = item.to_token_stream(alloc)?;
-                text.push_str(to_text(alloc, &tokens)?.as_str())?;
-                Ok(())
-            }
-        }
-    }
-}
 
 const OPTION: &str = r#"a => Some true
 a = false => Some false
@@ -89,30 +33,33 @@ true => 0..4 Unexpected type `bool`;"#;
 #[test]
 fn wrappers(rt: HostRuntime) -> Tested<()> {
     let alloc = rt.alloc();
-    rows::<Option<bool>>(alloc, OPTION)?;
-    rows::<Boxed<bool>>(alloc, BOXED)?;
-    rows::<Result<bool, Error>>(alloc, RESULT)?;
-    rows::<Result<bool, Meta>>(alloc, RESULT_META)?;
-    rows::<Option<Option<Boxed<u8>>>>(alloc, "a = 7 => Some Some 7")
+    rows::<Option<bool>, Option<Displayed>>(alloc, OPTION)?;
+    rows::<Boxed<bool>, Boxed<Displayed>>(alloc, BOXED)?;
+    rows::<Result<bool, Error>, Result<Displayed, Own>>(alloc, RESULT)?;
+    rows::<Result<bool, Meta>, Result<Displayed, Printed>>(alloc, RESULT_META)?;
+    rows::<Option<Option<Boxed<u8>>>, Option<Option<Boxed<Displayed>>>>(
+        alloc,
+        "a = 7 => Some Some 7",
+    )
 }
 
 // The crate's own test, by its name there.
 #[test]
 fn darling_result_succeeds(rt: HostRuntime) -> Tested<()> {
     let table = "ignore => Ok ()\nignore(world) => Err Unknown field: `world`";
-    rows::<Result<(), Error>>(rt.alloc(), table)
+    rows::<Result<(), Error>, Result<Own, Own>>(rt.alloc(), table)
 }
 
 /// What a type is where no item is.
-fn none_of<T: FromMeta + Shown + Drop>(alloc: Global) -> Tested<Text> {
+fn none_of<T: FromMeta + Drop, S: Shows<T>>(alloc: Global) -> Tested<Text> {
     match T::from_none(alloc)? {
-        Some(value) => told(alloc, Ok(value)),
+        Some(value) => told::<T, S>(alloc, Ok(value)),
         None => Ok(Text::from_str(alloc, "nothing")?),
     }
 }
 
-fn is_none_of<T: FromMeta + Shown + Drop>(alloc: Global, wanted: &str) -> Tested<()> {
-    let text = none_of::<T>(alloc)?;
+fn is_none_of<T: FromMeta + Drop, S: Shows<T>>(alloc: Global, wanted: &str) -> Tested<()> {
+    let text = none_of::<T, S>(alloc)?;
     if text.is(wanted) {
         return Ok(());
     }
@@ -122,26 +69,26 @@ fn is_none_of<T: FromMeta + Shown + Drop>(alloc: Global, wanted: &str) -> Tested
 #[test]
 fn no_item_in_wrappers(rt: HostRuntime) -> Tested<()> {
     let alloc = rt.alloc();
-    is_none_of::<Option<bool>>(alloc, "None")?;
-    is_none_of::<Boxed<bool>>(alloc, "nothing")?;
-    is_none_of::<Boxed<Option<bool>>>(alloc, "None")?;
-    is_none_of::<Result<Option<bool>, Error>>(alloc, "Ok None")?;
-    is_none_of::<Result<Option<bool>, Meta>>(alloc, "nothing")
+    is_none_of::<Option<bool>, Option<Displayed>>(alloc, "None")?;
+    is_none_of::<Boxed<bool>, Boxed<Displayed>>(alloc, "nothing")?;
+    is_none_of::<Boxed<Option<bool>>, Boxed<Option<Displayed>>>(alloc, "None")?;
+    is_none_of::<Result<Option<bool>, Error>, Result<Option<Displayed>, Own>>(alloc, "Ok None")?;
+    is_none_of::<Result<Option<bool>, Meta>, Result<Option<Displayed>, Printed>>(alloc, "nothing")
 }
 
 #[test]
 fn lists_alone_in_wrappers(rt: HostRuntime) -> Tested<()> {
     let alloc = rt.alloc();
     let list = "- Unexpected meta-item format `list`;";
-    expects(alloc, Option::<()>::from_list(alloc, &[]), "Option", list)?;
-    expects(alloc, Boxed::<()>::from_list(alloc, &[]), "Boxed", "()")?;
-    expects(
+    expects::<Option<()>, Option<Own>>(alloc, Option::<()>::from_list(alloc, &[]), "Option", list)?;
+    expects::<Boxed<()>, Boxed<Own>>(alloc, Boxed::<()>::from_list(alloc, &[]), "Boxed", "()")?;
+    expects::<Result<(), Error>, Result<Own, Own>>(
         alloc,
         Result::<(), Error>::from_list(alloc, &[]),
         "Result",
         "Ok ()",
     )?;
-    expects(
+    expects::<Result<(), Meta>, Result<Own, Printed>>(
         alloc,
         Result::<(), Meta>::from_list(alloc, &[]),
         "Result",
