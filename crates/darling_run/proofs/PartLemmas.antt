@@ -1,5 +1,5 @@
 -- A text is one part.
-use Rattle.std.proofs.Common.{◌≡◌, ◌<◌, ℕ, List, length, drop, Result, Ok, Err, sym, ap, ◌∙◌, subst, inl, inr, arith}
+use Rattle.std.proofs.Common.{◌≡◌, ◌<◌, ℕ, List, drop, Result, Ok, Err, sym, ap, ◌∙◌, subst, inl, inr, arith}
 use Rattle.std.specs.Str.{chars}
 use Rattle.tok_types.specs.declared.tree.TokenStream.{TokenStream, out-TokenStream}
 use Rattle.tok_core.specs.Endings.{Answers, EndsAt, deep, wrong}

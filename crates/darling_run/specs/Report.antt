@@ -6,7 +6,7 @@ use Rattle.node_core.specs.declared.derive.DeriveInput.{DeriveInput}
 use Rattle.error_fault.specs.declared.fault.Fault.{Fault}
 use Rattle.error_fault.specs.Outcome.{Outcome, Value, Faults}
 use Rattle.error_fault.specs.FaultText.{fault_line}
-use Rattle.meaning_core.specs.declared.value.Value.{Value as Data}
+use Rattle.machine_value.specs.declared.value.Value.{Value as Data}
 use Rattle.darling_run.specs.ValueText.{value_text}
 
 -- a fault in a line of its own

@@ -7,7 +7,9 @@
 #![tactic(auto)]
 
 mod input;
+mod leaves;
 mod part;
+mod quoted;
 mod report;
 mod status;
 mod tool;
@@ -18,7 +20,8 @@ pub use edge_core::{
     MemorySink, MemorySource, ReadAll, Sink, Source, StdSink, StdSource, WriteFault,
 };
 pub use error_fault::{Fault, FaultKind, fault_line};
-pub use meaning_core::{Outcome, Style, Value};
+pub use machine_value::{Style, Value};
+pub use meaning_core::Outcome;
 pub use report::{Report, report_text};
 pub use status::{Status, refusal_text};
 pub use tool::{Ended, run_tool};

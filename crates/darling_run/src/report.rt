@@ -6,7 +6,8 @@ ghost use Rattle.darling_run.specs.Report.{fault_row, ok_line, err_line, outcome
 
 use crate::values::push_value;
 use error_fault::{Fault, push_fault_line};
-use meaning_core::{Outcome, Value};
+use machine_value::Value;
+use meaning_core::Outcome;
 use node_core::DeriveInput;
 use std::alloc::Global;
 use tok_types::{Ident, Items, Mem, Text, TryClone};
@@ -47,7 +48,7 @@ fn push_outcome(alloc: Global, out: &mut Text, name: &Ident, outcome: &Outcome) 
     ensures { OnOk result (out.new ≡ out.old ++ outcome_text (ident_text name.now) outcome.now) }
 {
     match outcome.value() {
-        Some(value) => push_ok_line(out, name, value),
+        Some(value) => push_ok_line(alloc, out, name, value),
         None => {
             push_err_line(alloc, out, name, outcome.faults().len())?;
             push_fault_rows(alloc, out, outcome.faults())
@@ -55,13 +56,13 @@ fn push_outcome(alloc: Global, out: &mut Text, name: &Ident, outcome: &Outcome) 
     }
 }
 
-fn push_ok_line(out: &mut Text, name: &Ident, value: &Value) -> Mem<()>
+fn push_ok_line(alloc: Global, out: &mut Text, name: &Ident, value: &Value) -> Mem<()>
     ensures { OnOk result (out.new ≡ out.old ++ ok_line (ident_text name.now) value.now) }
 {
     out.push_str("ok ")?;
     name.push_to(out)?;
     out.push_str(" ")?;
-    push_value(out, value)?;
+    push_value(alloc, out, value)?;
     out.push_str("\n")
 }
 

@@ -4,9 +4,9 @@ use mathlib.Core.Path.{fun_ext}
 use Rattle.run_first.specs.declared.nested.NestedMeta.{NestedMeta}
 use Rattle.error_fault.specs.declared.fault.Fault.{Fault}
 use Rattle.error_fault.specs.Outcome.{Outcome, Value, Faults, bind, on_value, settle, value_of}
-use Rattle.meaning_core.specs.declared.value.Value.{Value as Datum}
-use Rattle.meaning_core.specs.declared.value.Value.TheVariants as value
-use Rattle.meaning_core.specs.Value.{struct_of, labelled}
+use Rattle.machine_value.specs.declared.value.Value.{Value as Datum}
+use Rattle.machine_value.specs.declared.value.Value.TheVariants as value
+use Rattle.machine_value.specs.Members.{struct_of, labelled}
 use Rattle.meaning_core.specs.Decl.{DeclaredType, Shape, Single, Many, Flat, FieldDecl, Decl, has_flat, is_flat}
 use Rattle.meaning_core.specs.Host.{Host}
 use Rattle.meaning_core.specs.Convert.{Earlier}

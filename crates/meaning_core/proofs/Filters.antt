@@ -11,8 +11,8 @@ use Rattle.error_fault.specs.Kind.{set_of}
 use Rattle.error_fault.specs.Fault.{at_span}
 use Rattle.error_fault.specs.Faults.{at}
 use Rattle.error_fault.specs.Outcome.{Outcome, Value, Faults, faults_of, value_of}
-use Rattle.meaning_core.specs.declared.value.Value.{Value as Datum}
-use Rattle.meaning_core.specs.Value.{no_value}
+use Rattle.machine_value.specs.declared.value.Value.{Value as Datum}
+use Rattle.machine_value.specs.Members.{no_value}
 use Rattle.meaning_core.specs.Node.{item_span, meta_name}
 use Rattle.meaning_core.specs.Decl.{FieldType, Shape, Single, Many, Flat, FieldDecl, Decl, is_named, is_named_by, element, has_flat, names}
 use Rattle.meaning_core.specs.Host.{Host}

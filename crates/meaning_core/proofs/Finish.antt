@@ -8,11 +8,11 @@ use Rattle.error_fault.specs.declared.kind.FaultKind.TheVariants.{MissingField}
 use Rattle.error_fault.specs.Fault.{plain}
 use Rattle.error_fault.specs.Outcome.{Outcome, Value, Faults, faults_of, on_value, settle}
 use Rattle.meaning_core.specs.declared.receiver.Receiver.{Receiver}
-use Rattle.meaning_core.specs.declared.value.Value.{Value as Datum}
-use Rattle.meaning_core.specs.declared.value.Value.TheVariants as value
+use Rattle.machine_value.specs.declared.value.Value.{Value as Datum}
+use Rattle.machine_value.specs.declared.value.Value.TheVariants as value
 use Rattle.meaning_core.specs.declared.walk.Slot.{Slot as Held}
 use Rattle.meaning_core.specs.declared.walk.Slot.TheVariants.{Unseen, Failed, Read}
-use Rattle.meaning_core.specs.Value.{no_value, struct_of, labelled}
+use Rattle.machine_value.specs.Members.{no_value, struct_of, labelled}
 use Rattle.meaning_core.specs.Decl.{TextType}
 use Rattle.meaning_core.specs.Host.{no_host}
 use Rattle.meaning_core.specs.Entries.{events}

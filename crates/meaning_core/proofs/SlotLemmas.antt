@@ -9,10 +9,10 @@ use Rattle.error_fault.specs.declared.fault.Fault.{Fault}
 use Rattle.error_fault.specs.declared.kind.FaultKind.TheVariants.{DuplicateField}
 use Rattle.error_fault.specs.Fault.{at_span, located}
 use Rattle.error_fault.specs.Outcome.{Outcome}
-use Rattle.meaning_core.specs.declared.value.Value.{Value as Datum}
+use Rattle.machine_value.specs.declared.value.Value.{Value as Datum}
 use Rattle.meaning_core.specs.declared.walk.Slot.{Slot as Held}
 use Rattle.meaning_core.specs.declared.walk.Slot.TheVariants.{Unseen, Failed, Read}
-use Rattle.meaning_core.specs.Value.{no_value}
+use Rattle.machine_value.specs.Members.{no_value}
 use Rattle.node_span.specs.Spanned.{meta_span}
 use Rattle.meaning_core.specs.Decl.{TextType}
 use Rattle.meaning_core.specs.Host.{no_host}

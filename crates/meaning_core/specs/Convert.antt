@@ -13,14 +13,14 @@ use Rattle.error_fault.specs.declared.fault.Fault.{Fault}
 use Rattle.error_fault.specs.declared.kind.FaultKind.TheVariants.{Custom, UnexpectedFormat, UnexpectedType}
 use Rattle.error_fault.specs.Fault.{at_span}
 use Rattle.error_fault.specs.Outcome.{Outcome, Value, Faults, refused, with_span}
-use Rattle.meaning_core.specs.declared.value.Value.{Value as Datum}
-use Rattle.meaning_core.specs.declared.value.Value.TheVariants as value
+use Rattle.machine_value.specs.declared.value.Value.{Value as Datum}
+use Rattle.machine_value.specs.declared.value.Value.TheVariants as value
 use Rattle.meaning_core.specs.Decl.{FieldType, TextType, ListType, DeclaredType}
 use Rattle.meaning_core.specs.Host.{Host}
 use Rattle.meaning_core.specs.Node.{lit_kind}
 use Rattle.node_span.specs.Spanned.{lit_span, meta_span, stream_span}
 use Rattle.meaning_core.specs.Bare.{Bare, Literal, Other, bare}
-use Rattle.meaning_core.specs.Value.{no_value}
+use Rattle.machine_value.specs.Members.{no_value}
 
 -- what the declarations of lower numbers read from a list of items
 abbrev pub Earlier : Type 0

@@ -12,7 +12,7 @@ use Rattle.error_fault.specs.Kind.{set_of}
 use Rattle.error_fault.specs.Fault.{at_span}
 use Rattle.error_fault.specs.Faults.{at}
 use Rattle.error_fault.specs.Outcome.{Outcome, Value, Faults, faults_of, bind, with_span}
-use Rattle.meaning_core.specs.declared.value.Value.{Value as Datum}
+use Rattle.machine_value.specs.declared.value.Value.{Value as Datum}
 use Rattle.meaning_core.specs.Node.{item_span, meta_name}
 use Rattle.node_span.specs.Spanned.{lit_span}
 use Rattle.meaning_core.specs.Decl.{FieldType, Shape, Single, Many, Flat, Transform, FieldDecl, Decl, element, has_flat, names}

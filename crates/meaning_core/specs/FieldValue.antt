@@ -5,9 +5,9 @@ use Rattle.error_fault.specs.declared.fault.Fault.{Fault}
 use Rattle.error_fault.specs.declared.kind.FaultKind.TheVariants.{MissingField}
 use Rattle.error_fault.specs.Fault.{plain}
 use Rattle.error_fault.specs.Outcome.{Outcome, Value, Faults, faults_of, with_siblings}
-use Rattle.meaning_core.specs.declared.value.Value.{Value as Datum}
-use Rattle.meaning_core.specs.declared.value.Value.TheVariants as value
-use Rattle.meaning_core.specs.Value.{member}
+use Rattle.machine_value.specs.declared.value.Value.{Value as Datum}
+use Rattle.machine_value.specs.declared.value.Value.TheVariants as value
+use Rattle.machine_value.specs.Members.{member}
 use Rattle.meaning_core.specs.Decl.{FieldType, Shape, Single, Many, Flat, FieldDecl, Decl, Fallback, OfType, OfCall, OfContainer, fallback, names}
 use Rattle.meaning_core.specs.Host.{Host}
 use Rattle.meaning_core.specs.Convert.{Earlier, list, none, default}

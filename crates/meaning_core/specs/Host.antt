@@ -4,8 +4,8 @@ use Rattle.base_core.specs.declared.text.Text.{Text}
 use Rattle.node_core.specs.declared.attr.Meta.{Meta}
 use Rattle.error_fault.specs.declared.kind.FaultKind.TheVariants.{Custom}
 use Rattle.error_fault.specs.Outcome.{Outcome, refused}
-use Rattle.meaning_core.specs.declared.value.Value.{Value as Datum}
-use Rattle.meaning_core.specs.Value.{no_value}
+use Rattle.machine_value.specs.declared.value.Value.{Value as Datum}
+use Rattle.machine_value.specs.Members.{no_value}
 use Rattle.meaning_core.specs.Decl.{FieldType, Transform}
 
 -- the answers, each a function of what is asked alone

@@ -2,7 +2,6 @@ pub mod Node
 pub mod Bare
 pub mod Outcome
 pub mod Slots
-pub mod Value
 pub mod Decl
 pub mod Host
 pub mod Convert

@@ -2,8 +2,8 @@
 use Rattle.std.specs.Prelude.{ℕ, List, [], ◌∷◌, ◌++◌, map, Option, Some, None}
 use Rattle.error_fault.specs.declared.fault.Fault.{Fault}
 use Rattle.error_fault.specs.Outcome.{Outcome, Value, bind, on_value, settle}
-use Rattle.meaning_core.specs.declared.value.Value.{Value as Datum}
-use Rattle.meaning_core.specs.Value.{no_value, struct_of, labelled}
+use Rattle.machine_value.specs.declared.value.Value.{Value as Datum}
+use Rattle.machine_value.specs.Members.{no_value, struct_of, labelled}
 use Rattle.meaning_core.specs.Decl.{DeclaredType, Default, ByType, ByCall, Decl}
 use Rattle.meaning_core.specs.Host.{Host}
 use Rattle.meaning_core.specs.Convert.{Earlier, default}

@@ -3,7 +3,7 @@ use Rattle.std.specs.Prelude.{Bool, true, false, List, [], ◌∷◌, Option, So
 use Rattle.error_fault.specs.declared.fault.Fault.{Fault}
 use Rattle.error_fault.specs.declared.kind.FaultKind.TheVariants.{Custom}
 use Rattle.error_fault.specs.Outcome.{Outcome, Value, Faults, refused}
-use Rattle.meaning_core.specs.declared.value.Value.{Value as Datum}
+use Rattle.machine_value.specs.declared.value.Value.{Value as Datum}
 
 -- the faults where there is one, else the value
 abbrev pub seen : Option Datum → List Fault → Outcome Datum

@@ -20,7 +20,7 @@ use Rattle.node_core.specs.declared.derive.DeriveInput.{DeriveInput}
 use Rattle.error_fault.specs.declared.kind.FaultKind.TheVariants.{Custom}
 use Rattle.error_fault.specs.Outcome.{Outcome, refused}
 use Rattle.meaning_core.specs.declared.receiver.Receiver.{Receiver}
-use Rattle.meaning_core.specs.declared.value.Value.{Value as Datum}
+use Rattle.machine_value.specs.declared.value.Value.{Value as Datum}
 use Rattle.meaning_core.specs.Node.{meta_name}
 use Rattle.meaning_core.specs.Decl.{TextType, Single, FieldDecl, FromDeriveInput, Decl}
 use Rattle.meaning_core.specs.Host.{no_host}

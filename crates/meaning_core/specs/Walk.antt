@@ -5,9 +5,9 @@ use Rattle.error_fault.specs.declared.fault.Fault.{Fault}
 use Rattle.error_fault.specs.declared.kind.FaultKind.TheVariants.{MissingField}
 use Rattle.error_fault.specs.Fault.{plain}
 use Rattle.error_fault.specs.Outcome.{Outcome, Value, Faults, value_of, bind, on_value, settle}
-use Rattle.meaning_core.specs.declared.value.Value.{Value as Datum}
-use Rattle.meaning_core.specs.declared.value.Value.TheVariants as value
-use Rattle.meaning_core.specs.Value.{no_value, struct_of, labelled}
+use Rattle.machine_value.specs.declared.value.Value.{Value as Datum}
+use Rattle.machine_value.specs.declared.value.Value.TheVariants as value
+use Rattle.machine_value.specs.Members.{no_value, struct_of, labelled}
 use Rattle.meaning_core.specs.Decl.{DeclaredType, Shape, Single, Many, Flat, FieldDecl, Decl, fallback, has_flat}
 use Rattle.meaning_core.specs.Host.{Host}
 use Rattle.meaning_core.specs.Convert.{Earlier, none}

@@ -10,12 +10,11 @@ mod node;
 mod outcome;
 mod receiver;
 mod text;
-mod value;
 mod walk;
 
 pub use error_fault::{Fault, FaultKind, Items, Mem, Span, Text, TryClone};
 pub use laws::{direct_is_meaning, walk_is_filters};
+pub use machine_value::{Style, Value};
 pub use names::Names;
 pub use outcome::Outcome;
 pub use receiver::Receiver;
-pub use value::{Style, Value};

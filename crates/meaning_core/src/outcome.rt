@@ -4,9 +4,9 @@ ghost use Rattle.std.specs.Prelude.{◌≡◌, ◌≢◌, [], Some, IfOk, option
 ghost use Rattle.std.specs.Option.{option_copied};
 ghost use Rattle.error_fault.specs.Outcome as outcome;
 
-use crate::value::Value;
 use base_core::{Items, Mem, TryClone};
 use error_fault::Fault;
+use machine_value::Value;
 use std::alloc::Global;
 use std::marker::Model;
 
@@ -21,8 +21,8 @@ pub struct Outcome {
 impl Model for Outcome {
     ghost use Rattle.std.specs.Prelude.{IsTrue};
     ghost use Rattle.error_fault.specs.Outcome.{Outcome};
-    ghost use Rattle.meaning_core.specs.declared.value.Value.{Value as Datum};
-    ghost use Rattle.meaning_core.specs.contracts.value.Value as contents;
+    ghost use Rattle.machine_value.specs.declared.value.Value.{Value as Datum};
+    ghost use Rattle.machine_value.specs.contracts.value.Value as contents;
     ghost use Rattle.std.specs.Coded.{codes};
 
     ghost Value = { Outcome Datum };

@@ -88,7 +88,7 @@ fn read_option_names(alloc: Global, trees: &[TokenTree], names: &mut Items<Text>
     if let (TokenTree::Ident(word), TokenTree::Group(group)) = (&trees[0], &trees[1]) {
         let word = word.to_text(alloc)?;
         if word.is("attributes") {
-            return read_words(alloc, group.stream.trees.as_slice(), names);
+            return read_words(alloc, group.get().stream.trees.as_slice(), names);
         }
     }
     Ok(())

@@ -7,3 +7,5 @@ mod first;
 mod meaning;
 #[cfg(test)]
 mod run;
+#[cfg(test)]
+mod values;

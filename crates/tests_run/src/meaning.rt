@@ -3,9 +3,9 @@
 use error_fault::fault_line;
 use meaning_core::{Outcome, Receiver, Value};
 use node_core::{
-    Attribute, Data, DataStruct, Delimiter, DeriveInput, Field, Fields, FieldsNamed, Generics,
-    Group, Ident, Items, Literal, Mem, Meta, MetaList, Punct, Span, Text, TokenStream, TokenTree,
-    Type, TypeNever, Visibility,
+    Attribute, Boxed, Data, DataStruct, Delimiter, DeriveInput, Field, Fields, FieldsNamed,
+    Generics, Group, Ident, Items, Literal, Mem, Meta, MetaList, Punct, Span, Text, TokenStream,
+    TokenTree, Type, TypeNever, Visibility,
 };
 use run_first::path_of;
 use std::alloc::Global;
@@ -94,11 +94,13 @@ fn declaration(alloc: Global) -> Mem<DeriveInput> {
         })?;
     }
     let mut option = tokens(alloc, "attributes")?;
-    option.trees.push(TokenTree::Group(Group {
+    let group = Group {
         delimiter: Delimiter::Parenthesis,
         stream: tokens(alloc, "p")?,
         span: NOWHERE,
-    }))?;
+    };
+    let group = TokenTree::Group(Boxed::new(alloc, group)?);
+    option.trees.push(group)?;
     let fields = Fields::Named(FieldsNamed {
         named,
         span: NOWHERE,

@@ -1,5 +1,5 @@
 use Rattle.std.proofs.Common.{◌≡◌, ◌++◌, codes, flat_map, map, take}
-use Rattle.darling_run.specs.ValueText.{labelled, shown, value_text}
+use Rattle.darling_run.specs.ValueText.{keyed, labelled, shown, value_text}
 use Rattle.darling_run.proofs.values.+value.Given as goal
 
 abbrev pub invariant-push_values-loop-value : goal.invariant-push_values-loop-value
@@ -13,3 +13,7 @@ invariant-push_named-loop-member l =
 abbrev pub invariant-push_unnamed-loop-member : goal.invariant-push_unnamed-loop-member
 invariant-push_unnamed-loop-member l =
     l.out ≡ l.initial.out ++ flat_map (λ text. codes ", " ++ text) (map (λ member. member.1) (map shown (take l.member-index l.others)))
+
+abbrev pub invariant-push_entries-loop-entry : goal.invariant-push_entries-loop-entry
+invariant-push_entries-loop-entry l =
+    l.out ≡ l.initial.out ++ flat_map (λ text. codes ", " ++ text) (map keyed (map shown (take l.entry-index l.others)))

@@ -1,7 +1,7 @@
 use Rattle.std.proofs.Common.{◌≢◌, ◌<◌, ◌≤◌, ◌∙◌, [], length, ap, sym, refl, true≢false, arith}
 use Rattle.std.proofs.lemmas.List.{length-set}
 use Rattle.error_fault.specs.Outcome.{Value, settle}
-use Rattle.meaning_core.specs.Value.{struct_of}
+use Rattle.machine_value.specs.Members.{struct_of}
 use Rattle.meaning_core.specs.Slots.{members_of, missing_one, member_one}
 use Rattle.meaning_core.specs.declared.walk.Slot.TheVariants.{Unseen}
 use Rattle.meaning_core.proofs.Finish.{turned, ended, built-is, closed-is, refused-is}

@@ -1,5 +1,5 @@
 use Rattle.std.proofs.Common.{◌≡◌, take}
-use Rattle.meaning_core.proofs.value.+clone.Given as goal
+use Rattle.machine_value.proofs.clone.+clone.Given as goal
 
 abbrev pub invariant-clone_values-loop-value : goal.invariant-clone_values-loop-value
 invariant-clone_values-loop-value l = l.copies ≡ take l.value-index l.value-items

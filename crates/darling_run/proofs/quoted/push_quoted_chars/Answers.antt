@@ -2,10 +2,10 @@ use Rattle.std.proofs.Common.{◌++◌, flat_map, sym, ap, ◌∙◌, map-id}
 use Rattle.std.proofs.lemmas.Iterator.{YieldsList-from_chars}
 use Rattle.std.proofs.lemmas.Iterator.Consumers.{YieldsList-end}
 use Rattle.darling_run.specs.ValueText.{quoted_char}
-use Rattle.darling_run.proofs.values.push_quoted_chars.Goals as goal
+use Rattle.darling_run.proofs.quoted.push_quoted_chars.Goals as goal
 
 -- the characters that came are all of the text's
 pub returns : goal.returns
 returns c =
     let end = YieldsList-end (YieldsList-from_chars c.args.text.now c.utf8.text cc) c.loop-c.yielded _ c.loop-c.yielded_by _ _ c.in-None.is c.next.ensures.steps in
-    c.loop-c.invariant ∙ ap (λ text. c.args.out.now ++ flat_map quoted_char text) (sym (map-id c.loop-c.yielded) ∙ end.0)
+    c.loop-c.invariant ∙ ap (λ text. c.args.out.now ++ flat_map (quoted_char c.args.quote) text) (sym (map-id c.loop-c.yielded) ∙ end.0)
