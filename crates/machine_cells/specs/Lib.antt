@@ -1,0 +1,9 @@
+pub mod Shown
+pub mod Values
+pub mod Texts
+pub mod Maps
+pub mod Leaves
+pub mod Wrapped
+pub mod RowCells
+pub mod Defaults
+pub mod Laws
