@@ -1,0 +1,12 @@
+pub mod Seen
+pub mod Said
+pub mod HostSays
+pub mod Forms
+pub mod Integers
+pub mod Nodes
+pub mod Leaves
+pub mod Fits
+pub mod Decls
+pub mod Lawful
+pub mod Made
+pub mod Refusing

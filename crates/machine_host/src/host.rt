@@ -1,0 +1,74 @@
+//! The trait of hosts.
+
+ghost use Rattle.std.specs.Prelude.{◌≡◌, IfOk, IsTrue};
+ghost use Rattle.std.specs.Option.{option_copied};
+ghost use Rattle.law_spans.specs.Erased.{erased_path, erased_type};
+ghost use Rattle.machine_host.specs.HostSays.{erased_call, erased_decls, erased_place};
+ghost use Rattle.machine_host.specs.Seen.{seen_arg, seen_item};
+
+use crate::arg::{Arg, HostItem};
+use crate::place::Place;
+use crate::said::Said;
+use machine_value::Value;
+use node_core::DeriveInput;
+use node_expr::{Mem, Path, Type};
+use std::alloc::Global;
+use util_core::Callable;
+
+/// What a run asks for where an option names a function, or a type is not of the table.
+///
+/// `decls` are all declarations of the program, without attributes. `call` is what the option names, and none
+/// exactly at [`FromIdent`](crate::Use::FromIdent).
+pub trait Host {
+    ghost use Rattle.machine_host.specs.HostSays.{HostSays};
+    ghost use Rattle.machine_host.specs.Lawful.{IsLawful};
+
+    /// What the host answers, by what it is asked without spans; an argument has its spans.
+    ghost says: { Self → HostSays };
+
+    /// Whether the function may be asked at the place.
+    fn offers(&self, decls: &[DeriveInput], call: Option<&Callable>, place: &Place) -> bool
+        ensures { result ≡ (says self.now).offers (erased_decls decls.now) (erased_call call.entry) (erased_place place.now) };
+
+    /// The type of the value that a field's `map` or `and_then` takes.
+    fn takes(&self, call: &Path) -> Option<&Type>
+        ensures { option_copied result ≡ (says self.now).takes (erased_path call.now) };
+
+    /// Whether the type is one of the host's own.
+    fn knows(&self, ty: &Type) -> bool
+        ensures { result ≡ (says self.now).knows (erased_type ty.now) };
+
+    /// What the function answers at the place.
+    fn answer(
+        &self,
+        alloc: Global,
+        decls: &[DeriveInput],
+        call: Option<&Callable>,
+        place: &Place,
+        arg: Arg<'_>,
+    ) -> Mem<Said>
+        requires { IsTrue ((says self.now).offers (erased_decls decls.now) (erased_call call) (erased_place place.now)) }
+        ensures { IfOk result (λ said. said ≡ (says self.now).answer (erased_decls decls.now) (erased_call call.entry) (erased_place place.now) (seen_arg arg.entry)) };
+
+    /// Whether the type, which is the host's or a declaration, has a default.
+    fn has_default(&self, decls: &[DeriveInput], ty: &Type) -> bool
+        ensures { result ≡ (says self.now).has_default (erased_decls decls.now) (erased_type ty.now) };
+
+    /// The default of the type.
+    fn default_of(&self, alloc: Global, decls: &[DeriveInput], ty: &Type) -> Mem<Value>
+        requires { IsTrue ((says self.now).has_default (erased_decls decls.now) (erased_type ty.now)) }
+        ensures { IfOk result (λ value. value ≡ (says self.now).default_of (erased_decls decls.now) (erased_type ty.now)) };
+
+    /// What the type reads from an item.
+    fn convert(&self, alloc: Global, ty: &Type, item: HostItem<'_>) -> Mem<Said>
+        requires { IsTrue ((says self.now).knows (erased_type ty.now)) }
+        ensures { IfOk result (λ said. said ≡ (says self.now).convert (erased_type ty.now) (seen_item item.entry)) };
+
+    /// The value of the type where there is no item.
+    fn none_of(&self, alloc: Global, ty: &Type) -> Mem<Option<Value>>
+        requires { IsTrue ((says self.now).knows (erased_type ty.now)) }
+        ensures { IfOk result (λ value. value ≡ (says self.now).none_of (erased_type ty.now)) };
+
+    /// What is given fits the type that is asked for, and nothing is given only for the value of no item.
+    ghost lawful: { (host : Self) → IsLawful (says host) };
+}

@@ -1,0 +1,5 @@
+//! What hosts answer.
+#![tactic(auto)]
+
+#[cfg(test)]
+mod refusing;
