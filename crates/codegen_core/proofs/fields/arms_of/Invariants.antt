@@ -1,0 +1,9 @@
+use Rattle.std.proofs.Common.{◌≡◌, ◌++◌, drop}
+use Rattle.codegen_core.specs.Fields.{at_slots, arm, arms}
+use Rattle.codegen_core.proofs.fields.arms_of.Given as goal
+
+abbrev pub invariant-loop-field : goal.invariant-loop-field
+invariant-loop-field l = record {
+  kept : arms l.fields ≡ l.arms ++ at_slots arm l.slot (drop l.field-index l.fields);
+  counted : l.slot ≡ l.field-index;
+}

@@ -1,0 +1,36 @@
+//! What converts an item.
+
+ghost use Rattle.std.specs.Prelude.{◌≡◌, IfOk};
+ghost use Rattle.codegen_core.specs.Defaults as spec;
+
+use node_core::{Mem, Span, TryClone};
+use std::alloc::Global;
+use util_core::Callable;
+
+/// What converts an item: a callable that the options name, or the field's type.
+pub enum OverrideableCallable<'a> {
+    Custom(&'a Callable),
+    /// The type, which stands here.
+    Default(Span),
+}
+
+impl<'a> OverrideableCallable<'a> {
+    /// The callable that the options name.
+    pub(crate) fn to_custom(&self, alloc: Global) -> Mem<Option<Callable>>
+        ensures { IfOk result (λ it. it ≡ spec.custom self.now) }
+    {
+        match self {
+            OverrideableCallable::Custom(callable) => Ok(Some(callable.try_clone(alloc)?)),
+            OverrideableCallable::Default(_) => Ok(None),
+        }
+    }
+}
+
+impl<'a> Drop for OverrideableCallable<'a> {
+    fn drop(self) {
+        match self {
+            OverrideableCallable::Custom(_) => {}
+            OverrideableCallable::Default(_) => {}
+        }
+    }
+}

@@ -1,0 +1,186 @@
+//! What all derives of a receiver share.
+
+ghost use Rattle.std.specs.Prelude.{◌≡◌, ◌++◌, ◌<◌, ◌^◌, ◌∷◌, [], length, IfOk, OnOk};
+ghost use Rattle.std.specs.Option.{option_copied};
+ghost use Rattle.codegen_core.specs.Compiled as spec;
+
+use crate::default_expression::DefaultExpression;
+use crate::field::{Field, clone_of};
+use crate::fields::{arms_of, inits_of, push_checks, push_flattens, rest_of};
+use crate::variant::Variant;
+use body_core::ast::Data;
+use codegen_program::{DefaultSource, Derive, Func, FuncName, PostfixTransform, Stmt, Unit};
+use node_core::{Generics, Ident, Items, Mem, Path, PathArguments, TryClone};
+use std::alloc::Global;
+
+/// What options leave of a declaration, whatever it derives.
+pub struct TraitImpl<'a> {
+    pub ident: &'a Ident,
+    pub generics: &'a Generics,
+    pub body: Data<Variant<'a>, Field<'a>>,
+    pub default: Option<DefaultExpression<'a>>,
+    pub post_transform: Option<&'a PostfixTransform>,
+    pub allow_unknown_fields: bool,
+    /// Whether it is read as its one field is.
+    pub transparent: bool,
+    /// The path to `darling`, where the options name one.
+    pub krate: Option<&'a Path>,
+}
+
+impl<'a> TraitImpl<'a> {
+    /// The fields in order.
+    pub(crate) fn plain_fields(&self) -> &[Field<'a>]
+        ensures { result.now ≡ spec.fields_of self.now }
+    {
+        match &self.body {
+            Data::Struct(fields) => fields.fields.as_slice(),
+            Data::Enum(_) => &[],
+        }
+    }
+
+    /// The loop over the items.
+    pub(crate) fn for_items(&self, alloc: Global) -> Mem<Stmt>
+        requires { length (spec.fields_of self.now) < 2 ^ 32 }
+        ensures { IfOk result (λ it. it ≡ spec.for_items self.now) }
+    {
+        let fields = self.plain_fields();
+        let arms = arms_of(alloc, fields)?;
+        let rest = rest_of(alloc, self.allow_unknown_fields, fields)?;
+        Ok(Stmt::ForItems { arms, rest })
+    }
+
+    /// Adds what follows once the items are read, up to the end of the function.
+    pub(crate) fn push_closing(
+        &self,
+        alloc: Global,
+        from_ident: bool,
+        stmts: &mut Items<Stmt>,
+    ) -> Mem<()>
+        requires { length (spec.fields_of self.now) < 2 ^ 32 }
+        ensures { OnOk result (stmts.new ≡ stmts.old ++ spec.closing from_ident self.now) }
+    {
+        let fields = self.plain_fields();
+        push_flattens(alloc, fields, stmts)?;
+        push_checks(alloc, fields, stmts)?;
+        stmts.push(Stmt::CheckErrors { location: None })?;
+        self.push_default(alloc, from_ident, stmts)?;
+        self.push_build(alloc, stmts)?;
+        self.push_transform(alloc, stmts)
+    }
+
+    /// Adds the default of the whole receiver, where it has one.
+    fn push_default(&self, alloc: Global, from_ident: bool, stmts: &mut Items<Stmt>) -> Mem<()>
+        ensures { OnOk result (stmts.new ≡ stmts.old ++ spec.set_default (spec.default_of from_ident self.now)) }
+    {
+        match self.to_default(alloc, from_ident)? {
+            Some(from) => stmts.push(Stmt::SetDefault { from }),
+            None => Ok(()),
+        }
+    }
+
+    fn to_default(&self, alloc: Global, from_ident: bool) -> Mem<Option<DefaultSource>>
+        ensures { IfOk result (λ it. it ≡ spec.default_of from_ident self.now) }
+    {
+        if from_ident {
+            return Ok(Some(DefaultSource::FromIdent));
+        }
+        match &self.default {
+            Some(it) => it.to_source(alloc),
+            None => Ok(None),
+        }
+    }
+
+    fn push_build(&self, alloc: Global, stmts: &mut Items<Stmt>) -> Mem<()>
+        requires { length (spec.fields_of self.now) < 2 ^ 32 }
+        ensures { OnOk result (stmts.new ≡ stmts.old ++ spec.build self.now ∷ []) }
+    {
+        let name = self.ident.try_clone(alloc)?;
+        let inits = inits_of(alloc, self.plain_fields())?;
+        stmts.push(Stmt::Build { name, inits })
+    }
+
+    /// Adds the transform of the whole receiver, where it has one.
+    fn push_transform(&self, alloc: Global, stmts: &mut Items<Stmt>) -> Mem<()>
+        ensures { OnOk result (stmts.new ≡ stmts.old ++ spec.transform (option_copied self.now.post_transform)) }
+    {
+        match clone_of(alloc, self.post_transform)? {
+            Some(post) => stmts.push(Stmt::Transform { post }),
+            None => Ok(()),
+        }
+    }
+
+    /// The unit whose one function is this.
+    pub(crate) fn unit_with(
+        &self,
+        alloc: Global,
+        decl: u32,
+        derive: Derive,
+        name: FuncName,
+        parse_impl: bool,
+        stmts: Items<Stmt>,
+    ) -> Mem<Unit>
+        ensures { IfOk result (λ it. it ≡ spec.unit_with decl derive self.now parse_impl (record { name = name; stmts = stmts } ∷ [])) }
+    {
+        let funcs = Items::of(alloc, Func { name, stmts })?;
+        let ident = self.ident.try_clone(alloc)?;
+        let generics = self.generics.try_clone(alloc)?;
+        let krate = self.other_krate(alloc)?;
+        Ok(Unit {
+            decl,
+            derive,
+            ident,
+            generics,
+            krate,
+            parse_impl,
+            funcs,
+        })
+    }
+
+    /// The path to `darling`, where it is not the usual one.
+    fn other_krate(&self, alloc: Global) -> Mem<Option<Path>>
+        ensures { IfOk result (λ it. it ≡ spec.other_krate (option_copied self.now.krate)) }
+    {
+        match self.krate {
+            Some(path) if !is_usual(path) => Ok(Some(path.try_clone(alloc)?)),
+            _ => Ok(None),
+        }
+    }
+}
+
+/// Whether the path is `::darling`.
+fn is_usual(path: &Path) -> bool
+    ensures { result ≡ spec.is_usual path.now }
+{
+    if !path.leading_colon {
+        return false;
+    }
+    let [segment] = path.segments.as_slice() else {
+        return false;
+    };
+    match segment.arguments {
+        PathArguments::None => is_darling(&segment.ident),
+        _ => false,
+    }
+}
+
+/// Whether the identifier is written `darling`.
+fn is_darling(ident: &Ident) -> bool
+    ensures { result ≡ spec.is_darling ident.now }
+{
+    !ident.raw && ident.text.is("darling")
+}
+
+impl<'a> Drop for TraitImpl<'a> {
+    fn drop(self) {
+        let Self {
+            ident: _,
+            generics: _,
+            body: _body,
+            default: _default,
+            post_transform: _,
+            allow_unknown_fields: _,
+            transparent: _,
+            krate: _,
+        } = self;
+    }
+}

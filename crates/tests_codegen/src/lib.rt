@@ -1,0 +1,7 @@
+//! Programs that declarations compile to.
+#![tactic(auto)]
+
+#[cfg(test)]
+mod shown;
+#[cfg(test)]
+mod units;
