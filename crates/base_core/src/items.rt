@@ -1,7 +1,9 @@
 //! A list: a vector that a contract sees as the list of its items.
 
-ghost use Rattle.std.specs.Prelude.{◌≡◌, ◌↔◌, ◌++◌, ◌∷◌, [], ◌<◌, ◌≤◌, ◌-◌, IsTrue, IsSome, IfOk, OnOk, OnErr, MatchOption, length, slice_get, slice_set, insert, remove, take, reverse};
+ghost use Rattle.std.specs.Prelude.{◌≡◌, ◌↔◌, ◌++◌, ◌∷◌, [], ◌<◌, ◌≤◌, ◌-◌, IsTrue, IsSome, IfOk, OnOk, OnErr, MatchOption, length, option_map, slice_get, slice_set, insert, remove, take, reverse};
 ghost use Rattle.std.specs.Option.{option_copied};
+ghost use Rattle.std.specs.Borrow.{LendsIf, sem};
+ghost use Rattle.base_core.specs.contracts.items.Items.{the_row as items_row};
 ghost use Rattle.std.specs.Cmp.Lexicographic.{pointwise};
 ghost use Rattle.std.specs.Cmp.Rules.{comparing};
 ghost use Rattle.std.specs.Hash as fed;
@@ -76,6 +78,14 @@ impl<T> Items<T> {
         ensures within { IsSome result ↔ (at < length self.now) }
     {
         self.vec.get(at)
+    }
+
+    /// The place of the item at `at`, to write there.
+    pub fn get_mut(&mut self, at: usize) -> Option<&mut T>
+        ensures value { option_map (λ it. it.now) result ≡ slice_get self.old at }
+        ensures* writes_back { sem 𝓛 (LendsIf (items_row T.row) T.row self.entry result (slice_set self.old at) self.old) }
+    {
+        self.vec.get_mut(at)
     }
 
     pub fn first(&self) -> Option<&T>

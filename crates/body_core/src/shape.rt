@@ -35,15 +35,15 @@ pub enum Shape {
 }
 
 impl Shape {
-    /// `named fields`, `unnamed fields`, `no fields`, `one unnamed field`
+    /// `no fields`, `one unnamed field`, `unnamed fields`, `named fields`
     pub fn description(&self) -> &'static str
         ensures { result.now ≡ spec.description self.now }
     {
-        match self {
-            Shape::Named => "named fields",
-            Shape::Tuple => "unnamed fields",
-            Shape::Unit => "no fields",
-            Shape::Newtype => "one unnamed field",
+        match *self {
+            Self::Unit => "no fields",
+            Self::Newtype => "one unnamed field",
+            Self::Tuple => "unnamed fields",
+            Self::Named => "named fields",
         }
     }
 }

@@ -10,7 +10,7 @@ use error_fault::{Items, Mem, Span, Text};
 use node_core::SynError;
 use std::alloc::Global;
 use tok_core::quoted;
-use tok_types::{Delimiter, Group, Ident, Literal, Punct, TokenStream, TokenTree};
+use tok_types::{Boxed, Delimiter, Group, Ident, Literal, Punct, TokenStream, TokenTree};
 
 /// For each fault, in order, `::core::compile_error!{"text"}` with each token at its place. Want of
 /// memory drops the faults.
@@ -84,9 +84,10 @@ fn braced(alloc: Global, inside: TokenTree, span: Span) -> Mem<TokenTree>
     ensures { IfOk result (λ token. token ≡ spec.braced inside span) }
 {
     let trees = Items::of(alloc, inside)?;
-    Ok(TokenTree::Group(Group {
+    let group = Group {
         delimiter: Delimiter::Brace,
         stream: TokenStream { trees },
         span,
-    }))
+    };
+    Ok(TokenTree::Group(Boxed::new(alloc, group)?))
 }

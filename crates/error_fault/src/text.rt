@@ -51,7 +51,7 @@ pub fn span_text(alloc: Global, span: Option<Span>) -> Mem<Text>
         None => Text::from_str(alloc, "-"),
         Some(Span::CallSite) => Text::from_str(alloc, "call"),
         Some(Span::At { start, end, .. }) => {
-            let mut text = Text::from_string(start.to_string(alloc)?);
+            let mut text = Text::from_string(alloc, start.to_string(alloc)?)?;
             text.push_str("..")?;
             let end = end.to_string(alloc)?;
             text.push_str(end.as_str())?;

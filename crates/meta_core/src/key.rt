@@ -80,7 +80,7 @@ impl KeyFromPath for String {
     ghost text = { λ it. it };
 
     fn from_path(alloc: Global, path: &Path) -> Result<String> {
-        Ok(path_to_string(alloc, path)?.into_string())
+        Ok(path_to_string(alloc, path)?.into_string()?)
     }
 
     fn to_display(&self, alloc: Global) -> Mem<Text> {

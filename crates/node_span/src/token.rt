@@ -54,7 +54,7 @@ impl Spanned for TokenTree {
             TokenTree::Lifetime(it) => it.ident.span,
             TokenTree::Punct(it) => it.span,
             TokenTree::Literal(it) => it.span,
-            TokenTree::Group(it) => it.span,
+            TokenTree::Group(it) => it.get().span,
         }
     }
 }

@@ -17,7 +17,7 @@ impl ToTokens for Attribute {
         push_mark(trees, &['#'], self.span)?;
         let mut inside = Items::new(alloc);
         self.meta.print(alloc, &mut inside)?;
-        push_group(trees, Delimiter::Bracket, inside, self.span)
+        push_group(alloc, trees, Delimiter::Bracket, inside, self.span)
     }
 }
 
@@ -45,7 +45,7 @@ impl ToTokens for MetaList {
         self.path.print(alloc, trees)?;
         let mut inside = Items::new(alloc);
         self.tokens.print(alloc, &mut inside)?;
-        push_group(trees, self.delimiter, inside, self.span)
+        push_group(alloc, trees, self.delimiter, inside, self.span)
     }
 }
 

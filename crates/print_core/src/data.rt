@@ -34,7 +34,7 @@ impl ToTokens for Visibility {
                     push_word(alloc, &mut inside, "in", *span)?;
                 }
                 path.print(alloc, &mut inside)?;
-                push_group(trees, Delimiter::Parenthesis, inside, *span)
+                push_group(alloc, trees, Delimiter::Parenthesis, inside, *span)
             }
         }
     }
@@ -71,7 +71,7 @@ impl ToTokens for FieldsNamed {
     fn print(&self, alloc: Global, trees: &mut Items<TokenTree>) -> Mem<()> {
         let mut inside = Items::new(alloc);
         print_separated(self.named.as_slice(), ',', self.span, alloc, &mut inside)?;
-        push_group(trees, Delimiter::Brace, inside, self.span)
+        push_group(alloc, trees, Delimiter::Brace, inside, self.span)
     }
 }
 
@@ -82,7 +82,7 @@ impl ToTokens for FieldsUnnamed {
     fn print(&self, alloc: Global, trees: &mut Items<TokenTree>) -> Mem<()> {
         let mut inside = Items::new(alloc);
         print_separated(self.unnamed.as_slice(), ',', self.span, alloc, &mut inside)?;
-        push_group(trees, Delimiter::Parenthesis, inside, self.span)
+        push_group(alloc, trees, Delimiter::Parenthesis, inside, self.span)
     }
 }
 
@@ -123,7 +123,7 @@ impl ToTokens for DataEnum {
     fn print(&self, alloc: Global, trees: &mut Items<TokenTree>) -> Mem<()> {
         let mut inside = Items::new(alloc);
         print_separated(self.variants.as_slice(), ',', self.span, alloc, &mut inside)?;
-        push_group(trees, Delimiter::Brace, inside, self.span)
+        push_group(alloc, trees, Delimiter::Brace, inside, self.span)
     }
 }
 

@@ -31,7 +31,7 @@ impl ToTokens for Expr {
                 expr.get().print(alloc, &mut inside)?;
                 push_mark(&mut inside, &[';'], *span)?;
                 len.get().print(alloc, &mut inside)?;
-                push_group(trees, Delimiter::Bracket, inside, *span)
+                push_group(alloc, trees, Delimiter::Bracket, inside, *span)
             }
             Expr::Tuple { elems, span } => print_tuple(elems.as_slice(), *span, alloc, trees),
             Expr::Paren { expr, span } => {
@@ -101,7 +101,7 @@ impl ToTokens for Expr {
                 if let Some(last) = last {
                     last.get().print(alloc, &mut inside)?;
                 }
-                push_group(trees, Delimiter::Brace, inside, *span)
+                push_group(alloc, trees, Delimiter::Brace, inside, *span)
             }
             Expr::Infer { span } => push_word(alloc, trees, "_", *span),
             Expr::Verbatim(it) => it.print(alloc, trees),
@@ -253,7 +253,7 @@ fn print_array(elems: &[Expr], span: Span, alloc: Global, trees: &mut Items<Toke
 {
     let mut inside = Items::new(alloc);
     print_exprs(elems, span, alloc, &mut inside)?;
-    push_group(trees, Delimiter::Bracket, inside, span)
+    push_group(alloc, trees, Delimiter::Bracket, inside, span)
 }
 
 /// Writes `()`, `(a,)`, `(a, b)`.
@@ -267,7 +267,7 @@ fn print_tuple(elems: &[Expr], span: Span, alloc: Global, trees: &mut Items<Toke
     if elems.len() == 1 {
         push_comma(&mut inside, span)?;
     }
-    push_group(trees, Delimiter::Parenthesis, inside, span)
+    push_group(alloc, trees, Delimiter::Parenthesis, inside, span)
 }
 
 /// Writes `(a, b)`.
@@ -278,7 +278,7 @@ fn print_args(args: &[Expr], span: Span, alloc: Global, trees: &mut Items<TokenT
 {
     let mut inside = Items::new(alloc);
     print_exprs(args, span, alloc, &mut inside)?;
-    push_group(trees, Delimiter::Parenthesis, inside, span)
+    push_group(alloc, trees, Delimiter::Parenthesis, inside, span)
 }
 
 /// Writes `a; b;`.
@@ -313,7 +313,7 @@ fn print_inside(
 {
     let mut inside = Items::new(alloc);
     expr.print(alloc, &mut inside)?;
-    push_group(trees, delimiter, inside, span)
+    push_group(alloc, trees, delimiter, inside, span)
 }
 
 /// Writes `::<T>`, or nothing without members.

@@ -31,4 +31,5 @@ pub use node_core::{
     TypeTuple, UnOp, Variant, Visibility, WhereClause, WherePredicate,
 };
 pub use path::PathStyle;
+pub use push::{push_comma, push_group};
 pub use to_tokens::ToTokens;

@@ -214,7 +214,7 @@ fn print_arguments(
         } => {
             let mut inside = Items::new(alloc);
             print_types(inputs.as_slice(), *span, alloc, &mut inside)?;
-            push_group(trees, Delimiter::Parenthesis, inside, *span)?;
+            push_group(alloc, trees, Delimiter::Parenthesis, inside, *span)?;
             print_return(output, *span, alloc, trees)
         }
     }

@@ -4,7 +4,9 @@ ghost use Rattle.print_core.specs.Marks.{mark, word, group, comma, plus, colons}
 ghost use Rattle.print_core.specs.Fronts.{IsFront};
 
 use std::alloc::Global;
-use tok_types::{Delimiter, Group, Ident, Items, Mem, Punct, Span, Text, TokenStream, TokenTree};
+use tok_types::{
+    Boxed, Delimiter, Group, Ident, Items, Mem, Punct, Span, Text, TokenStream, TokenTree,
+};
 
 /// Writes the mark of these characters, each joint but the last.
 pub fn push_mark(trees: &mut Items<TokenTree>, characters: &[char], span: Span) -> Mem<()>
@@ -57,6 +59,7 @@ pub fn push_word(alloc: Global, trees: &mut Items<TokenTree>, text: &str, span: 
 /// Writes the tokens `inside` between two delimiters.
 #[tactic(auto, unfolding(crate::specs::Marks::group), using(crate::proofs::Fronts::front))]
 pub fn push_group(
+    alloc: Global,
     trees: &mut Items<TokenTree>,
     delimiter: Delimiter,
     inside: Items<TokenTree>,
@@ -66,9 +69,10 @@ pub fn push_group(
     ensures front { IsFront trees.old trees.new }
 {
     let stream = TokenStream { trees: inside };
-    trees.push(TokenTree::Group(Group {
+    let group = Group {
         delimiter,
         stream,
         span,
-    }))
+    };
+    trees.push(TokenTree::Group(Boxed::new(alloc, group)?))
 }

@@ -60,7 +60,7 @@ impl ToTokens for Group {
 
     fn print(&self, alloc: Global, trees: &mut Items<TokenTree>) -> Mem<()> {
         let copy = self.try_clone(alloc)?;
-        trees.push(TokenTree::Group(copy))
+        trees.push(TokenTree::Group(Boxed::new(alloc, copy)?))
     }
 }
 

@@ -103,7 +103,7 @@ impl ToTokens for TypeSlice {
     fn print(&self, alloc: Global, trees: &mut Items<TokenTree>) -> Mem<()> {
         let mut inside = Items::new(alloc);
         self.elem.get().print(alloc, &mut inside)?;
-        push_group(trees, Delimiter::Bracket, inside, self.span)
+        push_group(alloc, trees, Delimiter::Bracket, inside, self.span)
     }
 }
 
@@ -116,7 +116,7 @@ impl ToTokens for TypeArray {
         self.elem.get().print(alloc, &mut inside)?;
         push_mark(&mut inside, &[';'], self.span)?;
         self.len.print(alloc, &mut inside)?;
-        push_group(trees, Delimiter::Bracket, inside, self.span)
+        push_group(alloc, trees, Delimiter::Bracket, inside, self.span)
     }
 }
 
@@ -135,7 +135,7 @@ impl ToTokens for TypeParen {
     fn print(&self, alloc: Global, trees: &mut Items<TokenTree>) -> Mem<()> {
         let mut inside = Items::new(alloc);
         self.elem.get().print(alloc, &mut inside)?;
-        push_group(trees, Delimiter::Parenthesis, inside, self.span)
+        push_group(alloc, trees, Delimiter::Parenthesis, inside, self.span)
     }
 }
 
@@ -146,7 +146,7 @@ impl ToTokens for TypeGroup {
     fn print(&self, alloc: Global, trees: &mut Items<TokenTree>) -> Mem<()> {
         let mut inside = Items::new(alloc);
         self.elem.get().print(alloc, &mut inside)?;
-        push_group(trees, Delimiter::None, inside, self.span)
+        push_group(alloc, trees, Delimiter::None, inside, self.span)
     }
 }
 
@@ -168,7 +168,7 @@ impl ToTokens for TypeFnPtr {
                 arg.ty.print(alloc, &mut inside)?;
             }
         }
-        push_group(trees, Delimiter::Parenthesis, inside, span)?;
+        push_group(alloc, trees, Delimiter::Parenthesis, inside, span)?;
         match &self.output {
             ReturnType::Default => Ok(()),
             ReturnType::Ty(ty) => {
@@ -286,7 +286,7 @@ fn print_tuple(elems: &[Type], span: Span, alloc: Global, trees: &mut Items<Toke
     if elems.len() == 1 {
         push_comma(&mut inside, span)?;
     }
-    push_group(trees, Delimiter::Parenthesis, inside, span)
+    push_group(alloc, trees, Delimiter::Parenthesis, inside, span)
 }
 
 /// Writes `dyn A + B` or `impl A + B`.

@@ -65,6 +65,7 @@ pub fn group(tree: &TokenTree, delimiter: Delimiter) -> Option<&Group>
 {
     match tree {
         TokenTree::Group(group) => {
+            let group = group.get();
             if group.delimiter == delimiter {
                 Some(group)
             } else {

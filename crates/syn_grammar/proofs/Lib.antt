@@ -1,3 +1,4 @@
+pub mod Keywords
 pub mod Turns
 pub mod Literals
 pub mod Deepest

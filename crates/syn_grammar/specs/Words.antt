@@ -1,5 +1,5 @@
 -- What a word is to the grammar.
-use Rattle.std.specs.Prelude.{ℕ, Bool, true, false, ◌==◌, if◌then◌else◌, List, [], ◌∷◌, codes, Option, Some, None}
+use Rattle.std.specs.Prelude.{ℕ, Bool, true, false, ◌==◌, if◌then◌else◌, List, [], ◌∷◌, ◌++◌, map, codes, Option, Some, None}
 use Rattle.std.specs.List.{list_any}
 use Rattle.std.specs.Str.{bytes_eq}
 use Rattle.tok_types.specs.declared.ident.Ident.{Ident}
@@ -26,6 +26,10 @@ named_words =
     (codes "for", word.For) ∷ (codes "impl", word.Impl) ∷ (codes "in", word.In) ∷ (codes "move", word.Move) ∷
     (codes "mut", word.Mut) ∷ (codes "pub", word.Pub) ∷ (codes "Self", word.PathStart) ∷ (codes "self", word.PathStart) ∷
     (codes "struct", word.Struct) ∷ (codes "super", word.PathStart) ∷ (codes "true", word.True) ∷ (codes "where", word.Where) ∷ []
+
+-- all keywords, each with what it is to the grammar
+unfoldable pub keywords : List (List ℕ × Word)
+keywords = named_words ++ map (λ other. (other, word.Keyword)) other_keywords
 
 -- what the table has at the name
 abbrev pub looked_up : List (List ℕ × Word) → List ℕ → Option Word

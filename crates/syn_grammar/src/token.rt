@@ -16,7 +16,7 @@ pub fn span_of(tree: &TokenTree) -> Span
         TokenTree::Lifetime(lifetime) => lifetime.ident.span,
         TokenTree::Punct(punct) => punct.span,
         TokenTree::Literal(literal) => literal.span,
-        TokenTree::Group(group) => group.span,
+        TokenTree::Group(group) => group.get().span,
     }
 }
 
@@ -26,7 +26,7 @@ pub fn is_group(between: Delimiter, trees: &[TokenTree]) -> bool
     ensures { result ≡ token.is_group between trees.now }
 {
     match trees.first() {
-        Some(TokenTree::Group(group)) => group.delimiter == between,
+        Some(TokenTree::Group(group)) => group.get().delimiter == between,
         _ => false,
     }
 }
@@ -37,7 +37,7 @@ pub fn contents_of(trees: &[TokenTree]) -> &[TokenTree]
     ensures { result.now ≡ token.contents_of trees.now }
 {
     match trees.first() {
-        Some(TokenTree::Group(group)) => group.stream.trees.as_slice(),
+        Some(TokenTree::Group(group)) => group.get().stream.trees.as_slice(),
         _ => &[],
     }
 }

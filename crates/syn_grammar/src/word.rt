@@ -1,10 +1,8 @@
 //! What an identifier token is to the grammar: a name, or which keyword.
 
 ghost use Rattle.std.specs.Prelude.{◌≡◌, map};
-ghost use Rattle.std.specs.List.{list_any};
 ghost use Rattle.std.specs.Option.{option_copied};
-ghost use Rattle.syn_grammar.specs.Words.{word_of, looked_up, named_words, other_keywords, next_word, name_of, segment_word, peek};
-ghost use Rattle.std.specs.Str.{bytes_eq};
+ghost use Rattle.syn_grammar.specs.Words.{word_of, looked_up, keywords, next_word, name_of, segment_word, peek};
 
 use crate::token::ident_of;
 use tok_types::{Ident, TokenTree};
@@ -39,54 +37,104 @@ pub enum Word {
     Keyword,
 }
 
-/// The words that a rule names, each with what it is to the grammar.
-const NAMED_WORDS: [(&str, Word); 20] = [
-    ("_", Word::Underscore),
+// The keywords by their lengths, each with what it is to the grammar: a name is compared with those of its own length.
+
+const OF_ONE: [(&str, Word); 1] = [("_", Word::Underscore)];
+
+const OF_TWO: [(&str, Word); 5] = [
     ("as", Word::As),
-    ("const", Word::Const),
-    ("crate", Word::PathStart),
-    ("dyn", Word::Dyn),
-    ("enum", Word::Enum),
-    ("false", Word::False),
     ("fn", Word::Fn),
-    ("for", Word::For),
-    ("impl", Word::Impl),
     ("in", Word::In),
-    ("move", Word::Move),
-    ("mut", Word::Mut),
-    ("pub", Word::Pub),
-    ("Self", Word::PathStart),
-    ("self", Word::PathStart),
-    ("struct", Word::Struct),
-    ("super", Word::PathStart),
-    ("true", Word::True),
-    ("where", Word::Where),
+    ("do", Word::Keyword),
+    ("if", Word::Keyword),
 ];
 
-/// The words that no rule of the grammar names.
-const OTHER_KEYWORDS: [&str; 32] = [
-    "abstract", "async", "await", "become", "box", "break", "continue", "do", "else", "extern",
-    "final", "if", "let", "loop", "macro", "match", "mod", "override", "priv", "ref", "return",
-    "static", "trait", "try", "type", "typeof", "unsafe", "unsized", "use", "virtual", "while",
-    "yield",
+const OF_THREE: [(&str, Word); 10] = [
+    ("dyn", Word::Dyn),
+    ("for", Word::For),
+    ("mut", Word::Mut),
+    ("pub", Word::Pub),
+    ("box", Word::Keyword),
+    ("let", Word::Keyword),
+    ("mod", Word::Keyword),
+    ("ref", Word::Keyword),
+    ("try", Word::Keyword),
+    ("use", Word::Keyword),
+];
+
+const OF_FOUR: [(&str, Word); 10] = [
+    ("enum", Word::Enum),
+    ("impl", Word::Impl),
+    ("move", Word::Move),
+    ("Self", Word::PathStart),
+    ("self", Word::PathStart),
+    ("true", Word::True),
+    ("else", Word::Keyword),
+    ("loop", Word::Keyword),
+    ("priv", Word::Keyword),
+    ("type", Word::Keyword),
+];
+
+const OF_FIVE: [(&str, Word); 14] = [
+    ("const", Word::Const),
+    ("crate", Word::PathStart),
+    ("false", Word::False),
+    ("super", Word::PathStart),
+    ("where", Word::Where),
+    ("async", Word::Keyword),
+    ("await", Word::Keyword),
+    ("break", Word::Keyword),
+    ("final", Word::Keyword),
+    ("macro", Word::Keyword),
+    ("match", Word::Keyword),
+    ("trait", Word::Keyword),
+    ("while", Word::Keyword),
+    ("yield", Word::Keyword),
+];
+
+const OF_SIX: [(&str, Word); 7] = [
+    ("struct", Word::Struct),
+    ("become", Word::Keyword),
+    ("extern", Word::Keyword),
+    ("return", Word::Keyword),
+    ("static", Word::Keyword),
+    ("typeof", Word::Keyword),
+    ("unsafe", Word::Keyword),
+];
+
+const OF_SEVEN: [(&str, Word); 2] = [("unsized", Word::Keyword), ("virtual", Word::Keyword)];
+
+const OF_EIGHT: [(&str, Word); 3] = [
+    ("abstract", Word::Keyword),
+    ("continue", Word::Keyword),
+    ("override", Word::Keyword),
 ];
 
 /// What a word is to the grammar. A raw identifier is a name, whatever its text.
-#[tactic(auto, unfolding(crate::specs::Words::word_of))]
+#[tactic(auto, unfolding(crate::specs::Words::word_of), using(crate::proofs::Keywords::keyword_or_name))]
 pub fn word_of(ident: &Ident) -> Word
     ensures { result ≡ word_of ident.now }
 {
     if ident.raw {
         return Word::Name;
     }
-    let name = ident.text.as_str();
-    if let Some(word) = named_word(name) {
-        return word;
-    }
-    if is_other_keyword(name) {
-        Word::Keyword
-    } else {
-        Word::Name
+    keyword(ident.text.as_str()).unwrap_or(Word::Name)
+}
+
+/// Which keyword the name is.
+fn keyword(name: &str) -> Option<Word>
+    ensures { result ≡ looked_up keywords name.now }
+{
+    match name.len() {
+        1 => looked_up(&OF_ONE, name),
+        2 => looked_up(&OF_TWO, name),
+        3 => looked_up(&OF_THREE, name),
+        4 => looked_up(&OF_FOUR, name),
+        5 => looked_up(&OF_FIVE, name),
+        6 => looked_up(&OF_SIX, name),
+        7 => looked_up(&OF_SEVEN, name),
+        8 => looked_up(&OF_EIGHT, name),
+        _ => None,
     }
 }
 
@@ -130,44 +178,13 @@ pub fn peek(wanted: Word, trees: &[TokenTree]) -> bool
     next_word(trees) == wanted
 }
 
-/// Whether the texts are one. Their lengths are compared first, since most words differ there.
-#[tactic(auto)]
-fn is_text(one: &str, other: &str) -> bool
-    ensures { result ≡ bytes_eq one.now other.now }
-{
-    one.len() == other.len() && one == other
-}
-
-fn named_word(name: &str) -> Option<Word>
-    ensures { result ≡ looked_up named_words name.now }
-{
-    looked_up(&NAMED_WORDS, name)
-}
-
 fn looked_up(rows: &[(&str, Word)], name: &str) -> Option<Word>
     ensures { result ≡ looked_up (map (λ row. (row.0.now, row.1)) rows.now) name.now }
 {
     for row in rows {
-        if is_text(row.0, name) {
+        if row.0 == name {
             return Some(row.1);
         }
     }
     None
-}
-
-fn is_other_keyword(name: &str) -> bool
-    ensures { result ≡ list_any (λ other. bytes_eq other name.now) other_keywords }
-{
-    is_among(&OTHER_KEYWORDS, name)
-}
-
-fn is_among(names: &[&str], name: &str) -> bool
-    ensures { result ≡ list_any (λ other. bytes_eq other name.now) (map (λ other. other.now) names.now) }
-{
-    for other in names {
-        if is_text(other, name) {
-            return true;
-        }
-    }
-    false
 }

@@ -61,7 +61,7 @@ pub fn delimiter_of(trees: &[TokenTree]) -> Option<Delimiter>
     ensures { result ≡ attributes.delimiter_of trees.now }
 {
     match trees.first() {
-        Some(TokenTree::Group(group)) => Some(group.delimiter),
+        Some(TokenTree::Group(group)) => Some(group.get().delimiter),
         _ => None,
     }
 }

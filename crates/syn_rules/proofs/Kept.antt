@@ -1,5 +1,5 @@
 -- What is too deep stays too deep: a loop may refuse as soon as what it has read is.
-use Rattle.std.proofs.Common.{◌≡◌, ℕ, zero, suc, ◌+◌, ◌-◌, ◌<◌, ◌≤◌, Bool, true, false, if◌then◌else◌, ◌==◌, List, length, Option, Some, None, Err, refl, arith, [], zero-add, IfSome}
+use Rattle.std.proofs.Common.{◌≡◌, ℕ, zero, suc, ◌+◌, ◌-◌, ◌<◌, ◌≤◌, Bool, true, false, if◌then◌else◌, ◌==◌, List, ◌∷◌, length, Option, Some, None, Err, refl, ap, ◌∙◌, arith, [], zero-add, IfSome}
 use Rattle.std.proofs.Math.Nat.{suc-add}
 use Rattle.std.proofs.lemmas.Grind.{common_steps}
 use Rattle.tok_types.specs.Span.{joined}
@@ -166,6 +166,29 @@ module _ (readers : Readers) (limit : ℕ) where
   levels-deep start zero below input h = rw zero-add h
   levels-deep start (suc more) below input h = rw suc-add (level-deep start (more + below) input (levels-deep start more below input h))
 
+  -- ---- a level without an operator
+
+  end-without : (input : Input) (left : Expr) (trees : List TokenTree) → 0 ≡ length trees → (if is_end trees then pure left else refuse) input ≡ Some (left, input)
+  end-without input left [] none = refl
+  end-without input left (tree ∷ trees) none = absurd (cc)
+
+  chain_from-without : (start : Span) (below turns : ℕ) (left : Expr) (input : Input) → turns ≡ length input.rest
+      → at_level (suc below) (operator_of input.rest) ≡ None → chain_from readers start below turns left input ≡ Some (left, input)
+  unfolding chain_from
+  chain_from-without start below zero left input whole none = end-without input left input.rest whole
+  chain_from-without start below (suc turns) left input whole none = rw none refl
+
+  if-without : (b : Bool) (p q : Parser Expr) (input : Input) {outcome : Outcome Expr} → p input ≡ outcome → q input ≡ outcome → (if b then p else q) input ≡ outcome
+  if-without true p q input one other = one
+  if-without false p q input one other = other
+
+  -- where no operator of the level comes next, the level is what stands before it
+  pub chain-without : (start : Span) (below : ℕ) (left : Expr) (input : Input) → at_level (suc below) (operator_of input.rest) ≡ None → chain readers start below left input ≡ Some (left, input)
+  unfolding chain compared
+  chain-without start below left input none =
+      if-without (below == 6) (compared readers start below left) (chain_all readers start below left) input (rw none refl)
+      (chain_from-without start below (length input.rest) left input refl none)
+
   -- ---- the loops stop as soon as what they have is too deep
 
   pub compared-stops : (start : Span) (below : ℕ) (left longer : Expr) (op : Infix) (input rest : Input) → Some op ≡ at_level (suc below) (operator_of input.rest)
@@ -206,6 +229,23 @@ module _ (readers : Readers) (limit : ℕ) where
   pub postfixes_from-stops : (start : Span) (turns : ℕ) (longer : Expr) (outcome : Outcome Expr) (rest : Input) → outcome ≡ Some (longer, rest) → limit < expr_depth longer
       → kept expr_depth limit (and_then outcome (postfixes_from readers start turns)) ≡ None
   postfixes_from-stops start turns longer outcome rest read deep = rw read (kept-TooDeep limit (postfixes_from readers start turns longer rest) (postfixes_from-deep start turns longer rest deep))
+
+  level-read : (start : Span) (below : ℕ) (left longer : Expr) (input rest new : Input) → binary_from readers start below input ≡ Some (left, rest)
+      → chain readers start below left rest ≡ Some (longer, new) → binary_from readers start (suc below) input ≡ Some (longer, new)
+  unfolding binary_from
+  level-read start below left longer input rest new is read = rw is read
+
+  -- a level that is read
+  pub level-taken : (start : Span) (below : ℕ) (left longer : Expr) (input rest new : Input) → binary_from readers start below input ≡ Some (left, rest)
+      → chain readers start below left rest ≡ Some (longer, new) → binary_from readers start (below + 1) input ≡ Some (longer, new)
+  level-taken start below left longer input rest new is read =
+      let next : below + 1 ≡ suc below = omega arith in
+      ap (λ level. binary_from readers start level input) next ∙ level-read start below left longer input rest new is read
+
+  -- a level of which no operator comes next
+  pub level-without : (start : Span) (below : ℕ) (left : Expr) (input rest : Input) → binary_from readers start below input ≡ Some (left, rest)
+      → at_level (suc below) (operator_of rest.rest) ≡ None → binary_from readers start (below + 1) input ≡ Some (left, rest)
+  level-without start below left input rest is none = level-taken start below left left input rest rest is (chain-without start below left rest none)
 
   -- ---- a level that is refused
 

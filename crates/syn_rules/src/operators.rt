@@ -205,9 +205,12 @@ impl<R: ReadParts> ExprRules<R> {
     {
         let (mut left, mut depth) = self.operand(tokens)?;
         for below in 0..level {
-            let (longer, longer_depth) = self.chain(tokens, start, below, left, depth)?;
-            left = longer;
-            depth = longer_depth;
+            // a chain without an operator is `left`, which is not moved for it
+            if operator_above(tokens, below).is_some() {
+                let (longer, longer_depth) = self.chain(tokens, start, below, left, depth)?;
+                left = longer;
+                depth = longer_depth;
+            }
         }
         Ok((left, depth))
     }

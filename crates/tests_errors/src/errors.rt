@@ -59,7 +59,7 @@ length | duplicate hello; duplicate hi; missing bye; duplicate whatsup; gather 1
 length | duplicate hello; duplicate hi; missing bye; duplicate whatsup; gather 1; at c; gather 3; at b; gather 2; at a; flatten; flatten => 4
 children | duplicate hello; duplicate hi; missing bye; duplicate whatsup; gather 1; at c; gather 3; at b; gather 2; at a; flatten; flatten => Duplicate field `hello` at a; Duplicate field `hi` at a/b; Missing field `bye` at a/b; Duplicate field `whatsup` at a/b/c
 children | custom a => a
-debug | missing z; at x; custom b; gather 2; span 1..2 => Faults(Error { node: Many([Error { node: Leaf(MissingField(Text { string: "z" })), locations: Items { vec: [Text { string: "x" }] }, span: None, .. }, Error { node: Leaf(Custom(Text { string: "b" })), locations: Items { vec: [] }, span: None, .. }]), locations: Items { vec: [] }, span: Some(At { source: 1, start: 1, end: 2 }), .. })
+debug | missing z; at x; custom b; gather 2; span 1..2 => Faults(Error { node: Many([Error { node: Leaf(MissingField("z")), locations: Items { vec: ["x"] }, span: None, .. }, Error { node: Leaf(Custom("b")), locations: Items { vec: [] }, span: None, .. }]), locations: Items { vec: [] }, span: Some(At { source: 1, start: 1, end: 2 }), .. })
 inside | unknown k; unknown l; gather 2; span 1..2; missing z; unknown m; at x; gather 3; span 3..4; widen => 1..2 Multiple errors: (Unknown field: `k`. Available values: `a`, `b`, Unknown field: `l`. Available values: `a`, `b`); none Missing field `z`; none Unknown field: `m` at x
 length | custom a; custom b; gather 2; span 1..2; clone => 2
 stands | custom a; custom b; gather 2; span 1..2; clone => 1..2 Multiple errors: (a, b)

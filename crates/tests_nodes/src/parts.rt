@@ -1,7 +1,7 @@
 //! Each node of a type, an expression and a path by itself.
 
 use node_core::{
-    Comma, Delimiter, Expr, FnArg, GenericArgument, Group, Ident, Items, Lit, Mem, Path,
+    Boxed, Comma, Delimiter, Expr, FnArg, GenericArgument, Group, Ident, Items, Lit, Mem, Path,
     PathArguments, Punctuated, TokenStream, TokenTree, TryClone, Type, TypeGroup, TypeParamBound,
     TypeSlice, make,
 };
@@ -169,11 +169,12 @@ pub fn later(alloc: Global, text: &str) -> Tested<TokenStream> {
 fn invisible(alloc: Global, stream: TokenStream) -> Tested<TokenStream> {
     let span = stream.spanned();
     let delimiter = Delimiter::None;
-    let group = TokenTree::Group(Group {
+    let group = Group {
         delimiter,
         stream,
         span,
-    });
+    };
+    let group = TokenTree::Group(Boxed::new(alloc, group)?);
     let trees = Items::of(alloc, group)?;
     Ok(TokenStream { trees })
 }

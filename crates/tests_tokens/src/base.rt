@@ -13,7 +13,7 @@ fn three(alloc: Global) -> Tested<Items<Text>> {
     second.push('b')?;
     second.push_str("c")?;
     items.push(second)?;
-    items.push(Text::from_string(String::new(alloc)))?;
+    items.push(Text::from_string(alloc, String::new(alloc))?)?;
     Ok(items)
 }
 

@@ -154,6 +154,7 @@ fn push_token(text: &mut String, tree: &TokenTree) -> Mem<()> {
             text.push(')')
         }
         TokenTree::Group(it) => {
+            let it = it.get();
             text.push_str(tok_scan::opening(it.delimiter))?;
             text.push(' ')?;
             push_tokens(text, it.stream.trees.as_slice())?;
@@ -226,6 +227,7 @@ fn printed(alloc: Global, text: &str) -> Tested<Text> {
 fn comment(alloc: Global, text: &str) -> Tested<String> {
     let tokens = tokens(alloc, text)?;
     if let [TokenTree::Punct(mark), TokenTree::Group(group)] = tokens.trees.as_slice() {
+        let group = group.get();
         let inner = group.stream.trees.as_slice();
         if let [
             TokenTree::Ident(name),

@@ -70,7 +70,7 @@ a => 0..1 Unexpected meta-item format `word`;"#;
 fn ruled(alloc: Global, table: &RenameTable, item: &str) -> Tested<Text> {
     let item = meta_of(alloc, item)?;
     match table.rule(alloc, &item) {
-        Ok(rule) => Ok(Text::from_string(format!(in alloc; "{rule:?}")?)),
+        Ok(rule) => Ok(Text::from_str(alloc, format!(in alloc; "{rule:?}")?.as_str())?),
         Err(refusal) => faults(alloc, refusal),
     }
 }

@@ -117,6 +117,7 @@ impl Nest {
     /// Ends the innermost group, by a delimiter that stands from `start` to `end`.
     fn close(
         &mut self,
+        alloc: Global,
         source: u32,
         delimiter: Delimiter,
         start: u32,
@@ -141,7 +142,8 @@ impl Nest {
             end,
         };
         let trees = std::mem::replace(&mut self.trees, outer);
-        self.trees.push(token::group(opened, trees, span))?;
+        let group = token::group(alloc, opened, trees, span)?;
+        self.trees.push(group)?;
         Ok(())
     }
 
@@ -203,7 +205,7 @@ impl Nest {
                 }
                 self.open(alloc, delimiter, start)?;
             }
-            Kind::Close(delimiter) => self.close(source, delimiter, start, end)?,
+            Kind::Close(delimiter) => self.close(alloc, source, delimiter, start, end)?,
         }
         Ok(())
     }

@@ -63,6 +63,7 @@ fn push_tree(text: &mut Text, tree: &TokenTree) -> Mem<()>
         TokenTree::Punct(it) => text.push(it.ch),
         TokenTree::Literal(it) => text.push_str(it.text.as_str()),
         TokenTree::Group(it) => {
+            let it = it.get();
             text.push_str(opening(it.delimiter))?;
             push_trees(text, it.stream.trees.as_slice())?;
             text.push_str(closing(it.delimiter))

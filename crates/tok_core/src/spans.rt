@@ -22,8 +22,9 @@ fn respan_tree(tree: &mut TokenTree, span: Span)
         TokenTree::Punct(it) => it.span = span,
         TokenTree::Literal(it) => it.span = span,
         TokenTree::Group(it) => {
-            respan_trees(&mut it.stream.trees, span);
-            it.span = span;
+            let group = it.get_mut();
+            respan_trees(&mut group.stream.trees, span);
+            group.span = span;
         }
     }
 }

@@ -8,14 +8,14 @@ ghost use Rattle.tok_core.specs.Spells.{doc_tokens, ident_of};
 use crate::quoting::quoted_characters;
 use std::alloc::Global;
 use tok_types::{
-    Delimiter, Group, Ident, Items, Lifetime, Literal, Mem, Punct, Span, Text, TokenStream,
+    Boxed, Delimiter, Group, Ident, Items, Lifetime, Literal, Mem, Punct, Span, Text, TokenStream,
     TokenTree,
 };
 
 fn name(alloc: Global, characters: &[char], raw: bool, span: Span) -> Mem<Ident>
     ensures { IfOk result (λ it. it ≡ record { text = encode_utf8_all characters.now; raw = raw; span = span }) }
 {
-    let text = Text::from_string(tok_scan::text_of(alloc, characters)?);
+    let text = Text::from_string(alloc, tok_scan::text_of(alloc, characters)?)?;
     Ok(Ident { text, raw, span })
 }
 
@@ -99,16 +99,22 @@ pub(crate) fn doc(alloc: Global, characters: &[char], span: Span) -> Mem<TokenTr
     trees.push(mark('=', false, span))?;
     let text = quoted_characters(alloc, from(characters, 3))?;
     trees.push(TokenTree::Literal(Literal { text, span }))?;
-    Ok(group(Delimiter::Bracket, trees, span))
+    group(alloc, Delimiter::Bracket, trees, span)
 }
 
-pub(crate) fn group(delimiter: Delimiter, trees: Items<TokenTree>, span: Span) -> TokenTree
-    ensures { flat_tree result
-        ≡ flat.opening delimiter (start_of span) ∷ (flat_trees trees ++ flat.closing delimiter (end_of span) ∷ []) }
+pub(crate) fn group(
+    alloc: Global,
+    delimiter: Delimiter,
+    trees: Items<TokenTree>,
+    span: Span,
+) -> Mem<TokenTree>
+    ensures { IfOk result (λ tree. flat_tree tree
+        ≡ flat.opening delimiter (start_of span) ∷ (flat_trees trees ++ flat.closing delimiter (end_of span) ∷ [])) }
 {
-    TokenTree::Group(Group {
+    let group = Group {
         delimiter,
         stream: TokenStream { trees },
         span,
-    })
+    };
+    Ok(TokenTree::Group(Boxed::new(alloc, group)?))
 }

@@ -56,7 +56,7 @@ fn is_literal(text: &[char]) -> bool
 fn string(alloc: Global, characters: &[char]) -> Mem<Value>
     ensures { IfOk result (λ it. it ≡ value.Str (encode_utf8_all characters.now)) }
 {
-    let text = Text::from_string(text_of(alloc, characters)?);
+    let text = Text::from_string(alloc, text_of(alloc, characters)?)?;
     Ok(Value::Str(text))
 }
 

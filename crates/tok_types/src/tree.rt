@@ -2,7 +2,7 @@
 
 use crate::ident::{Ident, Lifetime};
 use crate::span::Span;
-use base_core::{Items, Text};
+use base_core::{Boxed, Items, Text};
 
 /// What a group stands between; `None` for a group that no text shows.
 #[derive(Clone, Copy, Debug, PartialEq, Eq, Hash)]
@@ -47,7 +47,7 @@ pub enum TokenTree {
     Lifetime(Lifetime),
     Punct(Punct),
     Literal(Literal),
-    Group(Group),
+    Group(Boxed<Group>),
 }
 
 #[cycle(tokens)]

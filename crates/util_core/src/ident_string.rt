@@ -43,7 +43,7 @@ impl IdentString {
     pub fn new(alloc: Global, ident: Ident) -> Mem<IdentString>
         ensures { IfOk result (λ it. it ≡ ident) }
     {
-        let string = ident.to_text(alloc)?.into_string();
+        let string = ident.to_text(alloc)?.into_string()?;
         Ok(IdentString { ident, string })
     }
 

@@ -1,14 +1,12 @@
 //! The tokens of members.
 
-ghost use Rattle.std.specs.Prelude.{◌≡◌, ◌++◌, map, IfOk, OnOk};
-ghost use Rattle.print_core.specs.Marks.{comma, ended, group, joined};
-ghost use Rattle.print_core.specs.Fronts.{IsFront};
+ghost use Rattle.std.specs.Prelude.{◌≡◌, map, IfOk};
+ghost use Rattle.print_core.specs.Marks.{comma, ended, joined};
 ghost use Rattle.body_core.specs.Tokens.{container_tokens};
 
 use crate::ast::fields::Fields;
-use crate::ast::style::Style;
-use node_core::{Delimiter, Group, Items, Mem, Punct, Span, TokenStream, TokenTree};
-use print_core::ToTokens;
+use node_core::{Delimiter, Items, Mem, Span, Style, TokenTree};
+use print_core::{ToTokens, push_comma, push_group};
 use std::alloc::Global;
 
 /// `{ a, b, }`, `(a, b)`, or nothing
@@ -20,11 +18,11 @@ impl<T: ToTokens> ToTokens for Fields<T> {
         match self.style {
             Style::Struct => {
                 let inside = print_ended(self.fields.as_slice(), span, alloc)?;
-                push_group(trees, Delimiter::Brace, inside, span)
+                push_group(alloc, trees, Delimiter::Brace, inside, span)
             }
             Style::Tuple => {
                 let inside = print_joined(self.fields.as_slice(), span, alloc)?;
-                push_group(trees, Delimiter::Parenthesis, inside, span)
+                push_group(alloc, trees, Delimiter::Parenthesis, inside, span)
             }
             Style::Unit => Ok(()),
         }
@@ -56,34 +54,4 @@ fn print_joined<T: ToTokens>(members: &[T], span: Span, alloc: Global) -> Mem<It
         }
     }
     Ok(trees)
-}
-
-#[tactic(auto, unfolding(print_core::specs::Marks::mark))]
-fn push_comma(trees: &mut Items<TokenTree>, span: Span) -> Mem<()>
-    ensures { OnOk result (trees.new ≡ trees.old ++ comma span) }
-{
-    trees.push(TokenTree::Punct(Punct {
-        ch: ',',
-        joint: false,
-        span,
-    }))
-}
-
-/// Writes the tokens `inside` between two delimiters.
-#[tactic(auto, unfolding(print_core::specs::Marks::group), using(print_core::proofs::Fronts::front))]
-fn push_group(
-    trees: &mut Items<TokenTree>,
-    delimiter: Delimiter,
-    inside: Items<TokenTree>,
-    span: Span,
-) -> Mem<()>
-    ensures ok { OnOk result (trees.new ≡ trees.old ++ group delimiter inside span) }
-    ensures front { IsFront trees.old trees.new }
-{
-    let stream = TokenStream { trees: inside };
-    trees.push(TokenTree::Group(Group {
-        delimiter,
-        stream,
-        span,
-    }))
 }

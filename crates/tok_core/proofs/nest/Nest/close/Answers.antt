@@ -25,9 +25,9 @@ pub returns-clause-flat : goal.returns-clause-flat
 returns-clause-flat c =
     let frame = c.in-Some.frame in
     let outer = rw (c.replace-trees.ensures.after, c.into_parts-opened.ensures) at c.in_ok-push.ensures.ok in
-    let group = rw c.into_parts-opened.ensures at c.group.ensures in
+    let group = rw c.into_parts-opened.ensures at c.in_ok-group.ensures in
     let yes : same_delimiter c.args.delimiter frame.delimiter ≡ true = cc in
-    flat_nest-close c.args.source c.args.end c.args.self.now.frames c.pop.new.self frame c.replace-trees.result c.push.new.self c.group.result
+    flat_nest-close c.args.source c.args.end c.args.self.now.frames c.pop.new.self frame c.replace-trees.result c.push.new.self c.in_ok-group.group
     c.in-Some.ensures outer group
     ∙ ap (λ ts. (flat_frames c.args.source c.args.self.now.frames ++ flat_trees ts) ++ closing frame.delimiter (Some (c.args.source, c.args.end)) ∷ []) c.replace-trees.ensures.value
     ∙ ap (λ d. flat_nest c.args.source c.args.self.now ++ closing d (Some (c.args.source, c.args.end)) ∷ []) (sym (same_delimiter-true c.args.delimiter frame.delimiter yes))

@@ -1,9 +1,0 @@
-use Rattle.std.proofs.Common.{◌≡◌, map, drop}
-use Rattle.std.specs.List.{list_any}
-use Rattle.std.specs.Str.{bytes_eq}
-use Rattle.syn_grammar.proofs.word.is_among.Given as goal
-
-abbrev pub invariant-loop-other : goal.invariant-loop-other
-invariant-loop-other l =
-    list_any (λ other. bytes_eq other l.name) (map (λ other. other.now) (drop l.other-index l.names))
-    ≡ list_any (λ other. bytes_eq other l.name) (map (λ other. other.now) l.names)
