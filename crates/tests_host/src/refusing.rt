@@ -62,7 +62,9 @@ fn refuses(alloc: Global, said: Said, at: Use) -> Tested<()> {
 fn asked<H: Host>(alloc: Global, host: &H, at: Use) -> Tested<()> {
     let place = place(alloc, at)?;
     let call = callable(alloc)?;
-    holds(host.offers(&[], Some(&call), &place), at)?;
+    if !host.offers(&[], Some(&call), &place) {
+        return holds(false, at);
+    }
     let said = host.answer(alloc, &[], Some(&call), &place, Arg::Value(&Value::Unit))?;
     refuses(alloc, said, at)
 }
