@@ -1,6 +1,6 @@
 //! The trait of hosts.
 
-ghost use Rattle.std.specs.Prelude.{◌≡◌, IfOk, IsTrue};
+ghost use Rattle.std.specs.Prelude.{◌≡◌, IfOk};
 ghost use Rattle.std.specs.Option.{option_copied};
 ghost use Rattle.law_spans.specs.Erased.{erased_path, erased_type};
 ghost use Rattle.machine_host.specs.HostSays.{erased_call, erased_decls, erased_place};
@@ -18,7 +18,8 @@ use util_core::Callable;
 /// What a run asks for where an option names a function, or a type is not of the table.
 ///
 /// `decls` are all declarations of the program, without attributes. `call` is what the option names, and none
-/// exactly at [`FromIdent`](crate::Use::FromIdent).
+/// exactly at [`FromIdent`](crate::Use::FromIdent). A function is asked where it is offered, and a type where it is known or
+/// has a default: the laws speak of these alone, and elsewhere the record tells no more than the answer.
 pub trait Host {
     ghost use Rattle.machine_host.specs.HostSays.{HostSays};
     ghost use Rattle.machine_host.specs.Lawful.{IsLawful};
@@ -47,7 +48,6 @@ pub trait Host {
         place: &Place,
         arg: Arg<'_>,
     ) -> Mem<Said>
-        requires { IsTrue ((says self.now).offers (erased_decls decls.now) (erased_call call) (erased_place place.now)) }
         ensures { IfOk result (λ said. said ≡ (says self.now).answer (erased_decls decls.now) (erased_call call.entry) (erased_place place.now) (seen_arg arg.entry)) };
 
     /// Whether the type, which is the host's or a declaration, has a default.
@@ -56,17 +56,14 @@ pub trait Host {
 
     /// The default of the type.
     fn default_of(&self, alloc: Global, decls: &[DeriveInput], ty: &Type) -> Mem<Value>
-        requires { IsTrue ((says self.now).has_default (erased_decls decls.now) (erased_type ty.now)) }
         ensures { IfOk result (λ value. value ≡ (says self.now).default_of (erased_decls decls.now) (erased_type ty.now)) };
 
     /// What the type reads from an item.
     fn convert(&self, alloc: Global, ty: &Type, item: HostItem<'_>) -> Mem<Said>
-        requires { IsTrue ((says self.now).knows (erased_type ty.now)) }
         ensures { IfOk result (λ said. said ≡ (says self.now).convert (erased_type ty.now) (seen_item item.entry)) };
 
     /// The value of the type where there is no item.
     fn none_of(&self, alloc: Global, ty: &Type) -> Mem<Option<Value>>
-        requires { IsTrue ((says self.now).knows (erased_type ty.now)) }
         ensures { IfOk result (λ value. value ≡ (says self.now).none_of (erased_type ty.now)) };
 
     /// What is given fits the type that is asked for, and nothing is given only for the value of no item.
