@@ -5,7 +5,7 @@ use meta_core::Text;
 use std::alloc::Global;
 use std::test::Fail;
 use tests_checks::{Tested, row_of};
-use util_core::extract_option::{from_owned, from_ref};
+use util_core::extract_option::{from_mut, from_owned, from_ref};
 use util_core::{RenameTable, Type};
 use util_table::MAX_LEN;
 
@@ -39,16 +39,39 @@ fn referred(alloc: Global, ty: &Type) -> Tested<Text> {
     }
 }
 
+fn placed(alloc: Global, ty: &mut Type) -> Tested<Text> {
+    match from_mut(alloc, ty) {
+        Ok(place) => printed(alloc, place),
+        Err(refusal) => faults(alloc, refusal),
+    }
+}
+
 #[test]
 fn types_in_options(rt: HostRuntime) -> Tested<()> {
     let alloc = rt.alloc();
     for row in OPTIONS.lines() {
         let (text, wanted) = row_of(row);
-        let ty = type_of(alloc, text)?;
+        let mut ty = type_of(alloc, text)?;
         expects(&referred(alloc, &ty)?, row, wanted)?;
+        expects(&placed(alloc, &mut ty)?, row, wanted)?;
         expects(&told(alloc, from_owned(alloc, ty))?, row, wanted)?;
     }
     Ok(())
+}
+
+#[test]
+fn the_type_in_an_option_is_written(rt: HostRuntime) -> Tested<()> {
+    let alloc = rt.alloc();
+    let mut ty = type_of(alloc, "a::Option<Vec<u8>>")?;
+    let other = type_of(alloc, "[T]")?;
+    if let Ok(place) = from_mut(alloc, &mut ty) {
+        *place = other;
+    }
+    expects(
+        &printed(alloc, &ty)?,
+        "a written place",
+        "a :: Option < [T] >",
+    )
 }
 
 const TABLE: &str = "kebab field first_name first-name

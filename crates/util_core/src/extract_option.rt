@@ -1,6 +1,6 @@
 //! The type in `Option<T>`, of which a type knows the name alone: `use Vec as Option` is not seen through.
 
-ghost use Rattle.std.specs.Prelude.{◌≡◌, IfOk};
+ghost use Rattle.std.specs.Prelude.{◌≡◌, IfOk, option_map, option_and_then};
 ghost use Rattle.std.specs.Option.{option_copied};
 ghost use Rattle.error_core.specs.Answers.{Answers};
 ghost use Rattle.error_core.specs.ErrorView.{One};
@@ -8,7 +8,7 @@ ghost use Rattle.node_expr.specs.declared.path.PathArguments.{out-PathArguments}
 ghost use Rattle.util_core.specs.ExtractOption as spec;
 
 use meta_core::{Error, Fail, Ident, Mem, Result, Span, Spanned, Type, TypeNever, TypePath};
-use node_core::{GenericArgument, PathArguments};
+use node_core::{GenericArgument, Items, Path, PathArguments};
 use std::alloc::Global;
 use std::mem;
 
@@ -31,6 +31,17 @@ pub fn from_ref(alloc: Global, ty: &Type) -> Result<&Type>
     match option_argument(ty) {
         Some(argument) => Ok(argument),
         None => Err(Fail::Faults(no_option(alloc, ty.spanned())?)),
+    }
+}
+
+/// The same of a place: the `T` in its place, to write there. Of what stands around it no clause speaks.
+pub fn from_mut(alloc: Global, ty: &mut Type) -> Result<&mut Type>
+    ensures { Answers (λ it. it.now) result (spec.extracted ty.old) }
+{
+    let span = ty.spanned();
+    match argument_place(ty) {
+        Some(argument) => Ok(argument),
+        None => Err(Fail::Faults(no_option(alloc, span)?)),
     }
 }
 
@@ -79,6 +90,52 @@ fn take_argument(ty: &mut Type) -> Option<Type>
         return None;
     }
     take_only_type(&mut segment.arguments)
+}
+
+/// The place of the argument.
+fn argument_place(ty: &mut Type) -> Option<&mut Type>
+    ensures { option_map (λ it. it.now) result ≡ spec.option_argument ty.old }
+{
+    let Type::Path(ty) = ty else {
+        return None;
+    };
+    if ty.qself.is_some() {
+        return None;
+    }
+    place_in_path(&mut ty.path)
+}
+
+fn place_in_path(path: &mut Path) -> Option<&mut Type>
+    ensures { option_map (λ it. it.now) result ≡ option_and_then spec.argument_of (spec.last_segment path.old) }
+{
+    let last = path.segments.len().saturating_sub(1);
+    let segment = path.segments.get_mut(last)?;
+    if !is_option(&segment.ident) {
+        return None;
+    }
+    place_in_arguments(&mut segment.arguments)
+}
+
+/// The place of the type, where it stands alone in angle brackets.
+fn place_in_arguments(arguments: &mut PathArguments) -> Option<&mut Type>
+    ensures { option_map (λ it. it.now) result ≡ spec.only_type (out-PathArguments arguments.old) }
+{
+    match arguments {
+        PathArguments::AngleBracketed(arguments) => place_of_one(arguments),
+        _ => None,
+    }
+}
+
+fn place_of_one(arguments: &mut Items<GenericArgument>) -> Option<&mut Type>
+    ensures { option_map (λ it. it.now) result ≡ spec.one_type arguments.old }
+{
+    if arguments.len() != 1 {
+        return None;
+    }
+    match arguments.get_mut(0)? {
+        GenericArgument::Ty(ty) => Some(ty),
+        _ => None,
+    }
 }
 
 /// Whether the identifier is written `Option`.
