@@ -1,5 +1,5 @@
 -- The default of a type, by its row.
-use Rattle.std.specs.Prelude.{ℕ, true, false, [], ◌∷◌, Option, Some, None, option_map}
+use Rattle.std.specs.Prelude.{ℕ, false, [], Option, Some, None, option_map}
 use Rattle.tok_types.specs.declared.span.Span.TheVariants.{CallSite}
 use Rattle.node_expr.specs.declared.ty.«Type».{«Type» as Type'}
 use Rattle.util_core.specs.declared.over_ride.Override.TheVariants.{Inherit}

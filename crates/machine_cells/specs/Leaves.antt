@@ -1,7 +1,6 @@
 -- The types of the table that hold no type that is read on its own: their cells, each value as it is shown.
-use Rattle.std.specs.Prelude.{List, ◌^◌, ◌-◌, [], Some, map}
+use Rattle.std.specs.Prelude.{List, Some}
 use Rattle.tok_types.specs.Ident.{ident_text}
-use Rattle.tok_types.specs.declared.ident.Ident.{Ident}
 use Rattle.tok_types.specs.declared.tree.TokenTree.{TokenTree}
 use Rattle.node_expr.specs.declared.path.Path.{Path}
 use Rattle.node_make.specs.PathText.{path_text}

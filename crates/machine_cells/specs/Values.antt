@@ -1,5 +1,5 @@
 -- How what is read at a type is shown as a value.
-use Rattle.std.specs.Prelude.{ℕ, suc, ℤ, pos, negsuc, true, false, List, [], ◌∷◌, map, Option, Some, None, option_map, Result, Ok, Err, codes}
+use Rattle.std.specs.Prelude.{ℕ, suc, ℤ, pos, negsuc, true, false, List, [], ◌∷◌, map, Option, Some, option_map, Result, Ok, Err, codes}
 use Rattle.base_core.specs.declared.text.Text.{Text}
 use Rattle.tok_types.specs.Stream.{stream_of}
 use Rattle.tok_types.specs.declared.span.Span.{Span}

@@ -1,5 +1,5 @@
 -- The types of the table that hold one type that is read on its own: their cells, by those of the type.
-use Rattle.std.specs.Prelude.{Option, Some, option_map}
+use Rattle.std.specs.Prelude.{Some}
 use Rattle.tok_types.specs.Ident.{ident_text}
 use Rattle.tok_types.specs.declared.span.Span.{Span}
 use Rattle.node_make.specs.PathText.{path_text}
