@@ -1,3 +1,2 @@
 mod CallsLemmas
-mod MembersLemmas
 mod ShapeLemmas

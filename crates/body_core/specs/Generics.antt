@@ -13,7 +13,7 @@ use Rattle.error_core.specs.ErrorView.{ErrorView}
 use Rattle.body_core.specs.declared.ast.generics.GenericParam.{GenericParam}
 use Rattle.body_core.specs.declared.ast.generics.GenericParam.TheVariants as param
 use Rattle.body_core.specs.declared.ast.generics.Generics.{Generics}
-use Rattle.body_core.specs.Each.{each}
+use Rattle.error_core.specs.Each.{each}
 
 -- what is seen of a result that keeps an error: an outcome
 abbrev pub outcome_of : {X A : Type 0} → (X → A) → Result X ErrorView → Outcome A

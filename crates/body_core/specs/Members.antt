@@ -13,7 +13,7 @@ use Rattle.error_fault.specs.Outcome.{Outcome, Value, on_value, refused, under}
 use Rattle.body_core.specs.declared.ast.data.«Data».{«Data»}
 use Rattle.body_core.specs.declared.ast.data.«Data».TheVariants as container
 use Rattle.body_core.specs.declared.ast.fields.Fields.{Fields}
-use Rattle.body_core.specs.Each.{every}
+use Rattle.error_core.specs.Each.{every}
 use Rattle.node_core.specs.Style.{style_of}
 use Rattle.body_core.specs.Data.{placed, no_unions}
 

@@ -93,10 +93,10 @@ impl ShapeSet {
         ensures { (other : Shape) → IsTrue (spec.has self.new other) ↔ ((other ≡ shape) ⊎ IsTrue (spec.has self.old other)) }
     {
         match shape {
-            Shape::Named => self.named = true,
-            Shape::Tuple => self.tuple = true,
             Shape::Unit => self.unit = true,
             Shape::Newtype => self.newtype = true,
+            Shape::Tuple => self.tuple = true,
+            Shape::Named => self.named = true,
         }
     }
 
@@ -116,10 +116,10 @@ impl ShapeSet {
         ensures { result ≡ spec.contains self.now (A.shape fields.now) }
     {
         match fields.as_shape() {
-            Shape::Named => self.named,
-            Shape::Tuple => self.tuple,
             Shape::Unit => self.unit,
             Shape::Newtype => self.newtype || self.tuple,
+            Shape::Tuple => self.tuple,
+            Shape::Named => self.named,
         }
     }
 

@@ -12,19 +12,19 @@ use std::alloc::Global;
 
 /// A field of a receiver, as the options leave it.
 pub struct Field<'a> {
+    pub ident: &'a Ident,
     /// The name of its items.
     pub name_in_attr: &'a str,
-    pub ident: &'a Ident,
-    pub ty: &'a Type,
-    pub default_expression: Option<DefaultExpression<'a>>,
-    pub with_callable: OverrideableCallable<'a>,
-    pub post_transform: Option<&'a PostfixTransform>,
     /// Whether no item is for it.
     pub skip: bool,
-    /// Whether it takes all items of its name.
-    pub multiple: bool,
     /// Whether it is read from the items that no other field takes.
     pub flatten: bool,
+    /// Whether it takes all items of its name.
+    pub multiple: bool,
+    pub ty: &'a Type,
+    pub with_callable: OverrideableCallable<'a>,
+    pub post_transform: Option<&'a PostfixTransform>,
+    pub default_expression: Option<DefaultExpression<'a>>,
 }
 
 impl<'a> Field<'a> {

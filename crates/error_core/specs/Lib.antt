@@ -4,6 +4,7 @@ pub mod Changes
 pub mod View
 pub mod Falls
 pub mod Answers
+pub mod Each
 pub mod NodeKinds
 pub mod Syn
 pub mod CompileErrors

@@ -1,5 +1,4 @@
 pub mod EntryLemmas
-pub mod ListLemmas
 pub mod MapLemmas
 pub mod SetLemmas
 pub mod TableLemmas

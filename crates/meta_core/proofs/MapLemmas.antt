@@ -1,44 +1,19 @@
--- The keys so far, and the faults that an accumulator takes.
-use Rattle.std.proofs.Common.{◌≡◌, refl, ap, sym, ◌∙◌, List, [], ◌∷◌, ◌++◌, Result, Ok, Err, Option, Some, append-nil, ℕ, ◌<◌, ◌+◌, suc, length, drop, get_or, drop-cons, add-one}
-use Rattle.std.specs.Prelude.{option_map, OnOk, Bool, ◌||◌}
-use Rattle.std.proofs.lemmas.Grind.{flat_map-append}
+-- The keys so far.
+use Rattle.std.proofs.Common.{◌≡◌, ap, sym, ◌∙◌, List, ◌∷◌, Result, Ok, Err, ℕ, ◌<◌, ◌+◌, suc, length, drop, get_or, drop-cons, add-one}
+use Rattle.std.specs.Prelude.{OnOk, Bool, ◌||◌}
 use Rattle.error_fault.specs.declared.fault.Fault.{Fault}
-use Rattle.error_fault.specs.Outcome.{Outcome, Value, faults_of, value_of, settle, on_value}
-use Rattle.error_core.specs.Answers.{Answers, Handles}
-use Rattle.error_core.specs.ErrorView.{ErrorView, held, leaves}
+use Rattle.error_fault.specs.Outcome.{Value, settle, on_value}
+use Rattle.error_core.specs.Answers.{Answers}
 use Rattle.error_core.specs.declared.fail.Fail.{Fail}
 use Rattle.error_core.specs.declared.fail.Fail.TheVariants as fails
+use Rattle.error_core.proofs.AnswersLemmas.{on_value-settle}
 use Rattle.meta_core.specs.KnownKeys.{Knows}
-
-pub held-push : (errors : List ErrorView) (error : ErrorView) → held (errors ++ error ∷ []) ≡ held errors ++ leaves error
-held-push errors error = flat_map-append leaves errors (error ∷ []) ∙ ap (λ last. held errors ++ last) (append-nil (leaves error))
-
--- the value is handed on, and the faults are taken
-pub handled : {X A : Type 0} (see : X → A) (answer : Result X Fail) (outcome : Outcome A) (old new : List ErrorView) (found : Option X)
-    → Answers see answer outcome → Handles answer old (Ok found) new
-    → (option_map see found ≡ value_of outcome) × (held new ≡ held old ++ faults_of outcome)
-handled see (Ok value) outcome old new found is takes =
-    let same : found ≡ Some value = cc (takes.0) in (
-      ap (option_map see) same ∙ sym (ap value_of is),
-      ap held takes.1 ∙ sym (append-nil (held old)) ∙ sym (ap (λ o. held old ++ faults_of o) is),
-    )
-handled see (Err (fails.Faults error)) outcome old new found is takes = (
-  ap (option_map see) takes.0 ∙ sym (ap value_of is),
-  ap held takes.1 ∙ held-push old error ∙ sym (ap (λ o. held old ++ faults_of o) is),
-)
-handled see (Err fails.NoMemory) outcome old new found is takes =
-    let never : ⊥ = cc (takes.0) in
-    absurd never
-
-settle-on : {X A : Type 0} (see : X → A) (faults : List Fault) (value : X) → settle faults (Value (see value)) ≡ on_value see (settle faults (Value value))
-settle-on see [] value = refl
-settle-on see (fault ∷ more) value = refl
 
 -- an answer that is seen as it is, as another sees it
 pub finished : {X A : Type 0} (see : X → A) (answer : Result X Fail) (faults : List Fault) (value : X) (x : A) → see value ≡ x
     → Answers (λ it. it) answer (settle faults (Value value)) → Answers see answer (settle faults (Value x))
-finished see (Ok found) faults value x same is = sym (ap (λ y. settle faults (Value y)) same) ∙ settle-on see faults value ∙ ap (on_value see) is
-finished see (Err (fails.Faults error)) faults value x same is = sym (ap (λ y. settle faults (Value y)) same) ∙ settle-on see faults value ∙ ap (on_value see) is
+finished see (Ok found) faults value x same is = sym (ap (λ y. settle faults (Value y)) same) ∙ sym (on_value-settle see faults value) ∙ ap (on_value see) is
+finished see (Err (fails.Faults error)) faults value x same is = sym (ap (λ y. settle faults (Value y)) same) ∙ sym (on_value-settle see faults value) ∙ ap (on_value see) is
 finished see (Err fails.NoMemory) faults value x same is = tt
 
 pub left_here : {X : Type 0} (items : List X) (i : ℕ) (x : X) → i < length items → x ≡ get_or items i x → drop i items ≡ x ∷ drop (i + 1) items

@@ -8,6 +8,7 @@ pub mod KnownKeys
 pub mod Types
 pub mod Wrappers
 pub use Rattle.error_core.specs.Answers
+pub use Rattle.error_core.specs.Each
 pub use Rattle.error_core.specs.ErrorView
 pub use Rattle.error_fault.specs.Outcome
 pub use Rattle.meta_cells.specs.Cells

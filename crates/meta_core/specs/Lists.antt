@@ -1,6 +1,5 @@
 -- The rows of vectors: of literals, of unsigned integers, of names.
-use Rattle.std.specs.Prelude.{List, [], ◌∷◌, flat_map, Option, Some, None, option_map, codes}
-use Rattle.std.specs.List.{filter_map}
+use Rattle.std.specs.Prelude.{List, [], Option, Some, None, option_map, codes}
 use Rattle.tok_types.specs.declared.ident.Ident.{Ident}
 use Rattle.node_expr.specs.Kinds.{array_in, string_in}
 use Rattle.node_expr.specs.Layers.{ExprLayer}
@@ -14,7 +13,8 @@ use Rattle.node_core.specs.declared.attr.Meta.TheVariants as meta
 use Rattle.node_span.specs.Spanned.{expr_span, meta_span, path_span}
 use Rattle.syn_grammar.specs.Trees.{expr_array_of}
 use Rattle.error_fault.specs.Fault.{at_span}
-use Rattle.error_fault.specs.Outcome.{Outcome, Value, Faults, bind, on_value, refused, settle, faults_of, value_of}
+use Rattle.error_fault.specs.Outcome.{Outcome, Value, Faults, bind, refused}
+use Rattle.error_core.specs.Each.{each, every}
 use Rattle.error_fault.specs.declared.kind.FaultKind.TheVariants.{Custom, UnexpectedFormat}
 use Rattle.meta_nested.specs.declared.nested.NestedMeta.{NestedMeta}
 use Rattle.meta_nested.specs.declared.nested.NestedMeta.TheVariants as nested
@@ -22,15 +22,6 @@ use Rattle.meta_cells.specs.Cells.{Cells, no_cells}
 use Rattle.meta_cells.specs.Dispatch.{from_expr, from_nested_meta, from_value}
 use Rattle.meta_cells.specs.Groups.{in_group, without_groups}
 use Rattle.meta_kinds.specs.Parsed.{parsed_text}
-
--- the values of all in order, or the faults of the first that has some
-abbrev pub each : {X A : Type 0} → (X → Outcome A) → List X → Outcome (List A)
-each read [] = Value []
-each read (x ∷ xs) = bind (read x) (λ it. on_value (λ more. it ∷ more) (each read xs))
-
--- the values of all in order, or the faults of all in order
-abbrev pub every : {X A : Type 0} → (X → Outcome A) → List X → Outcome (List A)
-every read xs = settle (flat_map (λ x. faults_of (read x)) xs) (Value (filter_map (λ x. value_of (read x)) xs))
 
 -- ---- arrays
 

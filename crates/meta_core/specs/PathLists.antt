@@ -11,7 +11,7 @@ use Rattle.meta_nested.specs.declared.nested.NestedMeta.{NestedMeta}
 use Rattle.meta_nested.specs.declared.nested.NestedMeta.TheVariants as nested
 use Rattle.meta_cells.specs.Cells.{Cells, no_cells}
 use Rattle.meta_core.specs.Keys.{path_same}
-use Rattle.meta_core.specs.Lists.{each}
+use Rattle.error_core.specs.Each.{each}
 
 -- the path that an item is; another item is a fault at its place
 abbrev pub path_word : NestedMeta → Outcome Path

@@ -3,7 +3,7 @@
 ghost use Rattle.std.specs.Prelude.{◌≡◌, map, IfOk};
 ghost use Rattle.node_make.specs.PathText.{path_text};
 ghost use Rattle.error_core.specs.Answers.{Answers};
-ghost use Rattle.meta_core.specs.Lists.{each};
+ghost use Rattle.error_core.specs.Each.{each};
 ghost use Rattle.meta_core.specs.PathLists.{common, path_word};
 
 use crate::from_meta::FromMeta;

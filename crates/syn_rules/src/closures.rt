@@ -78,6 +78,7 @@ impl<R: ReadParts> ExprRules<R> {
     }
 
     /// `move |a, b: u8| body`, or with a type `|a| -> u8 { body }`
+    #[inline(never)]
     #[tactic(auto, unfolding(syn_grammar::specs::Expressions::closure), using(syn_grammar::proofs::Depths::depths))]
     pub(crate) fn closure(&self, tokens: &mut Cursor<'_>) -> Parsed<Expr>
         requires { R.reads_within self.now.rules.parts self.now.rules.depth }

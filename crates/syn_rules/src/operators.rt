@@ -176,6 +176,7 @@ impl<R: ReadParts> ExprRules<R> {
     }
 
     /// Operators one level looser than what stands before them.
+    #[inline(never)]
     #[tactic(auto, unfolding(syn_grammar::specs::Expressions::chain))]
     fn chain(
         &self,
@@ -254,6 +255,7 @@ impl<R: ReadParts> ExprRules<R> {
     }
 
     /// The same, refused where the whole gets too deep.
+    #[inline(never)]
     fn kept_range(
         &self,
         tokens: &mut Cursor<'_>,

@@ -247,6 +247,7 @@ impl<R: ReadParts> ExprRules<R> {
     }
 
     /// All of them.
+    #[inline(never)]
     fn postfixes(
         &self,
         tokens: &mut Cursor<'_>,

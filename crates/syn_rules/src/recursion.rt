@@ -61,6 +61,8 @@ where
     }
 }
 
+// A level of a tree costs the frames on its way: a rule that is rarely on it keeps its frame to itself.
+
 /// A type that is at most `depth` deep. A `dyn` or `impl` has several bounds where `allow_plus` says so,
 /// and else one.
 #[cycle(parts)]

@@ -64,6 +64,8 @@ fn arg_name(alloc: Global, tokens: &mut Cursor<'_>) -> Result<Option<Ident>, Rea
     Ok(Some(name))
 }
 
+// A level of a tree costs the frames on its way: a rule that is rarely on it keeps its frame to itself.
+
 impl<R: ReadParts> Rules<R> {
     /// What stands in `(..)`: a tuple where a comma stands, or nothing at all.
     #[tactic(auto, unfolding(syn_grammar::specs::Types::type_group), using(syn_grammar::proofs::MadeDepths::group_depths))]
@@ -102,6 +104,7 @@ impl<R: ReadParts> Rules<R> {
     }
 
     /// `&'a mut T`
+    #[inline(never)]
     #[tactic(auto, unfolding(syn_grammar::specs::Types::type_reference), using(syn_grammar::proofs::Depths::depths))]
     fn type_reference(&self, tokens: &mut Cursor<'_>) -> Parsed<Type>
         requires { R.reads_within self.now.parts self.now.depth }
@@ -118,6 +121,7 @@ impl<R: ReadParts> Rules<R> {
     }
 
     /// `*const T`, `*mut T`
+    #[inline(never)]
     #[tactic(auto, unfolding(syn_grammar::specs::Types::type_pointer), using(syn_grammar::proofs::Depths::depths))]
     fn type_pointer(&self, tokens: &mut Cursor<'_>) -> Parsed<Type>
         requires { R.reads_within self.now.parts self.now.depth }
@@ -170,6 +174,7 @@ impl<R: ReadParts> Rules<R> {
     }
 
     /// `for<'a> fn(&'a A, name: B) -> C`
+    #[inline(never)]
     #[tactic(auto, unfolding(syn_grammar::specs::Types::type_fn_ptr), using(syn_grammar::proofs::MadeDepths::fn_ptr_depths))]
     fn type_fn_ptr(&self, tokens: &mut Cursor<'_>) -> Parsed<Type>
         requires { R.reads_within self.now.parts self.now.depth }
@@ -191,6 +196,7 @@ impl<R: ReadParts> Rules<R> {
     }
 
     /// `dyn` and bounds
+    #[inline(never)]
     #[tactic(auto, unfolding(syn_grammar::specs::Types::type_trait_object), using(syn_grammar::proofs::MadeDepths::bounds_depths))]
     fn type_trait_object(&self, tokens: &mut Cursor<'_>, allow_plus: bool) -> Parsed<Type>
         requires { R.reads_within self.now.parts self.now.depth }
@@ -205,6 +211,7 @@ impl<R: ReadParts> Rules<R> {
     }
 
     /// `impl` and bounds
+    #[inline(never)]
     #[tactic(auto, unfolding(syn_grammar::specs::Types::type_impl_trait), using(syn_grammar::proofs::MadeDepths::bounds_depths))]
     fn type_impl_trait(&self, tokens: &mut Cursor<'_>, allow_plus: bool) -> Parsed<Type>
         requires { R.reads_within self.now.parts self.now.depth }
@@ -218,6 +225,7 @@ impl<R: ReadParts> Rules<R> {
     }
 
     /// `<T as Trait>::Item`
+    #[inline(never)]
     #[tactic(auto, unfolding(syn_grammar::specs::Types::type_qualified), using(syn_grammar::proofs::Depths::depths))]
     fn type_qualified(&self, tokens: &mut Cursor<'_>) -> Parsed<Type>
         requires { R.reads_within self.now.parts self.now.depth }
@@ -252,6 +260,7 @@ impl<R: ReadParts> Rules<R> {
     }
 
     /// `(T)`, `(A, B)`, `()`
+    #[inline(never)]
     #[tactic(auto, unfolding(syn_grammar::specs::Types::type_in_parentheses), using(syn_grammar::proofs::Depths::depths))]
     fn type_in_parentheses(&self, tokens: &mut Cursor<'_>) -> Parsed<Type>
         requires { R.reads_within self.now.parts self.now.depth }
@@ -264,6 +273,7 @@ impl<R: ReadParts> Rules<R> {
     }
 
     /// `[T]`, `[T; n]`
+    #[inline(never)]
     #[tactic(auto, unfolding(syn_grammar::specs::Types::type_in_brackets), using(syn_grammar::proofs::Depths::depths))]
     fn type_in_brackets(&self, tokens: &mut Cursor<'_>) -> Parsed<Type>
         requires { R.reads_within self.now.parts self.now.depth }

@@ -3,7 +3,7 @@
 ghost use Rattle.std.specs.Prelude.{map};
 ghost use Rattle.error_core.specs.Answers.{Answers};
 ghost use Rattle.body_core.specs.Data.{seen_data};
-ghost use Rattle.body_core.specs.Each.{every};
+ghost use Rattle.error_core.specs.Each.{every};
 ghost use Rattle.body_core.specs.Members.{data_meaning};
 
 use crate::ast::data::{Data, union_error};

@@ -2,7 +2,7 @@
 
 ghost use Rattle.std.specs.Prelude.{map};
 ghost use Rattle.error_core.specs.Answers.{Answers};
-ghost use Rattle.body_core.specs.Each.{each};
+ghost use Rattle.error_core.specs.Each.{each};
 ghost use Rattle.body_core.specs.Generics as spec;
 
 use crate::ast::generics::{GenericParam, Generics};

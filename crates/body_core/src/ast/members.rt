@@ -6,7 +6,7 @@ ghost use Rattle.error_fault.specs.Outcome.{faults_of, value_of};
 ghost use Rattle.error_core.specs.Answers.{Answers};
 ghost use Rattle.error_core.specs.ErrorView.{held};
 ghost use Rattle.body_core.specs.Calls.{AnswersEach};
-ghost use Rattle.body_core.specs.Each as spec;
+ghost use Rattle.error_core.specs.Each.{every};
 
 use error_core::{Accumulator, Error, Fail, Result};
 use node_core::{Items, Mem};
@@ -63,7 +63,7 @@ pub(crate) fn read_members<R: ReadMember>(
     alloc: Global,
     nodes: &[R::Node],
 ) -> Result<Items<R::Value>>
-    ensures { Answers (map R.seen) result (spec.every R.meaning nodes.now) }
+    ensures { Answers (map R.seen) result (every R.meaning nodes.now) }
 {
     let mut errors = Error::accumulator(alloc);
     match collect_members::<R>(alloc, nodes, &mut errors) {

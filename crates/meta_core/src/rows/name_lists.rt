@@ -5,6 +5,7 @@ ghost use Rattle.std.specs.List.{filter_map};
 ghost use Rattle.error_fault.specs.Outcome.{faults_of, value_of};
 ghost use Rattle.error_core.specs.Answers.{Answers};
 ghost use Rattle.error_core.specs.ErrorView.{held};
+ghost use Rattle.error_core.specs.Each.{every};
 ghost use Rattle.meta_core.specs.Lists as spec;
 
 use crate::from_meta::FromMeta;
@@ -105,7 +106,7 @@ fn path_of_item<'a>(alloc: Global, item: &'a NestedMeta) -> Result<&'a Path>
 }
 
 fn read_names<T: Name + Drop>(alloc: Global, items: &[NestedMeta]) -> Result<Vec<T>>
-    ensures { Answers (λ it. it.items) result (spec.every T.of_item items.now) }
+    ensures { Answers (λ it. it.items) result (every T.of_item items.now) }
 {
     let mut errors = Error::accumulator(alloc);
     match collect_names(alloc, items, &mut errors) {

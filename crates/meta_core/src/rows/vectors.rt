@@ -6,6 +6,7 @@ ghost use Rattle.error_core.specs.Answers.{Answers};
 ghost use Rattle.meta_cells.specs.Cells.{AnswersCell, cell_at};
 ghost use Rattle.meta_cells.specs.Dispatch.{from_expr, from_nested_meta};
 ghost use Rattle.meta_cells.specs.Groups.{in_group};
+ghost use Rattle.error_core.specs.Each.{each};
 ghost use Rattle.meta_core.specs.Lists as spec;
 
 use crate::from_meta::FromMeta;
@@ -58,7 +59,7 @@ impl<T: InList + Drop> FromMeta for Vec<T> {
 }
 
 fn read_items<T: FromMeta + Drop>(alloc: Global, items: &[NestedMeta]) -> Result<Vec<T>>
-    ensures { Answers (λ it. map T.seen it.items) result (spec.each (from_nested_meta T.cells) items.now) }
+    ensures { Answers (λ it. map T.seen it.items) result (each (from_nested_meta T.cells) items.now) }
 {
     let mut values = Vec::new(alloc);
     for item in items {
@@ -68,7 +69,7 @@ fn read_items<T: FromMeta + Drop>(alloc: Global, items: &[NestedMeta]) -> Result
 }
 
 fn read_elements<T: FromMeta + Drop>(alloc: Global, elements: &[Expr]) -> Result<Vec<T>>
-    ensures { Answers (λ it. map T.seen it.items) result (spec.each (from_expr T.cells) elements.now) }
+    ensures { Answers (λ it. map T.seen it.items) result (each (from_expr T.cells) elements.now) }
 {
     let mut values = Vec::new(alloc);
     for element in elements {
@@ -179,7 +180,7 @@ fn read_integers<T: FromMeta + Drop>(alloc: Global, call: Call<'_>) -> Result<Op
 }
 
 fn read_integer_elements<T: FromMeta + Drop>(alloc: Global, elements: &[Expr]) -> Result<Vec<T>>
-    ensures { Answers (λ it. map T.seen it.items) result (spec.each (spec.integer_element T.cells) elements.now) }
+    ensures { Answers (λ it. map T.seen it.items) result (each (spec.integer_element T.cells) elements.now) }
 {
     let mut values = Vec::new(alloc);
     for element in elements {

@@ -1,7 +1,6 @@
 use Rattle.std.proofs.Common.{◌≡◌, drop}
-use Rattle.meta_core.specs.Lists.{each}
+use Rattle.error_core.specs.Each.{behind, each}
 use Rattle.meta_core.specs.PathLists.{path_word}
-use Rattle.meta_core.proofs.ListLemmas.{behind}
 use Rattle.meta_core.proofs.path_list.read_words.Given as goal
 
 abbrev pub invariant-loop-item : goal.invariant-loop-item

@@ -1,6 +1,5 @@
 use Rattle.std.proofs.Common.{◌≡◌, map, drop}
-use Rattle.body_core.specs.Each.{each}
-use Rattle.body_core.proofs.MembersLemmas.{behind}
+use Rattle.error_core.specs.Each.{behind, each}
 use Rattle.body_core.proofs.ast.generics_from.read_params.Given as goal
 
 abbrev pub invariant-loop-param : goal.invariant-loop-param

@@ -1,7 +1,7 @@
 use Rattle.std.proofs.Common.{◌++◌, flat_map, map, ap, ◌∙◌}
 use Rattle.error_fault.specs.Outcome.{faults_of}
 use Rattle.error_core.specs.ErrorView.{held}
-use Rattle.body_core.proofs.MembersLemmas.{answers-every}
+use Rattle.error_core.proofs.AnswersLemmas.{answers-every}
 use Rattle.body_core.proofs.ast.members.read_members.Goals as goal
 
 pub returns-in-Ok : goal.returns-in-Ok

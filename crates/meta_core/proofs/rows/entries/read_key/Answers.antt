@@ -5,7 +5,7 @@ use Rattle.node_span.specs.Spanned.{path_span}
 use Rattle.meta_core.specs.KnownKeys.{Knows}
 use Rattle.meta_core.specs.Maps.{key_faults}
 use Rattle.meta_core.proofs.EntryLemmas.{key_faults-none, key_faults-some, with_key-none, with_key-some}
-use Rattle.meta_core.proofs.MapLemmas.{handled}
+use Rattle.error_core.proofs.AnswersLemmas.{handled}
 use Rattle.meta_core.proofs.rows.entries.read_key.Goals as goal
 
 pub returns-in_ok-note_key-in-Some-clause-key : goal.returns-in_ok-note_key-in-Some-clause-key

@@ -3,7 +3,7 @@ use Rattle.error_fault.specs.Outcome.{faults_of}
 use Rattle.error_core.specs.ErrorView.{held}
 use Rattle.meta_core.specs.Maps.{key_faults}
 use Rattle.node_span.specs.Spanned.{path_span}
-use Rattle.meta_core.proofs.MapLemmas.{handled}
+use Rattle.error_core.proofs.AnswersLemmas.{handled}
 use Rattle.meta_core.proofs.rows.entries.read_pair.Goals as goal
 
 pub returns-clause-faults : goal.returns-clause-faults

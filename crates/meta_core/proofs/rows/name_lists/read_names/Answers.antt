@@ -1,7 +1,7 @@
 use Rattle.std.proofs.Common.{◌++◌, flat_map, ap, ◌∙◌}
 use Rattle.error_fault.specs.Outcome.{faults_of}
 use Rattle.error_core.specs.ErrorView.{held}
-use Rattle.meta_core.proofs.ListLemmas.{answers-every}
+use Rattle.error_core.proofs.AnswersLemmas.{answers-every}
 use Rattle.meta_core.proofs.rows.name_lists.read_names.Goals as goal
 
 pub returns-in-Ok : goal.returns-in-Ok

@@ -1,7 +1,6 @@
 use Rattle.std.proofs.Common.{◌≡◌, map, drop}
 use Rattle.meta_cells.specs.Dispatch.{from_expr}
-use Rattle.meta_core.specs.Lists.{each}
-use Rattle.meta_core.proofs.ListLemmas.{behind}
+use Rattle.error_core.specs.Each.{behind, each}
 use Rattle.meta_core.proofs.rows.vectors.read_elements.Given as goal
 
 abbrev pub invariant-loop-element : goal.invariant-loop-element

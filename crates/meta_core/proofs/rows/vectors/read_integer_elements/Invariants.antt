@@ -1,6 +1,6 @@
 use Rattle.std.proofs.Common.{◌≡◌, map, drop}
-use Rattle.meta_core.specs.Lists.{each, integer_element}
-use Rattle.meta_core.proofs.ListLemmas.{behind}
+use Rattle.error_core.specs.Each.{behind, each}
+use Rattle.meta_core.specs.Lists.{integer_element}
 use Rattle.meta_core.proofs.rows.vectors.read_integer_elements.Given as goal
 
 abbrev pub invariant-loop-element : goal.invariant-loop-element
