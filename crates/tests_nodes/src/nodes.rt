@@ -1,12 +1,11 @@
 //! Each node of an item by itself.
 
-use crate::parts::{Parted, later, read_twice};
+use crate::parts::{Parted, each, later, other_kind, read_twice};
 use node_core::{
-    Attribute, Data, DeriveInput, Field, Fields, GenericParam, Generics, Meta, Variant, Visibility,
-    WhereClause, WherePredicate,
+    Attribute, Data, DeriveInput, Field, Fields, GenericParam, Generics, Meta, Visibility,
+    WhereClause,
 };
 use std::alloc::Global;
-use std::test::Fail;
 use syn_core::parse_derive_input;
 use tests_checks::{Tested, both_at, both_of, part, tokens};
 
@@ -17,10 +16,6 @@ const STRUCT: &str =
 const ENUM: &str = "pub enum E {# [a] A (pub B) , C = 1 , D {f : F}}";
 
 const UNION: &str = "union U {a : A}";
-
-fn other_kind(what: &str) -> Tested<()> {
-    Err(Fail::new(format_args!("{what} is of another kind")))
-}
 
 fn attribute(
     alloc: Global,
@@ -57,20 +52,17 @@ fn parameter(alloc: Global, nodes: (&GenericParam, &GenericParam), printed: &str
 
 fn clause(alloc: Global, one: &WhereClause, other: &WhereClause) -> Tested<()> {
     part(alloc, STRUCT, (one, other), "where W : X , 'i : 'j")?;
-    for (at, printed) in ["W : X", "'i : 'j"].iter().enumerate() {
-        let nodes = both_at(&one.predicates, &other.predicates, at)?;
-        part::<WherePredicate>(alloc, STRUCT, nodes, printed)?;
-    }
-    Ok(())
+    let predicates = (&one.predicates, &other.predicates);
+    each(alloc, STRUCT, predicates, "W : X\n'i : 'j")
 }
 
 fn generics(alloc: Global, one: &Generics, other: &Generics) -> Tested<()> {
     let text = "< 'f : 'g , T : 'h + U = V , const N : u8 = 8 >";
     part(alloc, STRUCT, (one, other), text)?;
-    let texts = ["'f : 'g", "T : 'h + U = V", "const N : u8 = 8"];
-    for (at, printed) in texts.iter().enumerate() {
-        parameter(alloc, both_at(&one.params, &other.params, at)?, printed)?;
-    }
+    let params = (&one.params, &other.params);
+    parameter(alloc, both_at(params.0, params.1, 0)?, "'f : 'g")?;
+    parameter(alloc, both_at(params.0, params.1, 1)?, "T : 'h + U = V")?;
+    parameter(alloc, both_at(params.0, params.1, 2)?, "const N : u8 = 8")?;
     let clauses = both_of(&one.where_clause, &other.where_clause)?;
     clause(alloc, clauses.0, clauses.1)
 }
@@ -107,11 +99,8 @@ fn enum_body(alloc: Global, one: &Data, other: &Data) -> Tested<()> {
         return other_kind(text);
     };
     part(alloc, ENUM, (one, other), text)?;
-    let texts = ["# [a] A (pub B)", "C = 1", "D {f : F}"];
-    for (at, printed) in texts.iter().enumerate() {
-        let nodes: (&Variant, &Variant) = both_at(&one.variants, &other.variants, at)?;
-        part(alloc, ENUM, nodes, printed)?;
-    }
+    let variants = (&one.variants, &other.variants);
+    each(alloc, ENUM, variants, "# [a] A (pub B)\nC = 1\nD {f : F}")?;
     let (first, second) = both_at(&one.variants, &other.variants, 0)?;
     fields(alloc, ENUM, (&first.fields, &second.fields), "(pub B)")
 }
@@ -125,26 +114,11 @@ fn union_body(alloc: Global, one: &Data, other: &Data) -> Tested<()> {
     part(alloc, UNION, (&one.fields, &other.fields), "{a : A}")
 }
 
-fn parts(alloc: Global, text: &str, one: &DeriveInput, other: &DeriveInput) -> Tested<()> {
-    part(alloc, text, (one, other), text)?;
-    match &one.body {
-        Data::Enum(_) => return enum_body(alloc, &one.body, &other.body),
-        Data::Union(_) => return union_body(alloc, &one.body, &other.body),
-        Data::Struct(_) => {}
-    }
-    let texts = [
-        ("# [a]", "a"),
-        ("# [b (c)]", "b (c)"),
-        ("# [d = 1]", "d = 1"),
-    ];
-    for (at, (printed, inside)) in texts.iter().enumerate() {
-        attribute(
-            alloc,
-            both_at(&one.attrs, &other.attrs, at)?,
-            printed,
-            inside,
-        )?;
-    }
+fn struct_parts(alloc: Global, one: &DeriveInput, other: &DeriveInput) -> Tested<()> {
+    let attrs = (&one.attrs, &other.attrs);
+    attribute(alloc, both_at(attrs.0, attrs.1, 0)?, "# [a]", "a")?;
+    attribute(alloc, both_at(attrs.0, attrs.1, 1)?, "# [b (c)]", "b (c)")?;
+    attribute(alloc, both_at(attrs.0, attrs.1, 2)?, "# [d = 1]", "d = 1")?;
     part(alloc, STRUCT, (&one.vis, &other.vis), "pub (in e)")?;
     part(alloc, STRUCT, (&one.ident, &other.ident), "S")?;
     generics(alloc, &one.generics, &other.generics)?;
@@ -153,7 +127,12 @@ fn parts(alloc: Global, text: &str, one: &DeriveInput, other: &DeriveInput) -> T
 
 impl Parted for DeriveInput {
     fn parted(&self, alloc: Global, text: &str, other: &Self) -> Tested<()> {
-        parts(alloc, text, self, other)
+        part(alloc, text, (self, other), text)?;
+        match &self.body {
+            Data::Struct(_) => struct_parts(alloc, self, other),
+            Data::Enum(_) => enum_body(alloc, &self.body, &other.body),
+            Data::Union(_) => union_body(alloc, &self.body, &other.body),
+        }
     }
 }
 

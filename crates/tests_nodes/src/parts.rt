@@ -8,6 +8,7 @@ use node_core::{
 use node_span::Spanned;
 use print_core::ToTokens;
 use std::alloc::Global;
+use std::hash::Hash;
 use std::test::Fail;
 use syn_core::{Parse, parse_expr, parse_fn_args, parse_idents, parse_type};
 use tests_checks::{
@@ -32,8 +33,21 @@ pub fn read_twice<N: Parted + Drop>(
     one.parted(alloc, text, &other)
 }
 
-fn other_kind(what: &str) -> Tested<()> {
+pub fn other_kind(what: &str) -> Tested<()> {
     Err(Fail::new(format_args!("{what} is of another kind")))
+}
+
+/// Each node of a list by itself, and its text a line.
+pub fn each<N: TryClone + PartialEq + Hash + Spanned + ToTokens + Drop>(
+    alloc: Global,
+    text: &str,
+    nodes: (&Items<N>, &Items<N>),
+    printed: &str,
+) -> Tested<()> {
+    for (at, printed) in printed.lines().enumerate() {
+        part(alloc, text, both_at(nodes.0, nodes.1, at)?, printed)?;
+    }
+    Ok(())
 }
 
 fn ty(alloc: Global, text: &str, one: &Type, other: &Type) -> Tested<()> {

@@ -24,17 +24,34 @@ a = "0" => 0"#;
 const U8: &str = r#"a = 255 => 255
 a = "255" => 255
 a = 256 => 4..7 number too large to fit in target type;
-a = "256" => 4..9 Unknown value: `256`;"#;
+a = "256" => 4..9 Unknown value: `256`;
+from_none => nothing
+from_string 256 => - Unknown value: `256`;
+from_char 1 => - Unexpected type `char`;
+from_groups 7 => 7
+from_groups 300 => 0..3 number too large to fit in target type;
+from_groups a + b => 0..5 Unexpected type `binary`;
+// number_succeeds
+ignore = "2" => 2
+// int_without_quotes
+ignore = 2 => 2
+// too_large_int_produces_error
+ignore = 2000 => 9..13 number too large to fit in target type;"#;
 
 const U16: &str = r#"a = 65535 => 65535
 a = "65535" => 65535
 a = 65536 => 4..9 number too large to fit in target type;
-a = "65536" => 4..11 Unknown value: `65536`;"#;
+a = "65536" => 4..11 Unknown value: `65536`;
+// int_without_quotes
+ignore = 255 => 255"#;
 
 const U32: &str = r#"a = 4294967295 => 4294967295
 a = "4294967295" => 4294967295
 a = 4294967296 => 4..14 number too large to fit in target type;
-a = "4294967296" => 4..16 Unknown value: `4294967296`;"#;
+a = "4294967296" => 4..16 Unknown value: `4294967296`;
+// int_without_quotes
+ignore = 5000 => 5000
+ignore = 5000i32 => 5000"#;
 
 const U64: &str = r#"a = 18446744073709551615 => 18446744073709551615
 a = "18446744073709551615" => 18446744073709551615
@@ -58,7 +75,9 @@ a = "128" => 4..9 Unknown value: `128`;
 a = -128 => -128
 a = "-128" => -128
 a = -129 => 4..8 number too small to fit in target type;
-a = "-129" => 4..10 Unknown value: `-129`;"#;
+a = "-129" => 4..10 Unknown value: `-129`;
+// negative_int_without_quotes
+ignore = -2 => -2"#;
 
 const I16: &str = r#"a = 32767 => 32767
 a = "32767" => 32767
@@ -67,7 +86,9 @@ a = "32768" => 4..11 Unknown value: `32768`;
 a = -32768 => -32768
 a = "-32768" => -32768
 a = -32769 => 4..10 number too small to fit in target type;
-a = "-32769" => 4..12 Unknown value: `-32769`;"#;
+a = "-32769" => 4..12 Unknown value: `-32769`;
+// number_succeeds
+ignore = "-25" => -25"#;
 
 const I32: &str = r#"a = 2147483647 => 2147483647
 a = "2147483647" => 2147483647
@@ -76,7 +97,9 @@ a = "2147483648" => 4..16 Unknown value: `2147483648`;
 a = -2147483648 => -2147483648
 a = "-2147483648" => -2147483648
 a = -2147483649 => 4..15 number too small to fit in target type;
-a = "-2147483649" => 4..17 Unknown value: `-2147483649`;"#;
+a = "-2147483649" => 4..17 Unknown value: `-2147483649`;
+// negative_int_without_quotes
+ignore = -255 => -255"#;
 
 const I64: &str = r#"a = 9223372036854775807 => 9223372036854775807
 a = "9223372036854775807" => 9223372036854775807
@@ -109,37 +132,21 @@ a = "-9223372036854775809" => 4..26 Unknown value: `-9223372036854775809`;"#;
 #[test]
 fn unsigned_integers(rt: HostRuntime) -> Tested<()> {
     let alloc = rt.alloc();
-    for table in [EVERY, UNSIGNED, ZERO] {
-        rows::<u8, Displayed>(alloc, table)?;
-        rows::<u16, Displayed>(alloc, table)?;
-        rows::<u32, Displayed>(alloc, table)?;
-        rows::<u64, Displayed>(alloc, table)?;
-        rows::<u128, Displayed>(alloc, table)?;
-        rows::<usize, Displayed>(alloc, table)?;
-    }
-    rows::<u8, Displayed>(alloc, U8)?;
-    rows::<u16, Displayed>(alloc, U16)?;
-    rows::<u32, Displayed>(alloc, U32)?;
-    rows::<u64, Displayed>(alloc, U64)?;
-    rows::<u128, Displayed>(alloc, U128)?;
-    rows::<usize, Displayed>(alloc, USIZE)
+    rows::<u8, Displayed>(alloc, &[EVERY, UNSIGNED, ZERO, U8])?;
+    rows::<u16, Displayed>(alloc, &[EVERY, UNSIGNED, ZERO, U16])?;
+    rows::<u32, Displayed>(alloc, &[EVERY, UNSIGNED, ZERO, U32])?;
+    rows::<u64, Displayed>(alloc, &[EVERY, UNSIGNED, ZERO, U64])?;
+    rows::<u128, Displayed>(alloc, &[EVERY, UNSIGNED, ZERO, U128])?;
+    rows::<usize, Displayed>(alloc, &[EVERY, UNSIGNED, ZERO, USIZE])
 }
 
 #[test]
 fn signed_integers(rt: HostRuntime) -> Tested<()> {
     let alloc = rt.alloc();
-    for table in [EVERY, SIGNED, ZERO] {
-        rows::<i8, Displayed>(alloc, table)?;
-        rows::<i16, Displayed>(alloc, table)?;
-        rows::<i32, Displayed>(alloc, table)?;
-        rows::<i64, Displayed>(alloc, table)?;
-        rows::<i128, Displayed>(alloc, table)?;
-        rows::<isize, Displayed>(alloc, table)?;
-    }
-    rows::<i8, Displayed>(alloc, I8)?;
-    rows::<i16, Displayed>(alloc, I16)?;
-    rows::<i32, Displayed>(alloc, I32)?;
-    rows::<i64, Displayed>(alloc, I64)?;
-    rows::<i128, Displayed>(alloc, I128)?;
-    rows::<isize, Displayed>(alloc, ISIZE)
+    rows::<i8, Displayed>(alloc, &[EVERY, SIGNED, ZERO, I8])?;
+    rows::<i16, Displayed>(alloc, &[EVERY, SIGNED, ZERO, I16])?;
+    rows::<i32, Displayed>(alloc, &[EVERY, SIGNED, ZERO, I32])?;
+    rows::<i64, Displayed>(alloc, &[EVERY, SIGNED, ZERO, I64])?;
+    rows::<i128, Displayed>(alloc, &[EVERY, SIGNED, ZERO, I128])?;
+    rows::<isize, Displayed>(alloc, &[EVERY, SIGNED, ZERO, ISIZE])
 }

@@ -6,9 +6,9 @@ mod asked;
 #[cfg(test)]
 mod calls;
 #[cfg(test)]
-mod carried;
-#[cfg(test)]
 mod every;
+#[cfg(test)]
+mod groups;
 #[cfg(test)]
 mod integers;
 #[cfg(test)]

@@ -39,50 +39,56 @@ const NONE: &str = "a => 0..1 Unexpected meta-item format `word`;
 a(1) => 0..4 Unexpected meta-item format `list`;
 a = b => 4..5 Unexpected type `path`;";
 
-#[test]
-fn any_literal(rt: HostRuntime) -> Tested<()> {
-    rows::<Lit, Printed>(rt.alloc(), LIT)
-}
+// What each kind makes of itself.
+const LIT_INT: &str = "a = 0x2Au8 => 0x2Au8
+a = - 1 => - 1
+7 => 7";
+
+const LIT_FLOAT: &str = "a = 1.50f32 => 1.50f32
+a = -1e3 => - 1e3";
+
+const LIT_STRING: &str = r##"a = "b\n" => "b\n"
+a = r#"b"# => r#"b"#"##;
+
+const LIT_BYTE: &str = r"a = b'\n' => b'\n'";
+
+const LIT_BYTE_STRING: &str = r#"a = b"b\n" => b"b\n""#;
+
+const LIT_CHAR: &str = r"a = '\u{1F62C}' => '\u{1F62C}'";
+
+const LIT_BOOL: &str = "a = true => true
+false => false";
 
 #[test]
-fn literals_of_one_kind(rt: HostRuntime) -> Tested<()> {
+fn literals(rt: HostRuntime) -> Tested<()> {
     let alloc = rt.alloc();
-    rows::<LitInt, Printed>(alloc, "a = 0x2Au8 => 0x2Au8\na = - 1 => - 1\n7 => 7")?;
-    rows::<LitFloat, Printed>(alloc, "a = 1.50f32 => 1.50f32\na = -1e3 => - 1e3")?;
+    rows::<Lit, Printed>(alloc, &[LIT])?;
+    rows::<LitInt, Printed>(
+        alloc,
+        &[LIT_INT, STRING, BYTE_STRING, BYTE, CHAR, FLOAT, BOOL, NONE],
+    )?;
+    rows::<LitFloat, Printed>(
+        alloc,
+        &[LIT_FLOAT, STRING, BYTE_STRING, BYTE, CHAR, INT, BOOL, NONE],
+    )?;
     rows::<LitStr, Printed>(
         alloc,
-        r##"a = "b\n" => "b\n"
-a = r#"b"# => r#"b"#"##,
+        &[LIT_STRING, BYTE_STRING, BYTE, CHAR, INT, FLOAT, BOOL, NONE],
     )?;
-    rows::<LitByte, Printed>(alloc, r"a = b'\n' => b'\n'")?;
-    rows::<LitByteStr, Printed>(alloc, r#"a = b"b\n" => b"b\n""#)?;
-    rows::<LitChar, Printed>(alloc, r"a = '\u{1F62C}' => '\u{1F62C}'")?;
-    rows::<LitBool, Printed>(alloc, "a = true => true\nfalse => false")
-}
-
-#[test]
-fn literals_of_other_kinds(rt: HostRuntime) -> Tested<()> {
-    let alloc = rt.alloc();
-    for table in [STRING, BYTE_STRING, BYTE, CHAR, FLOAT, BOOL, NONE] {
-        rows::<LitInt, Printed>(alloc, table)?;
-    }
-    for table in [STRING, BYTE_STRING, BYTE, CHAR, INT, BOOL, NONE] {
-        rows::<LitFloat, Printed>(alloc, table)?;
-    }
-    for table in [BYTE_STRING, BYTE, CHAR, INT, FLOAT, BOOL, NONE] {
-        rows::<LitStr, Printed>(alloc, table)?;
-    }
-    for table in [STRING, BYTE_STRING, CHAR, INT, FLOAT, BOOL, NONE] {
-        rows::<LitByte, Printed>(alloc, table)?;
-    }
-    for table in [STRING, BYTE, CHAR, INT, FLOAT, BOOL, NONE] {
-        rows::<LitByteStr, Printed>(alloc, table)?;
-    }
-    for table in [STRING, BYTE_STRING, BYTE, INT, FLOAT, BOOL, NONE] {
-        rows::<LitChar, Printed>(alloc, table)?;
-    }
-    for table in [STRING, BYTE_STRING, BYTE, CHAR, INT, FLOAT, NONE] {
-        rows::<LitBool, Printed>(alloc, table)?;
-    }
-    Ok(())
+    rows::<LitByte, Printed>(
+        alloc,
+        &[LIT_BYTE, STRING, BYTE_STRING, CHAR, INT, FLOAT, BOOL, NONE],
+    )?;
+    rows::<LitByteStr, Printed>(
+        alloc,
+        &[LIT_BYTE_STRING, STRING, BYTE, CHAR, INT, FLOAT, BOOL, NONE],
+    )?;
+    rows::<LitChar, Printed>(
+        alloc,
+        &[LIT_CHAR, STRING, BYTE_STRING, BYTE, INT, FLOAT, BOOL, NONE],
+    )?;
+    rows::<LitBool, Printed>(
+        alloc,
+        &[LIT_BOOL, STRING, BYTE_STRING, BYTE, CHAR, INT, FLOAT, NONE],
+    )
 }

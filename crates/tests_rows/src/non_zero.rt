@@ -28,7 +28,8 @@ a = "0" => 4..7 Unknown value: `0`;"#;
 const NON_ZERO_U8: &str = r#"a = 255 => 255
 a = "255" => 255
 a = 256 => 4..7 number too large to fit in target type;
-a = "256" => 4..9 Unknown value: `256`;"#;
+a = "256" => 4..9 Unknown value: `256`;
+from_string 0 => - Unknown value: `0`;"#;
 
 const NON_ZERO_U16: &str = r#"a = 65535 => 65535
 a = "65535" => 65535
@@ -38,12 +39,16 @@ a = "65536" => 4..11 Unknown value: `65536`;"#;
 const NON_ZERO_U32: &str = r#"a = 4294967295 => 4294967295
 a = "4294967295" => 4294967295
 a = 4294967296 => 4..14 number too large to fit in target type;
-a = "4294967296" => 4..16 Unknown value: `4294967296`;"#;
+a = "4294967296" => 4..16 Unknown value: `4294967296`;
+// nonzero_number_succeeds
+ignore = "2" => 2"#;
 
 const NON_ZERO_U64: &str = r#"a = 18446744073709551615 => 18446744073709551615
 a = "18446744073709551615" => 18446744073709551615
 a = 18446744073709551616 => 4..24 number too large to fit in target type;
-a = "18446744073709551616" => 4..26 Unknown value: `18446744073709551616`;"#;
+a = "18446744073709551616" => 4..26 Unknown value: `18446744073709551616`;
+// nonzero_number_fails
+ignore = "0" => 9..12 Unknown value: `0`;"#;
 
 const NON_ZERO_U128: &str =
     r#"a = 340282366920938463463374607431768211455 => 340282366920938463463374607431768211455
@@ -62,7 +67,8 @@ a = "128" => 4..9 Unknown value: `128`;
 a = -128 => -128
 a = "-128" => -128
 a = -129 => 4..8 number too small to fit in target type;
-a = "-129" => 4..10 Unknown value: `-129`;"#;
+a = "-129" => 4..10 Unknown value: `-129`;
+from_none => nothing"#;
 
 const NON_ZERO_I16: &str = r#"a = 32767 => 32767
 a = "32767" => 32767
@@ -113,37 +119,21 @@ a = "-9223372036854775809" => 4..26 Unknown value: `-9223372036854775809`;"#;
 #[test]
 fn unsigned_integers_but_zero(rt: HostRuntime) -> Tested<()> {
     let alloc = rt.alloc();
-    for table in [EVERY, UNSIGNED, ZERO] {
-        rows::<NonZeroU8, Displayed>(alloc, table)?;
-        rows::<NonZeroU16, Displayed>(alloc, table)?;
-        rows::<NonZeroU32, Displayed>(alloc, table)?;
-        rows::<NonZeroU64, Displayed>(alloc, table)?;
-        rows::<NonZeroU128, Displayed>(alloc, table)?;
-        rows::<NonZeroUsize, Displayed>(alloc, table)?;
-    }
-    rows::<NonZeroU8, Displayed>(alloc, NON_ZERO_U8)?;
-    rows::<NonZeroU16, Displayed>(alloc, NON_ZERO_U16)?;
-    rows::<NonZeroU32, Displayed>(alloc, NON_ZERO_U32)?;
-    rows::<NonZeroU64, Displayed>(alloc, NON_ZERO_U64)?;
-    rows::<NonZeroU128, Displayed>(alloc, NON_ZERO_U128)?;
-    rows::<NonZeroUsize, Displayed>(alloc, NON_ZERO_USIZE)
+    rows::<NonZeroU8, Displayed>(alloc, &[EVERY, UNSIGNED, ZERO, NON_ZERO_U8])?;
+    rows::<NonZeroU16, Displayed>(alloc, &[EVERY, UNSIGNED, ZERO, NON_ZERO_U16])?;
+    rows::<NonZeroU32, Displayed>(alloc, &[EVERY, UNSIGNED, ZERO, NON_ZERO_U32])?;
+    rows::<NonZeroU64, Displayed>(alloc, &[EVERY, UNSIGNED, ZERO, NON_ZERO_U64])?;
+    rows::<NonZeroU128, Displayed>(alloc, &[EVERY, UNSIGNED, ZERO, NON_ZERO_U128])?;
+    rows::<NonZeroUsize, Displayed>(alloc, &[EVERY, UNSIGNED, ZERO, NON_ZERO_USIZE])
 }
 
 #[test]
 fn signed_integers_but_zero(rt: HostRuntime) -> Tested<()> {
     let alloc = rt.alloc();
-    for table in [EVERY, SIGNED, ZERO] {
-        rows::<NonZeroI8, Displayed>(alloc, table)?;
-        rows::<NonZeroI16, Displayed>(alloc, table)?;
-        rows::<NonZeroI32, Displayed>(alloc, table)?;
-        rows::<NonZeroI64, Displayed>(alloc, table)?;
-        rows::<NonZeroI128, Displayed>(alloc, table)?;
-        rows::<NonZeroIsize, Displayed>(alloc, table)?;
-    }
-    rows::<NonZeroI8, Displayed>(alloc, NON_ZERO_I8)?;
-    rows::<NonZeroI16, Displayed>(alloc, NON_ZERO_I16)?;
-    rows::<NonZeroI32, Displayed>(alloc, NON_ZERO_I32)?;
-    rows::<NonZeroI64, Displayed>(alloc, NON_ZERO_I64)?;
-    rows::<NonZeroI128, Displayed>(alloc, NON_ZERO_I128)?;
-    rows::<NonZeroIsize, Displayed>(alloc, NON_ZERO_ISIZE)
+    rows::<NonZeroI8, Displayed>(alloc, &[EVERY, SIGNED, ZERO, NON_ZERO_I8])?;
+    rows::<NonZeroI16, Displayed>(alloc, &[EVERY, SIGNED, ZERO, NON_ZERO_I16])?;
+    rows::<NonZeroI32, Displayed>(alloc, &[EVERY, SIGNED, ZERO, NON_ZERO_I32])?;
+    rows::<NonZeroI64, Displayed>(alloc, &[EVERY, SIGNED, ZERO, NON_ZERO_I64])?;
+    rows::<NonZeroI128, Displayed>(alloc, &[EVERY, SIGNED, ZERO, NON_ZERO_I128])?;
+    rows::<NonZeroIsize, Displayed>(alloc, &[EVERY, SIGNED, ZERO, NON_ZERO_ISIZE])
 }

@@ -1,47 +1,13 @@
 //! Sets of names, and lists of paths.
 
-use crate::asked::rows;
-use crate::shown::{Own, Shows};
-use error_core::{Path, Text};
-use meta_core::{FromMeta, FromMetaTag, FromMetaTagAll, Ident, NestedMeta, PathList, TryClone};
+use crate::asked::{expects, must_be_item, rows};
+use crate::shown::Own;
+use error_core::Path;
+use meta_core::{FromMetaTag, FromMetaTagAll, Ident, PathList, TryClone};
 use std::alloc::Global;
 use std::collections::HashSet;
 use std::test::Fail;
-use tests_checks::{Tested, given, kind_of, row_of, tokens};
-
-#[test]
-fn hash_set_ident_succeeds(rt: HostRuntime) -> Tested<()> {
-    rows::<HashSet<Ident>, Own>(rt.alloc(), "ignore(hello, world) => hello;world;")
-}
-
-#[test]
-fn hash_set_ident_duplicate(rt: HostRuntime) -> Tested<()> {
-    rows::<HashSet<Ident>, Own>(
-        rt.alloc(),
-        "ignore(hello, hello) => 14..19 Duplicate field `hello`;",
-    )
-}
-
-#[test]
-fn hash_set_ident_multiple_errors(rt: HostRuntime) -> Tested<()> {
-    rows::<HashSet<Ident>, Own>(
-        rt.alloc(),
-        "ignore(hello, hello, the::world) => 14..19 Duplicate field `hello`;21..31 expected an identifier;",
-    )
-}
-
-#[test]
-fn hash_set_path_succeeds(rt: HostRuntime) -> Tested<()> {
-    rows::<HashSet<Path>, Own>(rt.alloc(), "ignore(hello, the::world) => hello;the::world;")
-}
-
-#[test]
-fn hash_set_path_duplicate(rt: HostRuntime) -> Tested<()> {
-    rows::<HashSet<Path>, Own>(
-        rt.alloc(),
-        "ignore(the::world, the::world) => 19..29 Duplicate field `the::world`;",
-    )
-}
+use tests_checks::{Tested, kind_of, row_of};
 
 const NAMES: &str = r#"a() => 
 a(c, r#b, b) => b;c;r#b;
@@ -51,16 +17,19 @@ a(d = b c, d) => 0..13 Unexpected meta-item format `expression`;
 a => 0..1 Unexpected meta-item format `word`;
 a = b => 4..5 Unexpected type `path`;"#;
 
-const OTHER_PATHS: &str = "a(b, ::c, d::e) => b;c;d::e;
-a(::b, ::b, b) => 7..10 Duplicate field `b`;";
+const IDENTS: &str = "// hash_set_ident_succeeds
+ignore(hello, world) => hello;world;
+// hash_set_ident_duplicate
+ignore(hello, hello) => 14..19 Duplicate field `hello`;
+// hash_set_ident_multiple_errors
+ignore(hello, hello, the::world) => 14..19 Duplicate field `hello`;21..31 expected an identifier;";
 
-#[test]
-fn sets_of_names(rt: HostRuntime) -> Tested<()> {
-    let alloc = rt.alloc();
-    rows::<HashSet<Ident>, Own>(alloc, NAMES)?;
-    rows::<HashSet<Path>, Own>(alloc, NAMES)?;
-    rows::<HashSet<Path>, Own>(alloc, OTHER_PATHS)
-}
+const PATHS: &str = "a(b, ::c, d::e) => b;c;d::e;
+a(::b, ::b, b) => 7..10 Duplicate field `b`;
+// hash_set_path_succeeds
+ignore(hello, the::world) => hello;the::world;
+// hash_set_path_duplicate
+ignore(the::world, the::world) => 19..29 Duplicate field `the::world`;";
 
 // The first fault is told alone.
 const WORDS: &str = r#"ignore(Debug, Clone, Eq) => Debug;Clone;Eq;
@@ -73,26 +42,17 @@ ignore(Debug = a b) => 7..18 Unexpected type `non-word`;
 ignore => 0..6 Unexpected meta-item format `word`;"#;
 
 #[test]
-fn path_lists(rt: HostRuntime) -> Tested<()> {
-    rows::<PathList, Own>(rt.alloc(), WORDS)
-}
-
-/// The list of `a(..)`.
-fn path_list(alloc: Global, text: &str) -> Tested<PathList> {
-    let tokens = tokens(alloc, 0, text)?;
-    let items = given(NestedMeta::parse_meta_list(alloc, &tokens), text)?;
-    let [item] = items.as_slice() else {
-        return Err(Fail::new(format_args!("{text} is no one item")));
-    };
-    match PathList::from_nested_meta(alloc, item) {
-        Ok(list) => Ok(list),
-        Err(_) => Err(Fail::new(format_args!("{text} is no list of paths"))),
-    }
+fn sets_of_names_and_lists_of_paths(rt: HostRuntime) -> Tested<()> {
+    let alloc = rt.alloc();
+    rows::<HashSet<Ident>, Own>(alloc, &[NAMES, IDENTS])?;
+    rows::<HashSet<Path>, Own>(alloc, &[NAMES, PATHS])?;
+    rows::<PathList, Own>(alloc, &[WORDS])
 }
 
 /// What the lists have in common.
 fn common(alloc: Global, left: &str, right: &str) -> Tested<PathList> {
-    let (left, right) = (path_list(alloc, left)?, path_list(alloc, right)?);
+    let left = must_be_item::<PathList>(alloc, left)?;
+    let right = must_be_item::<PathList>(alloc, right)?;
     let mut paths = Vec::new(alloc);
     for path in left.intersection(&right) {
         paths.push(path.try_clone(alloc)?)?;
@@ -113,11 +73,8 @@ fn intersections(rt: HostRuntime) -> Tested<()> {
     for row in COMMON.lines() {
         let (lists, wanted) = row_of(row);
         let (left, right) = kind_of(lists)?;
-        let mut text = Text::new(alloc);
-        Own::show(alloc, &mut text, &common(alloc, left, right)?)?;
-        if !text.is(wanted) {
-            return Err(Fail::new(format_args!("{row}: {}", text.as_str())));
-        }
+        let paths = common(alloc, left, right)?;
+        expects::<PathList, Own>(alloc, Ok(paths), row, wanted)?;
     }
     Ok(())
 }

@@ -4,7 +4,6 @@
 
 use error_core::{Error, Text};
 use meta_core::{Boxed, KeyFromPath, PathList};
-use node_core::WherePredicate;
 use print_core::ToTokens;
 use std::alloc::Global;
 use std::collections::{BTreeMap, BTreeSet, HashMap, HashSet};
@@ -83,16 +82,6 @@ impl Shows<Flag> for Own {
 impl Shows<PreservedStrExpr> for Own {
     fn show(alloc: Global, text: &mut Text, value: &PreservedStrExpr) -> Tested<()> {
         Printed::show(alloc, text, &value.expr)
-    }
-}
-
-impl Shows<Vec<WherePredicate>> for Own {
-    fn show(alloc: Global, text: &mut Text, value: &Vec<WherePredicate>) -> Tested<()> {
-        for predicate in value {
-            Printed::show(alloc, text, predicate)?;
-            text.push(';')?;
-        }
-        Ok(())
     }
 }
 

@@ -41,15 +41,15 @@ a => 0..1 Unexpected meta-item format `word`;"#;
 #[test]
 fn types_of_util(rt: HostRuntime) -> Tested<()> {
     let alloc = rt.alloc();
-    rows::<Flag, Own>(alloc, FLAG)?;
-    rows::<Override<u8>, Override<Displayed>>(alloc, OVERRIDE)?;
+    rows::<Flag, Own>(alloc, &[FLAG])?;
+    rows::<Override<u8>, Override<Displayed>>(alloc, &[OVERRIDE])?;
     rows::<Override<bool>, Override<Displayed>>(
         alloc,
-        "a => Inherit\na = false => Explicit false",
+        &["a => Inherit\na = false => Explicit false"],
     )?;
-    rows::<Override<()>, Override<Own>>(alloc, "a => Inherit\na() => Explicit ()")?;
-    rows::<PreservedStrExpr, Own>(alloc, PRESERVED)?;
-    rows::<Callable, Printed>(alloc, CALLABLE)
+    rows::<Override<()>, Override<Own>>(alloc, &["a => Inherit\na() => Explicit ()"])?;
+    rows::<PreservedStrExpr, Own>(alloc, &[PRESERVED])?;
+    rows::<Callable, Printed>(alloc, &[CALLABLE])
 }
 
 #[test]
