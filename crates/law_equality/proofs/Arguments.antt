@@ -30,7 +30,7 @@ bare_argument (GenericArgument-F.AssocType ident it span) = GenericArgument-F.As
 bare_argument (GenericArgument-F.AssocConst ident value span) = GenericArgument-F.AssocConst (erased_ident ident) (erased_expr value) CallSite
 bare_argument (GenericArgument-F.Constraint ident bounds span) = GenericArgument-F.Constraint (erased_ident ident) (map erased_bound bounds) CallSite
 
-argument-bare : (x : GenericArgumentLayer) → erased_argument (roll-GenericArgument x) ≡ roll-GenericArgument (bare_argument x)
+pub argument-bare : (x : GenericArgumentLayer) → erased_argument (roll-GenericArgument x) ≡ roll-GenericArgument (bare_argument x)
 argument-bare (GenericArgument-F.GenericArgument::Lifetime it) = ap erased_argument (argument.rolls-Lifetime it) ∙ bare_argument-Lifetime it ∙ sym (argument.rolls-Lifetime (erased_lifetime it))
 argument-bare (GenericArgument-F.Ty it) = ap erased_argument (argument.rolls-Ty it) ∙ bare_argument-Ty it ∙ sym (argument.rolls-Ty (erased_type it))
 argument-bare (GenericArgument-F.Const it) = ap erased_argument (argument.rolls-Const it) ∙ bare_argument-Const it ∙ sym (argument.rolls-Const (erased_expr it))

@@ -51,7 +51,7 @@ bare_expr (Expr-F.Block stmts last span) = Expr-F.Block (map erased_expr stmts) 
 bare_expr (Expr-F.Expr::Infer span) = Expr-F.Expr::Infer CallSite
 bare_expr (Expr-F.Verbatim it) = Expr-F.Verbatim (erased_stream it)
 
-expr-bare : (x : ExprLayer) → erased_expr (roll-Expr x) ≡ roll-Expr (bare_expr x)
+pub expr-bare : (x : ExprLayer) → erased_expr (roll-Expr x) ≡ roll-Expr (bare_expr x)
 expr-bare (Expr-F.Lit it) = ap erased_expr (expr.rolls-Lit it) ∙ bare_expr-Lit it ∙ sym (expr.rolls-Lit (erased_lit it))
 expr-bare (Expr-F.Expr::Path it) = ap erased_expr (expr.rolls-Path it) ∙ bare_expr-Path it ∙ sym (expr.rolls-Path (erased_expr_path it))
 expr-bare (Expr-F.Expr::Array it) = ap erased_expr (expr.rolls-Array it) ∙ bare_expr-Array it.elems it.span ∙ sym (expr.rolls-Array (record { elems = map erased_expr it.elems; span = CallSite }))

@@ -3,10 +3,10 @@ pub mod Leaves
 pub mod Tokens
 mod Sures
 mod Bounds
-mod PathArguments
-mod Arguments
-mod Paths
-mod Types
-mod Exprs
+pub mod PathArguments
+pub mod Arguments
+pub mod Paths
+pub mod Types
+pub mod Exprs
 pub mod Nodes
 mod Parts

@@ -27,7 +27,7 @@ bare_arguments PathArguments-F.None = PathArguments-F.None
 bare_arguments (PathArguments-F.AngleBracketed args) = PathArguments-F.AngleBracketed (map erased_argument args)
 bare_arguments (PathArguments-F.Parenthesized inputs output span) = PathArguments-F.Parenthesized (map erased_type inputs) (erased_output output) CallSite
 
-arguments-bare : (x : PathArgumentsLayer) → erased_arguments (roll-PathArguments x) ≡ roll-PathArguments (bare_arguments x)
+pub arguments-bare : (x : PathArgumentsLayer) → erased_arguments (roll-PathArguments x) ≡ roll-PathArguments (bare_arguments x)
 arguments-bare PathArguments-F.None = ap erased_arguments (arguments.rolls-None) ∙ bare_arguments-None ∙ sym (arguments.rolls-None)
 arguments-bare (PathArguments-F.AngleBracketed args) = ap erased_arguments (arguments.rolls-AngleBracketed args) ∙ bare_arguments-AngleBracketed args ∙ sym (arguments.rolls-AngleBracketed (map erased_argument args))
 arguments-bare (PathArguments-F.Parenthesized inputs output span) = ap erased_arguments (arguments.rolls-Parenthesized inputs output span) ∙ bare_arguments-Parenthesized inputs output span ∙ sym (arguments.rolls-Parenthesized (map erased_type inputs) (erased_output output) CallSite)

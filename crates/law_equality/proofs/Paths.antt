@@ -32,7 +32,7 @@ use Rattle.law_equality.proofs.Sures.{SureType, SureExprPathLayer, forget_expr_p
 abbrev pub bare_path : PathLayer → PathLayer
 bare_path it = record { leading_colon = it.leading_colon; segments = map erased_segment it.segments; span = CallSite }
 
-path-bare : (x : PathLayer) → erased_path (roll-Path x) ≡ roll-Path (bare_path x)
+pub path-bare : (x : PathLayer) → erased_path (roll-Path x) ≡ roll-Path (bare_path x)
 path-bare x = bare_path-make x.leading_colon x.segments x.span
 
 path_pair : (y : SurePathLayer) (z : PathLayer) (a b : Path) → out-Path a ≡ forget_path y → out-Path b ≡ z → Decides (path_eq.ghosts.eq a b) (bare_path (forget_path y) ≡ bare_path z)
@@ -45,7 +45,7 @@ path_at y = layered roll-Path out-Path roll-out-Path out-roll-Path path_eq.ghost
 abbrev pub bare_segment : PathSegmentLayer → PathSegmentLayer
 bare_segment it = record { ident = erased_ident it.ident; arguments = erased_arguments it.arguments; span = CallSite }
 
-segment-bare : (x : PathSegmentLayer) → erased_segment (roll-PathSegment x) ≡ roll-PathSegment (bare_segment x)
+pub segment-bare : (x : PathSegmentLayer) → erased_segment (roll-PathSegment x) ≡ roll-PathSegment (bare_segment x)
 segment-bare x = bare_segment-make x.ident x.arguments x.span
 
 segment_pair : (y : SurePathSegmentLayer) (z : PathSegmentLayer) → Decides (segment_eq.ghosts.eq (roll-PathSegment (forget_segment y)) (roll-PathSegment z)) (bare_segment (forget_segment y) ≡ bare_segment z)
@@ -85,7 +85,7 @@ option_qself_told = mapped_option_told forget_qself qself_eq erased_qself qself_
 abbrev pub bare_expr_path : ExprPathLayer → ExprPathLayer
 bare_expr_path it = record { qself = option_map erased_qself it.qself; path = erased_path it.path; span = CallSite }
 
-expr_path-bare : (x : ExprPathLayer) → erased_expr_path (roll-ExprPath x) ≡ roll-ExprPath (bare_expr_path x)
+pub expr_path-bare : (x : ExprPathLayer) → erased_expr_path (roll-ExprPath x) ≡ roll-ExprPath (bare_expr_path x)
 expr_path-bare x = bare_expr_path-make x.qself x.path x.span
 
 abbrev expr_path_of : Option (QSelf SureType) → SurePath → Span → SureExprPathLayer
@@ -103,7 +103,7 @@ expr_path_at y = layered roll-ExprPath out-ExprPath roll-out-ExprPath out-roll-E
 abbrev pub bare_type_path : TypePathLayer → TypePathLayer
 bare_type_path it = record { qself = option_map erased_qself it.qself; path = erased_path it.path; span = CallSite }
 
-type_path-bare : (x : TypePathLayer) → erased_type_path (roll-TypePath x) ≡ roll-TypePath (bare_type_path x)
+pub type_path-bare : (x : TypePathLayer) → erased_type_path (roll-TypePath x) ≡ roll-TypePath (bare_type_path x)
 type_path-bare x = bare_type_path-make x.qself x.path x.span
 
 abbrev type_path_of : Option (QSelf SureType) → SurePath → Span → SureTypePathLayer

@@ -52,7 +52,7 @@ bare_type (Type-F.ImplTrait it) = Type-F.ImplTrait (record { bounds = map erased
 bare_type (Type-F.Never it) = Type-F.Never (record { span = CallSite })
 bare_type (Type-F.Type::Infer it) = Type-F.Type::Infer (record { span = CallSite })
 
-type-bare : (x : TypeLayer) → erased_type (roll-Type x) ≡ roll-Type (bare_type x)
+pub type-bare : (x : TypeLayer) → erased_type (roll-Type x) ≡ roll-Type (bare_type x)
 type-bare (Type-F.Type::Path it) = ap erased_type (ty.rolls-Path it) ∙ bare_type-Path it ∙ sym (ty.rolls-Path (erased_type_path it))
 type-bare (Type-F.Type::Reference it) = ap erased_type (ty.rolls-Reference it) ∙ bare_type-Reference it.lifetime it.mutable it.elem it.span ∙ sym (ty.rolls-Reference (record { lifetime = option_map erased_lifetime it.lifetime; mutable = it.mutable; elem = erased_type it.elem; span = CallSite }))
 type-bare (Type-F.Ptr it) = ap erased_type (ty.rolls-Ptr it) ∙ bare_type-Ptr it.mutable it.elem it.span ∙ sym (ty.rolls-Ptr (record { mutable = it.mutable; elem = erased_type it.elem; span = CallSite }))

@@ -17,6 +17,7 @@ pub use arg::{Arg, HostItem};
 pub use host::Host;
 pub use laws::what_fits_a_type;
 pub use machine_value::Value;
+pub use made::{custom, named_type};
 pub use place::{Place, Use};
 pub use refusing::RefusingHost;
 pub use said::Said;

@@ -8,9 +8,10 @@ use crate::arguments::{Arguments, last_arguments};
 use crate::items::{hash_key, punctuated_item, set_item, tree_key, vec_item};
 use crate::leaf::Leaf;
 use crate::name::Name;
+use crate::names::Names;
 use crate::path::{Meant, meant_by, segments_in};
 use crate::wrapper::Wrapper;
-use node_expr::{Ident, Type};
+use node_expr::Type;
 
 /// What a type is at its outermost name. What is neither of the table nor a declaration is the host's.
 #[derive(Clone, Copy)]
@@ -22,9 +23,9 @@ pub enum Head<T> {
     Host,
 }
 
-/// What the type is at its outermost name.
-pub fn head_of<'a>(decls: &[Ident], ty: &'a Type) -> Head<&'a Type>
-    ensures { spec.seen_head result ≡ spec.head_of decls.now ty.now }
+/// What the type is at its outermost name. It takes no memory.
+pub fn head_of<'a, N: Names>(decls: &N, ty: &'a Type) -> Head<&'a Type>
+    ensures { spec.seen_head result ≡ spec.head_of (N.idents decls.now) ty.now }
 {
     if is_unit(ty) {
         return Head::Unit;
@@ -42,8 +43,12 @@ fn is_unit(ty: &Type) -> bool
     }
 }
 
-fn named_head<'a>(decls: &[Ident], meant: Meant, arguments: Arguments<&'a Type>) -> Head<&'a Type>
-    ensures { spec.seen_head result ≡ spec.named_head decls.now meant (seen arguments.entry) }
+fn named_head<'a, N: Names>(
+    decls: &N,
+    meant: Meant,
+    arguments: Arguments<&'a Type>,
+) -> Head<&'a Type>
+    ensures { spec.seen_head result ≡ spec.named_head (N.idents decls.now) meant (seen arguments.entry) }
 {
     match (meant, arguments) {
         (Meant::Declared(place), Arguments::Bare) => Head::Declared(place),
@@ -57,8 +62,8 @@ fn named_head<'a>(decls: &[Ident], meant: Meant, arguments: Arguments<&'a Type>)
 }
 
 /// The name of the table that a type without arguments is.
-fn bare_name(decls: &[Ident], ty: &Type) -> Option<Name>
-    ensures { result ≡ spec.bare_name decls.now ty.now }
+fn bare_name<N: Names>(decls: &N, ty: &Type) -> Option<Name>
+    ensures { result ≡ spec.bare_name (N.idents decls.now) ty.now }
 {
     let segments = segments_in(ty);
     match (meant_by(decls, segments), last_arguments(segments)) {
@@ -68,8 +73,8 @@ fn bare_name(decls: &[Ident], ty: &Type) -> Option<Name>
 }
 
 /// A name with one argument.
-fn head_of_one<'a>(decls: &[Ident], name: Name, inner: &'a Type) -> Head<&'a Type>
-    ensures { spec.seen_head result ≡ spec.head_of_one (spec.bare_name decls.now inner.now) name inner.now }
+fn head_of_one<'a, N: Names>(decls: &N, name: Name, inner: &'a Type) -> Head<&'a Type>
+    ensures { spec.seen_head result ≡ spec.head_of_one (spec.bare_name (N.idents decls.now) inner.now) name inner.now }
 {
     match name {
         Name::Vec => list_head(bare_name(decls, inner), inner),
@@ -103,8 +108,13 @@ fn set_head<'a>(item: Option<Name>) -> Head<&'a Type>
 }
 
 /// A name with two arguments.
-fn head_of_two<'a>(decls: &[Ident], name: Name, first: &'a Type, second: &'a Type) -> Head<&'a Type>
-    ensures { spec.seen_head result ≡ spec.head_of_two (spec.bare_name decls.now first.now) (spec.bare_name decls.now second.now) name first.now second.now }
+fn head_of_two<'a, N: Names>(
+    decls: &N,
+    name: Name,
+    first: &'a Type,
+    second: &'a Type,
+) -> Head<&'a Type>
+    ensures { spec.seen_head result ≡ spec.head_of_two (spec.bare_name (N.idents decls.now) first.now) (spec.bare_name (N.idents decls.now) second.now) name first.now second.now }
 {
     match name {
         Name::Punctuated => punctuated_head(bare_name(decls, first), bare_name(decls, second)),

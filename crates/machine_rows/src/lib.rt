@@ -1,7 +1,8 @@
 //! The types of fields as rows of the table of conversions: what a type names is found once, with the
 //! declarations of the text, and not again for each item that is read at it.
 //!
-//! [`row_of`] resolves a type. A name that is neither a declaration's nor of the table is the host's.
+//! [`row_of`] resolves a type, and [`head_of`] its outermost name, which takes no memory. A name that is
+//! neither a declaration's nor of the table is the host's.
 #![tactic(auto)]
 
 mod arguments;
@@ -9,13 +10,17 @@ mod head;
 mod items;
 mod leaf;
 mod name;
+mod names;
 mod path;
 mod resolve;
 mod row;
 mod table;
 mod wrapper;
 
+pub use head::{Head, head_of};
 pub use leaf::{Integer, Leaf, LitKind, Parsed, PunctuatedItem, SetItem, Unsigned, VecItem};
-pub use resolve::{element_of, row_of};
+pub use names::Names;
+pub use path::is_named;
+pub use resolve::{element_of, row_among, row_of};
 pub use row::Row;
-pub use wrapper::{HashKey, TreeKey};
+pub use wrapper::{HashKey, TreeKey, Wrapper};

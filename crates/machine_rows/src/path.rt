@@ -1,10 +1,11 @@
 //! What the path of a type names.
 
-ghost use Rattle.std.specs.Prelude.{◌≡◌, ◌∷◌, [], position};
+ghost use Rattle.std.specs.Prelude.{◌≡◌, ◌∷◌, []};
 ghost use Rattle.machine_rows.specs.Paths as spec;
 ghost use Rattle.machine_rows.specs.Table.{home_path};
 
 use crate::name::{Home, Name};
+use crate::names::Names;
 use crate::table::named;
 use node_expr::{Ident, PathArguments, PathSegment, Type};
 
@@ -26,9 +27,16 @@ pub fn segments_in(ty: &Type) -> &[PathSegment]
     }
 }
 
+/// Whether the type is this name alone. A leading `::` is not looked at.
+pub fn is_named(ty: &Type, name: &str) -> bool
+    ensures { result ≡ spec.are_bare (name.now ∷ []) (spec.segments_in ty.now) }
+{
+    are_one(segments_in(ty), name)
+}
+
 /// What the segments name: the last is the name.
-pub fn meant_by(decls: &[Ident], segments: &[PathSegment]) -> Meant
-    ensures { result ≡ spec.meant_by decls.now segments.now }
+pub fn meant_by<N: Names>(decls: &N, segments: &[PathSegment]) -> Meant
+    ensures { result ≡ spec.meant_by (N.idents decls.now) segments.now }
 {
     match segments.last() {
         Some(last) => meant_after(decls, &segments[..segments.len() - 1], &last.ident),
@@ -37,13 +45,13 @@ pub fn meant_by(decls: &[Ident], segments: &[PathSegment]) -> Meant
 }
 
 /// A bare name is a declaration's before it is the table's.
-fn meant_after(decls: &[Ident], before: &[PathSegment], name: &Ident) -> Meant
-    ensures { result ≡ spec.meant_after decls.now before.now name.now }
+fn meant_after<N: Names>(decls: &N, before: &[PathSegment], name: &Ident) -> Meant
+    ensures { result ≡ spec.meant_after (N.idents decls.now) before.now name.now }
 {
     if !before.is_empty() {
         return in_table(before, name);
     }
-    match place_of(decls, name) {
+    match decls.place_of(name) {
         Some(place) => Meant::Declared(place),
         None => in_table(before, name),
     }
@@ -111,16 +119,4 @@ fn is_bare(segment: &PathSegment, name: &str) -> bool
     !segment.ident.raw
         && segment.ident.text.as_str() == name
         && matches!(segment.arguments, PathArguments::None)
-}
-
-fn place_of(decls: &[Ident], name: &Ident) -> Option<usize>
-    ensures { result ≡ position (λ other. spec.same_ident other name.now) decls.now }
-{
-    decls.iter().position(|other| same_ident(other, name))
-}
-
-fn same_ident(a: &Ident, b: &Ident) -> bool
-    ensures { result ≡ spec.same_ident a.now b.now }
-{
-    a.raw == b.raw && a.text.as_str() == b.text.as_str()
 }

@@ -7,6 +7,7 @@ ghost use Rattle.machine_rows.specs.Rows as spec;
 use crate::arguments::{Arguments, last_arguments};
 use crate::head::{Head, head_of};
 use crate::name::Name;
+use crate::names::Names;
 use crate::path::{Meant, meant_by, segments_in};
 use crate::row::{Row, around};
 use node_expr::{Ident, Mem, TryClone, Type};
@@ -21,13 +22,20 @@ const MAX_DEPTH: usize = 256;
 pub fn row_of(alloc: Global, decls: &[Ident], ty: &Type) -> Mem<Row>
     ensures { IfOk result (λ row. row ≡ spec.row_of decls.now ty.now) }
 {
+    row_among(alloc, &decls, ty)
+}
+
+/// The row of a type, as [`row_of`] gives it, among declarations in whatever form they are at hand.
+pub fn row_among<N: Names>(alloc: Global, decls: &N, ty: &Type) -> Mem<Row>
+    ensures { IfOk result (λ row. row ≡ spec.row_of (N.idents decls.now) ty.now) }
+{
     row_at(alloc, decls, MAX_DEPTH, ty)
 }
 
 /// The row of a type, which is looked into as deep as `level`.
 #[cycle(row_at)]
-fn row_at(alloc: Global, decls: &[Ident], level: usize, ty: &Type) -> Mem<Row>
-    ensures { IfOk result (λ row. row ≡ spec.row_at decls.now level ty.now) }
+fn row_at<N: Names>(alloc: Global, decls: &N, level: usize, ty: &Type) -> Mem<Row>
+    ensures { IfOk result (λ row. row ≡ spec.row_at (N.idents decls.now) level ty.now) }
 {
     if level == 0 {
         return host(alloc, ty);
@@ -37,8 +45,8 @@ fn row_at(alloc: Global, decls: &[Ident], level: usize, ty: &Type) -> Mem<Row>
 
 /// The row of a type, where what it holds is looked into as deep as `level`.
 #[cycle(row_at)]
-fn row_above(alloc: Global, decls: &[Ident], level: usize, ty: &Type) -> Mem<Row>
-    ensures { IfOk result (λ row. row ≡ spec.row_above decls.now level ty.now) }
+fn row_above<N: Names>(alloc: Global, decls: &N, level: usize, ty: &Type) -> Mem<Row>
+    ensures { IfOk result (λ row. row ≡ spec.row_above (N.idents decls.now) level ty.now) }
 {
     match head_of(decls, ty) {
         Head::Unit => Ok(Row::Unit),
@@ -62,7 +70,7 @@ pub fn element_of<'a>(decls: &[Ident], ty: &'a Type) -> Option<&'a Type>
     ensures { option_copied result ≡ spec.element_of decls.now ty.now }
 {
     let segments = segments_in(ty);
-    match (meant_by(decls, segments), last_arguments(segments)) {
+    match (meant_by(&decls, segments), last_arguments(segments)) {
         (Meant::Table(Name::Vec), Arguments::One(inner)) => Some(inner),
         _ => None,
     }

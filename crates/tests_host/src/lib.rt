@@ -3,3 +3,7 @@
 
 #[cfg(test)]
 mod refusing;
+#[cfg(test)]
+mod shown;
+#[cfg(test)]
+mod standard;

@@ -1,6 +1,0 @@
-use Rattle.machine_rows.specs.Rows.{row_of}
-use Rattle.machine_rows.proofs.resolve.row_of.Goals as goal
-
-pub returns : goal.returns
-unfolding row_of
-returns c = c.row_at.ensures

@@ -1,0 +1,11 @@
+pub mod TextLemmas
+pub mod MarkLemmas
+pub mod Sweeping
+pub mod Nodes
+pub mod Heads
+pub mod Rows
+pub mod Belows
+pub mod Members
+pub mod Rests
+pub mod Offers
+pub mod Erased

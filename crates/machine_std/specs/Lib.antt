@@ -1,0 +1,13 @@
+pub mod Texts
+pub mod Functions
+pub mod Defaults
+pub mod Marks
+pub mod Rests
+pub mod StdSays
+pub mod DefaultRows
+pub mod DefaultsFit
+pub mod StdLaws
+pub use Rattle.machine_host.specs.HostSays
+pub use Rattle.machine_host.specs.Lawful
+pub use Rattle.machine_host.specs.Made
+pub use Rattle.machine_host.specs.Seen
