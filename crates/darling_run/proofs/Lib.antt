@@ -1,6 +1,5 @@
 mod EndsLemmas
 mod InputLemmas
 mod PartLemmas
-mod UnreadLemmas
 mod ValueLemmas
 mod WordLemmas

@@ -9,14 +9,12 @@ use Rattle.tok_types.specs.declared.tree.TokenStream.{TokenStream}
 use Rattle.node_core.specs.declared.derive.DeriveInput.{DeriveInput}
 use Rattle.run_form.specs.FirstForm.{is_first_form}
 use Rattle.run_parts.specs.Parts.{IsDivision, divider_count}
-use Rattle.meaning_core.specs.Receiver.{attribute_names}
 use Rattle.darling_run.specs.declared.input.Input.{Input}
 use Rattle.darling_run.specs.declared.part.Part.{Part}
 use Rattle.darling_run.specs.declared.part.Part.TheVariants as part
 use Rattle.darling_run.specs.declared.status.Status.{Status}
 use Rattle.darling_run.specs.declared.status.Status.TheVariants.{Done, Usage, ReadFault, TooLong, NotText, NoParts, TooDeep, Syntax, Unbuilt, WriteFault, NoMemory}
 use Rattle.darling_run.specs.Parts.{IsPart}
-use Rattle.darling_run.specs.Unread.{first_unread}
 
 -- ---- what is made of the parts
 
@@ -29,16 +27,11 @@ abbrev pub declaration_in : TokenStream → List DeriveInput → Option DeriveIn
 declaration_in tokens (declaration ∷ []) = if is_first_form tokens then Some declaration else None
 declaration_in tokens _ = None
 
--- the subjects under the declaration, unless one has an attribute that is not read
-abbrev pub read_by : DeriveInput → List DeriveInput → Option Span → Result Input Status
-read_by declaration subjects (Some span) = Err (Unbuilt span)
-read_by declaration subjects None = Ok (record { declaration = declaration; subjects = subjects })
-
--- what is read so far: a declaration in the first form, no table, and attributes in the forms that are read
+-- what is read so far: a declaration in the first form, and no table
 abbrev pub built_by : List ℕ → Option (List ℕ) → Option DeriveInput → List DeriveInput → Result Input Status
 built_by text table None subjects = Err (Unbuilt (whole 0 text))
 built_by text (Some table) (Some declaration) subjects = Err (Unbuilt (whole 2 table))
-built_by text None (Some declaration) subjects = read_by declaration subjects (first_unread (attribute_names declaration.attrs) subjects)
+built_by text None (Some declaration) subjects = Ok (record { declaration = declaration; subjects = subjects })
 
 -- What an input of two parts is; of several reasons to refuse it, the first counts. The first part's text and the
 -- table stand in front.

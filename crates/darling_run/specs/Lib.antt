@@ -4,4 +4,3 @@ pub mod Parts
 pub mod Report
 pub mod Status
 pub mod ValueText
-pub mod Unread

@@ -7,8 +7,6 @@ ghost use Rattle.darling_run.specs.Input.{Decides, IsInput, Refuses};
 
 use crate::part::{Part, read_part};
 use crate::status::Status;
-use crate::unread::first_unread;
-use meaning_core::Receiver;
 use node_core::DeriveInput;
 use run_form::is_first_form;
 use run_parts::{as_text, divide};
@@ -90,7 +88,7 @@ fn decide(
             let items = std::mem::replace(items, Items::new(alloc));
             let subjects = std::mem::replace(subjects, Items::new(alloc));
             let declaration = declaration_in(alloc, tokens, items)?;
-            build(alloc, text, table, declaration, subjects)
+            build(text, table, declaration, subjects)
         }
     }
 }
@@ -112,7 +110,6 @@ fn declaration_in(
 
 /// What an input of this declaration and these subjects is.
 fn build(
-    alloc: Global,
     text: &str,
     table: Option<&str>,
     declaration: Option<DeriveInput>,
@@ -120,18 +117,12 @@ fn build(
 ) -> Result<Input, Status>
     requires text { length text.now ≤ MAX_LEN }
     requires table { IfSome table (λ table. length table.now ≤ MAX_LEN) }
-    ensures { Decides (spec.built_by text.now (option_copied table.entry) declaration subjects) result }
+    ensures { result ≡ spec.built_by text.now (option_copied table.entry) declaration subjects }
 {
-    let Some(declaration) = declaration else {
-        return Err(unbuilt(0, text));
-    };
-    if let Some(table) = table {
-        return Err(unbuilt(2, table));
-    }
-    let receiver = Receiver::new(alloc, &declaration)?;
-    match first_unread(alloc, &receiver, subjects.as_slice())? {
-        Some(span) => Err(Status::Unbuilt { span }),
-        None => Ok(Input {
+    match (declaration, table) {
+        (None, _) => Err(unbuilt(0, text)),
+        (Some(_), Some(table)) => Err(unbuilt(2, table)),
+        (Some(declaration), None) => Ok(Input {
             declaration,
             subjects,
         }),

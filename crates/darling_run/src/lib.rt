@@ -13,7 +13,6 @@ mod quoted;
 mod report;
 mod status;
 mod tool;
-mod unread;
 mod values;
 
 pub use edge_core::{

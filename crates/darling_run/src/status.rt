@@ -26,8 +26,7 @@ pub enum Status {
     TooDeep { part: u32, at: u32 },
     /// The part is no list of items from its byte `at` on.
     Syntax { part: u32, at: u32 },
-    /// The first part or the table is not in a form that is read so far, and the span is all of it; or
-    /// an attribute is not, and the span is the attribute.
+    /// The first part or the table is not in a form that is read so far, and the span is all of it.
     Unbuilt { span: Span },
     /// The sink failed.
     WriteFault,

@@ -1,24 +1,24 @@
 -- The arms of a struct of texts, by the places of its fields.
-use Rattle.std.proofs.Common.{◌≡◌, ◌<◌, ◌+◌, ℕ, zero, suc, true, false, cond, List, [], ◌∷◌, ◌++◌, length, map, Option, Some, None, option_map, refl, ap, ap₂, sym, ◌∙◌, bytes_eq, get_or, position, arith, zero-add}
+use Rattle.std.proofs.Common.{◌≡◌, ◌<◌, ◌+◌, ℕ, zero, suc, true, false, cond, List, [], ◌∷◌, ◌++◌, length, map, Option, Some, None, option_map, refl, ap, sym, ◌∙◌, bytes_eq, get_or, position, arith, zero-add}
 use Rattle.std.specs.List.{position_from}
 use Rattle.std.proofs.lemmas.Iterator.Adapters.{position_from-zero}
 use Rattle.base_core.specs.declared.text.Text.{Text}
-use Rattle.node_core.specs.declared.attr.Meta.{Meta}
-use Rattle.run_first.specs.declared.nested.NestedMeta.TheVariants as nested
+use Rattle.meta_nested.specs.Nodes.{nested_span}
+use Rattle.meta_nested.specs.declared.nested.NestedMeta.{NestedMeta}
 use Rattle.error_fault.specs.declared.fault.Fault.{Fault}
 use Rattle.error_fault.specs.declared.kind.FaultKind.TheVariants.{UnknownField}
 use Rattle.error_fault.specs.Kind.{set_of}
 use Rattle.error_fault.specs.Fault.{at_span}
 use Rattle.meaning_core.specs.declared.receiver.Receiver.{Receiver}
 use Rattle.meaning_core.specs.declared.walk.Slot.{Slot as Held}
-use Rattle.meaning_core.specs.Node.{meta_name}
-use Rattle.node_span.specs.Spanned.{meta_span}
+use Rattle.machine_core.specs.Names.{item_name}
 use Rattle.meaning_core.specs.Decl.{has_flat, names}
-use Rattle.meaning_core.specs.Host.{no_host}
 use Rattle.meaning_core.specs.Owners.{owner_named, field_at}
-use Rattle.meaning_core.specs.Receiver.{no_earlier, receiver_decl, text_field}
+use Rattle.meaning_core.specs.Receiver.{no_earlier, no_setting, receiver_decl, text_field}
 use Rattle.meaning_core.specs.Slots.{slot_of, state_of}
-use Rattle.meaning_core.specs.State.{Arm, State, arm, arm_slot, arms, by_arm, by_rest, find_arm, put, rest, rest_by, slot_at, step}
+use Rattle.codegen_program.specs.declared.arm.Arm.{Arm}
+use Rattle.machine_core.specs.State.{State, arm_slot, by_arm, by_name, by_rest, find_arm, put, slot_at, step}
+use Rattle.meaning_core.specs.EntrySteps.{arm, arms, rest, rest_by}
 use Rattle.meaning_core.proofs.Filters.{arm_is_owner}
 
 -- the names of texts are the texts' own
@@ -57,32 +57,39 @@ field_at-texts [] place field within e = absurd (omega (arith, within))
 field_at-texts (x ∷ xs) zero field within e = ap text_field (sym e)
 field_at-texts (x ∷ xs) (suc place) field within e = field_at-texts xs place field (omega (arith, within)) e
 
-module _ (receiver : Receiver) (slots : List Held) (faults : List Fault) (it : Meta) (name : Text) where
-  abbrev Stepped : State
-  Stepped = step no_host no_earlier (arms (receiver_decl receiver)) (rest (receiver_decl receiver)) (state_of slots faults) (nested.Meta it)
+module _ (receiver : Receiver) (slots : List Held) (faults : List Fault) (item : NestedMeta) where
+  abbrev pub Stepped : State
+  Stepped = step no_setting no_earlier (arms (receiver_decl receiver)) (rest (receiver_decl receiver)) (state_of slots faults) item
 
-  arm-at : name ≡ meta_name it → find_arm (arms (receiver_decl receiver)) (meta_name it) ≡ option_map (λ k. arm k (field_at (map text_field receiver.fields) k)) (position (λ field. bytes_eq field name) receiver.fields)
-  arm-at e =
-      ap (find_arm (arms (receiver_decl receiver))) (sym e)
-      ∙ arm_is_owner (map text_field receiver.fields) name
-      ∙ ap (option_map (λ k. arm k (field_at (map text_field receiver.fields) k))) (owner_named-texts receiver.fields name)
+  abbrev By : Option Text → State
+  By name = by_name no_setting no_earlier (arms (receiver_decl receiver)) (rest (receiver_decl receiver)) (state_of slots faults) item name
 
-  -- an item of a field goes to the field's arm
-  pub step-field : (place : ℕ) (field : Text) → name ≡ meta_name it → Some place ≡ position (λ other. bytes_eq other name) receiver.fields → place < length receiver.fields → field ≡ get_or receiver.fields place field
-      → put place (arm_slot no_host no_earlier (arm place (text_field field)) (nested.Meta it) (slot_at (map slot_of slots) place)) (state_of slots faults) ≡ Stepped
-  step-field place field e found within is =
-      let armed : Some (arm place (text_field field)) ≡ find_arm (arms (receiver_decl receiver)) (meta_name it) =
-      ap (λ f. let x : Option Arm = Some (arm place f) in x) (sym (field_at-texts receiver.fields place field within is))
-      ∙ ap (option_map (λ k. arm k (field_at (map text_field receiver.fields) k))) found
-      ∙ sym (arm-at e) in
-      ap (λ a. by_arm no_host no_earlier (arms (receiver_decl receiver)) (rest (receiver_decl receiver)) (meta_name it) (nested.Meta it) a (state_of slots faults)) armed
+  module _ (name : Text) (named : Some name ≡ item_name item) where
+    abbrev Arms : Option Arm → State
+    Arms it = by_arm no_setting no_earlier (arms (receiver_decl receiver)) (rest (receiver_decl receiver)) name item it (state_of slots faults)
 
-  -- another item is an unknown field
-  pub step-unknown : (new_faults : List Fault) → name ≡ meta_name it → None ≡ position (λ other. bytes_eq other name) receiver.fields → new_faults ≡ faults ++ at_span (UnknownField name (set_of receiver.fields)) (meta_span it) ∷ []
-      → state_of slots new_faults ≡ Stepped
-  step-unknown new_faults e lost more =
-      let none : None ≡ find_arm (arms (receiver_decl receiver)) (meta_name it) = ap (option_map (λ k. arm k (field_at (map text_field receiver.fields) k))) lost ∙ sym (arm-at e) in
-      ap (state_of slots) more
-      ∙ ap₂ (λ n ns. state_of slots (faults ++ at_span (UnknownField n (set_of ns)) (meta_span it) ∷ [])) e (sym (names-texts receiver.fields))
-      ∙ ap (λ b. by_rest (rest_by b false (names (map text_field receiver.fields))) (meta_name it) (nested.Meta it) (state_of slots faults)) (sym (has_flat-texts receiver.fields))
-      ∙ ap (λ a. by_arm no_host no_earlier (arms (receiver_decl receiver)) (rest (receiver_decl receiver)) (meta_name it) (nested.Meta it) a (state_of slots faults)) none
+    arm-at : find_arm (arms (receiver_decl receiver)) name ≡ option_map (λ k. arm k (field_at (map text_field receiver.fields) k)) (position (λ field. bytes_eq field name) receiver.fields)
+    arm-at =
+        arm_is_owner (map text_field receiver.fields) name
+        ∙ ap (option_map (λ k. arm k (field_at (map text_field receiver.fields) k))) (owner_named-texts receiver.fields name)
+
+    -- an item of a field goes to the field's arm
+    pub step-field : (place : ℕ) (field : Text) → Some place ≡ position (λ other. bytes_eq other name) receiver.fields → place < length receiver.fields → field ≡ get_or receiver.fields place field
+        → put place (arm_slot no_setting no_earlier (arm place (text_field field)) item (slot_at (map slot_of slots) place)) (state_of slots faults) ≡ Stepped
+    step-field place field found within is =
+        let armed : Some (arm place (text_field field)) ≡ find_arm (arms (receiver_decl receiver)) name =
+        ap (λ f. let x : Option Arm = Some (arm place f) in x) (sym (field_at-texts receiver.fields place field within is))
+        ∙ ap (option_map (λ k. arm k (field_at (map text_field receiver.fields) k))) found
+        ∙ sym arm-at in
+        ap Arms armed ∙ ap By named
+
+    -- another item is an unknown field
+    pub step-unknown : (new_faults : List Fault) → None ≡ position (λ other. bytes_eq other name) receiver.fields → new_faults ≡ faults ++ at_span (UnknownField name (set_of receiver.fields)) (nested_span item) ∷ []
+        → state_of slots new_faults ≡ Stepped
+    step-unknown new_faults lost more =
+        let none : None ≡ find_arm (arms (receiver_decl receiver)) name = ap (option_map (λ k. arm k (field_at (map text_field receiver.fields) k))) lost ∙ sym arm-at in
+        ap (state_of slots) more
+        ∙ ap (λ ns. state_of slots (faults ++ at_span (UnknownField name (set_of ns)) (nested_span item) ∷ [])) (sym (names-texts receiver.fields))
+        ∙ ap (λ b. by_rest (rest_by b false (names (map text_field receiver.fields))) name item (state_of slots faults)) (sym (has_flat-texts receiver.fields))
+        ∙ ap Arms none
+        ∙ ap By named

@@ -1,18 +1,19 @@
 -- Where no fault is collected, the first item of each field has a value.
-use Rattle.std.proofs.Common.{◌≡◌, ℕ, zero, true, false, List, [], ◌∷◌, ◌++◌, Option, Some, None, refl, ap, ◌∙◌, sym, append_assoc, append-nil, ⊎_elim, subst, true≢false}
+use Rattle.std.proofs.Common.{◌≡◌, ℕ, zero, true, List, [], ◌∷◌, ◌++◌, Option, Some, None, refl, ap, ◌∙◌, sym, append_assoc, append-nil, ⊎_elim, subst, true≢false}
 use Rattle.std.proofs.lemmas.Bool.Decides.{eqb_tells}
 use Rattle.base_core.specs.declared.text.Text.{Text}
-use Rattle.run_first.specs.declared.nested.NestedMeta.{NestedMeta}
-use Rattle.run_first.specs.declared.nested.NestedMeta.TheVariants as nested
+use Rattle.meta_nested.specs.declared.nested.NestedMeta.{NestedMeta}
 use Rattle.error_fault.specs.Faults.{at}
 use Rattle.error_fault.specs.Outcome.{Outcome, Value, Faults, faults_of}
-use Rattle.meaning_core.specs.Node.{meta_name}
+use Rattle.std.specs.Prelude.{option_and_then}
+use Rattle.machine_core.specs.Names.{item_name}
 use Rattle.meaning_core.specs.Decl.{Shape, Single, Many, Flat, FieldDecl, Decl, is_named_by}
-use Rattle.meaning_core.specs.Host.{Host}
-use Rattle.meaning_core.specs.Convert.{Earlier}
+use Rattle.machine_core.specs.Setting.{Setting}
+use Rattle.machine_core.specs.Convert.{Earlier}
 use Rattle.meaning_core.specs.Entries.{Entry, FaultEntry, ItemEntry, items}
 use Rattle.meaning_core.specs.Owners.{owner, owner_named, is_this, own, field_at}
-use Rattle.meaning_core.specs.EntryFaults.{label, read, own_faults, item_faults, entry_faults, all_entry_faults}
+use Rattle.machine_core.specs.Reading.{label}
+use Rattle.meaning_core.specs.EntryFaults.{read, own_faults, item_faults, named_faults, entry_faults, all_entry_faults}
 use Rattle.meaning_core.proofs.Filters.{OnOwner, owner_on, filter_none, filter_one, items_cons, same, other}
 
 abbrev IsCons : {A : Type 0} → List A → Type 0
@@ -42,27 +43,27 @@ pub value_if_none : {A : Type 0} (o : Outcome A) → faults_of o ≡ [] → IsVa
 value_if_none (Value v) e = tt
 value_if_none (Faults f fs) e = not_nil f fs e
 
-module _ (host : Host) (earlier : Earlier) where
+module _ (setting : Setting) (earlier : Earlier) where
   abbrev pub Clean : FieldDecl → List NestedMeta → Type 0
   Clean f [] = Unit {0}
-  Clean f (i ∷ is) = IsValue (read host earlier f i)
+  Clean f (i ∷ is) = IsValue (read setting earlier f i)
 
-  clean_more : (f : FieldDecl) (s : Shape) (is : List NestedMeta) (i : NestedMeta) → is_named_by s f.skip ≡ true → own_faults host earlier f s is i ≡ [] → Clean f is → Clean f (is ++ i ∷ [])
-  clean_more f Single [] i n e c = value_if (read host earlier f i) f.name e
+  clean_more : (f : FieldDecl) (s : Shape) (is : List NestedMeta) (i : NestedMeta) → is_named_by s f.skip ≡ true → own_faults setting earlier f s is i ≡ [] → Clean f is → Clean f (is ++ i ∷ [])
+  clean_more f Single [] i n e c = value_if (read setting earlier f i) f.name e
   clean_more f Single (x ∷ xs) i n e c = c
-  clean_more f Many [] i n e c = value_if (read host earlier f i) (label f.name zero) e
+  clean_more f Many [] i n e c = value_if (read setting earlier f i) (label f.name zero) e
   clean_more f Many (x ∷ xs) i n e c = c
   clean_more f Flat is i n e c = absurd (true≢false (sym n))
 
   module _ (decl : Decl) where
-    clean_item : (before : List NestedMeta) (n : Text) (i : NestedMeta) (o : Option ℕ) → owner decl.fields i ≡ o → OnOwner decl.fields o → item_faults host earlier decl before n i o ≡ [] → (k : ℕ) → Clean (field_at decl.fields k) (own decl.fields before k) → Clean (field_at decl.fields k) (own decl.fields (before ++ i ∷ []) k)
+    clean_item : (before : List NestedMeta) (n : Text) (i : NestedMeta) (o : Option ℕ) → owner decl.fields i ≡ o → OnOwner decl.fields o → item_faults setting earlier decl before n i o ≡ [] → (k : ℕ) → Clean (field_at decl.fields k) (own decl.fields before k) → Clean (field_at decl.fields k) (own decl.fields (before ++ i ∷ []) k)
     clean_item before n i None e on none k c =
         let P : List NestedMeta → Type 0 = λ is. Clean (field_at decl.fields k) is in
         subst P (sym (filter_none (λ j. is_this k (owner decl.fields j)) before i (ap (is_this k) e))) c
     clean_item before n i (Some j) e on none k c =
         let P : List NestedMeta → Type 0 = λ is. Clean (field_at decl.fields k) is in
         let hit : j ≡ k → P (own decl.fields (before ++ i ∷ []) k) = λ q.
-        let faults : own_faults host earlier (field_at decl.fields k) (field_at decl.fields k).shape (own decl.fields before k) i ≡ [] = ap (λ x. own_faults host earlier (field_at decl.fields x) (field_at decl.fields x).shape (own decl.fields before x) i) (sym q) ∙ none in
+        let faults : own_faults setting earlier (field_at decl.fields k) (field_at decl.fields k).shape (own decl.fields before k) i ≡ [] = ap (λ x. own_faults setting earlier (field_at decl.fields x) (field_at decl.fields x).shape (own decl.fields before x) i) (sym q) ∙ none in
         let named : is_named_by (field_at decl.fields k).shape (field_at decl.fields k).skip ≡ true = ap (λ x. is_named_by (field_at decl.fields x).shape (field_at decl.fields x).skip) (sym q) ∙ on.1 in
         subst P (sym (filter_one (λ x. is_this k (owner decl.fields x)) before i (ap (is_this k) e ∙ ap (λ x. is_this k (Some x)) q ∙ same k)))
         (clean_more (field_at decl.fields k) (field_at decl.fields k).shape (own decl.fields before k) i named faults c) in
@@ -70,18 +71,21 @@ module _ (host : Host) (earlier : Earlier) where
         subst P (sym (filter_none (λ x. is_this k (owner decl.fields x)) before i (ap (is_this k) e ∙ other j k ne))) c in
         ⊎_elim (λ q. hit q.1) (λ q. miss q.1) (eqb_tells j k)
 
-    clean_entry : (before : List NestedMeta) (e : Entry) → entry_faults host earlier decl before e ≡ [] → (k : ℕ) → Clean (field_at decl.fields k) (own decl.fields before k) → Clean (field_at decl.fields k) (own decl.fields (before ++ items (e ∷ [])) k)
-    clean_entry before (FaultEntry f) none k c = absurd (not_nil f [] none)
-    clean_entry before (ItemEntry (nested.Lit l)) none k c = absurd (not_nil _ [] none)
-    clean_entry before (ItemEntry (nested.Meta m)) none k c = clean_item before (meta_name m) (nested.Meta m) (owner_named decl.fields (meta_name m)) refl (owner_on decl.fields (meta_name m)) none k c
+    clean_named : (before : List NestedMeta) (i : NestedMeta) (n : Option Text) → item_name i ≡ n → named_faults setting earlier decl before i n ≡ [] → (k : ℕ) → Clean (field_at decl.fields k) (own decl.fields before k) → Clean (field_at decl.fields k) (own decl.fields (before ++ i ∷ []) k)
+    clean_named before i None e none k c = absurd (not_nil _ [] none)
+    clean_named before i (Some n) e none k c = clean_item before n i (owner_named decl.fields n) (ap (option_and_then (owner_named decl.fields)) e) (owner_on decl.fields n) none k c
 
-    clean_walk : (before : List NestedMeta) (es : List Entry) → all_entry_faults host earlier decl before es ≡ [] → (k : ℕ) → Clean (field_at decl.fields k) (own decl.fields before k) → Clean (field_at decl.fields k) (own decl.fields (before ++ items es) k)
+    clean_entry : (before : List NestedMeta) (e : Entry) → entry_faults setting earlier decl before e ≡ [] → (k : ℕ) → Clean (field_at decl.fields k) (own decl.fields before k) → Clean (field_at decl.fields k) (own decl.fields (before ++ items (e ∷ [])) k)
+    clean_entry before (FaultEntry f) none k c = absurd (not_nil f [] none)
+    clean_entry before (ItemEntry i) none k c = clean_named before i (item_name i) refl none k c
+
+    clean_walk : (before : List NestedMeta) (es : List Entry) → all_entry_faults setting earlier decl before es ≡ [] → (k : ℕ) → Clean (field_at decl.fields k) (own decl.fields before k) → Clean (field_at decl.fields k) (own decl.fields (before ++ items es) k)
     clean_walk before [] none k c = let P : List NestedMeta → Type 0 = λ is. Clean (field_at decl.fields k) (own decl.fields is k) in subst P (sym (append-nil before)) c
     clean_walk before (e ∷ es) none k c =
         let P : List NestedMeta → Type 0 = λ is. Clean (field_at decl.fields k) (own decl.fields is k) in
-        subst P (append_assoc before (items (e ∷ [])) (items es) ∙ ap (λ is. before ++ is) (sym (items_cons host earlier decl e es)))
-        (clean_walk (before ++ items (e ∷ [])) es (nil_right (entry_faults host earlier decl before e) (all_entry_faults host earlier decl (before ++ items (e ∷ [])) es) none) k
-        (clean_entry before e (nil_left (entry_faults host earlier decl before e) (all_entry_faults host earlier decl (before ++ items (e ∷ [])) es) none) k c))
+        subst P (append_assoc before (items (e ∷ [])) (items es) ∙ ap (λ is. before ++ is) (sym (items_cons setting earlier decl e es)))
+        (clean_walk (before ++ items (e ∷ [])) es (nil_right (entry_faults setting earlier decl before e) (all_entry_faults setting earlier decl (before ++ items (e ∷ [])) es) none) k
+        (clean_entry before e (nil_left (entry_faults setting earlier decl before e) (all_entry_faults setting earlier decl (before ++ items (e ∷ [])) es) none) k c))
 
-    pub clean_all : (es : List Entry) → all_entry_faults host earlier decl [] es ≡ [] → (k : ℕ) → Clean (field_at decl.fields k) (own decl.fields (items es) k)
+    pub clean_all : (es : List Entry) → all_entry_faults setting earlier decl [] es ≡ [] → (k : ℕ) → Clean (field_at decl.fields k) (own decl.fields (items es) k)
     clean_all es none k = clean_walk [] es none k tt

@@ -1,10 +1,9 @@
 -- A walk fills slots as the filters of its entries say.
-use Rattle.std.proofs.Common.{◌≡◌, ℕ, ◌+◌, ◌<◌, zero, suc, Bool, true, false, cond, List, [], ◌∷◌, ◌++◌, length, Option, Some, None, option_map, is_none, filter, fold, refl, ap, ◌∙◌, sym, arith, append_assoc, append-nil, set, ⊎_elim, bytes_eq, zero-add, true≢false, ap₂}
+use Rattle.std.proofs.Common.{◌≡◌, ℕ, ◌+◌, ◌<◌, zero, suc, Bool, true, false, cond, List, [], ◌∷◌, ◌++◌, length, Option, Some, None, option_map, option_and_then, is_none, filter, fold, refl, ap, ◌∙◌, sym, arith, append_assoc, append-nil, set, ⊎_elim, bytes_eq, zero-add, true≢false, ap₂}
 use mathlib.Core.Path.{fun_ext}
 use Rattle.std.proofs.lemmas.Bool.Decides.{eqb_tells}
 use Rattle.base_core.specs.declared.text.Text.{Text}
-use Rattle.run_first.specs.declared.nested.NestedMeta.{NestedMeta}
-use Rattle.run_first.specs.declared.nested.NestedMeta.TheVariants as nested
+use Rattle.meta_nested.specs.declared.nested.NestedMeta.{NestedMeta}
 use Rattle.error_fault.specs.declared.fault.Fault.{Fault}
 use Rattle.error_fault.specs.declared.kind.FaultKind.TheVariants.{UnknownField}
 use Rattle.error_fault.specs.Kind.{set_of}
@@ -13,14 +12,19 @@ use Rattle.error_fault.specs.Faults.{at}
 use Rattle.error_fault.specs.Outcome.{Outcome, Value, Faults, faults_of, value_of}
 use Rattle.machine_value.specs.declared.value.Value.{Value as Datum}
 use Rattle.machine_value.specs.Members.{no_value}
-use Rattle.meaning_core.specs.Node.{item_span, meta_name}
-use Rattle.meaning_core.specs.Decl.{FieldType, Shape, Single, Many, Flat, FieldDecl, Decl, is_named, is_named_by, element, has_flat, names}
-use Rattle.meaning_core.specs.Host.{Host}
-use Rattle.meaning_core.specs.Convert.{Earlier}
+use Rattle.meta_nested.specs.Nodes.{nested_span}
+use Rattle.node_expr.specs.declared.ty.«Type».{«Type» as Type'}
+use Rattle.codegen_program.specs.declared.arm.Arm.{Arm}
+use Rattle.meaning_core.specs.Decl.{Shape, Single, Many, Flat, FieldDecl, Decl, is_named, is_named_by, has_flat, names}
+use Rattle.machine_core.specs.Names.{item_name}
+use Rattle.machine_core.specs.Setting.{Setting}
+use Rattle.machine_core.specs.Convert.{Earlier}
+use Rattle.meaning_core.specs.EntryFaults.{element_by, read, value_list, values, own_faults, unknown, item_faults, named_faults, entry_faults, all_entry_faults}
 use Rattle.meaning_core.specs.Entries.{Entry, FaultEntry, ItemEntry, items}
-use Rattle.meaning_core.specs.Owners.{owner, owner_named, is_this, own, is_unclaimed, field_at, each}
-use Rattle.meaning_core.specs.EntryFaults.{label, read, read_at, value_list, values, own_faults, unknown, item_faults, entry_faults, all_entry_faults}
-use Rattle.meaning_core.specs.State.{Arm, Slot, One, Several, State, arm, arms_from, arms, rest, rest_by, find_arm, put, slot_at, filled, pushed, by_rest, arm_slot, by_arm, entry_step}
+use Rattle.meaning_core.specs.Owners.{owner, owner_named, is_this, own, is_unclaimed, is_unclaimed_name, field_at, each}
+use Rattle.machine_core.specs.Reading.{label, read_at}
+use Rattle.machine_core.specs.State.{Slot, One, Several, State, find_arm, put, slot_at, filled, pushed, by_rest, arm_slot, by_arm, by_name}
+use Rattle.meaning_core.specs.EntrySteps.{arm, arms_from, arms, rest, rest_by, entry_step}
 use Rattle.meaning_core.specs.Walk.{slot_by, field_slot, kept_by, state_behind, WalkIsFilters}
 
 -- filters of one more item
@@ -96,83 +100,88 @@ each_put g (f ∷ fs) (suc k) old new others =
     ap (λ is. g f is ∷ each g fs (λ j. new (suc j))) (others zero (λ e. omega (arith, e)))
     ∙ ap (λ xs. g f (old zero) ∷ xs) (each_put g fs k (λ j. old (suc j)) (λ j. new (suc j)) (λ j ne. others (suc j) (λ e. ne (omega (arith, e)))))
 
-module _ (host : Host) (earlier : Earlier) where
-  filled_is : (t : FieldType) (name : Text) (o : Outcome Datum) → filled t name o ≡ (One t true (value_of o), at (faults_of o) name)
+module _ (setting : Setting) (earlier : Earlier) where
+  filled_is : (t : Type') (name : Text) (o : Outcome Datum) → filled t name o ≡ (One t true (value_of o), at (faults_of o) name)
   filled_is t name (Value v) = refl
   filled_is t name (Faults f fs) = refl
 
-  pushed_is : (t : FieldType) (vs : List Datum) (name : Text) (o : Outcome Datum) → pushed t vs name o ≡ (Several t (vs ++ value_list host earlier o), at (faults_of o) (label name (length vs)))
+  pushed_is : (t : Type') (vs : List Datum) (name : Text) (o : Outcome Datum) → pushed t vs name o ≡ (Several t (vs ++ value_list setting earlier o), at (faults_of o) (label name (length vs)))
   pushed_is t vs name (Value v) = refl
   pushed_is t vs name (Faults f fs) = ap (λ xs. let r : Slot × List Fault = (Several t xs, at (f ∷ fs) (label name (length vs))) in r) (sym (append-nil vs))
 
-  values_more : (f : FieldDecl) (is : List NestedMeta) (i : NestedMeta) → values host earlier f (is ++ i ∷ []) ≡ values host earlier f is ++ value_list host earlier (read host earlier f i)
-  values_more f [] i = append-nil (value_list host earlier (read host earlier f i))
-  values_more f (x ∷ xs) i = ap (λ vs. value_list host earlier (read host earlier f x) ++ vs) (values_more f xs i) ∙ sym (append_assoc (value_list host earlier (read host earlier f x)) (values host earlier f xs) (value_list host earlier (read host earlier f i)))
+  values_more : (f : FieldDecl) (is : List NestedMeta) (i : NestedMeta) → values setting earlier f (is ++ i ∷ []) ≡ values setting earlier f is ++ value_list setting earlier (read setting earlier f i)
+  values_more f [] i = append-nil (value_list setting earlier (read setting earlier f i))
+  values_more f (x ∷ xs) i = ap (λ vs. value_list setting earlier (read setting earlier f x) ++ vs) (values_more f xs i) ∙ sym (append_assoc (value_list setting earlier (read setting earlier f x)) (values setting earlier f xs) (value_list setting earlier (read setting earlier f i)))
 
   -- an arm does to a slot what one more item does to the filter
-  arm_is : (f : FieldDecl) (k : ℕ) (i : NestedMeta) (s : Shape) (is : List NestedMeta) → f.shape ≡ s → is_named_by s f.skip ≡ true → arm_slot host earlier (arm k f) i (slot_by host earlier f s is) ≡ (slot_by host earlier f s (is ++ i ∷ []), own_faults host earlier f s is i)
+  arm_is : (f : FieldDecl) (k : ℕ) (i : NestedMeta) (s : Shape) (is : List NestedMeta) → f.shape ≡ s → is_named_by s f.skip ≡ true → arm_slot setting earlier (arm k f) i (slot_by setting earlier f s is) ≡ (slot_by setting earlier f s (is ++ i ∷ []), own_faults setting earlier f s is i)
   arm_is f k i Single [] e n =
-      filled_is f.type f.name (read_at host earlier f.with f.transform f.type i)
-      ∙ ap (λ s. let o = read_at host earlier f.with f.transform (element s f.type) i in let r : Slot × List Fault = (One f.type true (value_of o), at (faults_of o) f.name) in r) (sym e)
+      filled_is f.type f.name (read_at setting earlier f.with f.transform f.type i)
+      ∙ ap (λ s. let o = read_at setting earlier f.with f.transform (element_by setting s f.type) i in let r : Slot × List Fault = (One f.type true (value_of o), at (faults_of o) f.name) in r) (sym e)
   arm_is f k i Single (x ∷ xs) e n = refl
   arm_is f k i Many is e n =
-      ap (λ s. pushed f.type (values host earlier f is) f.name (read_at host earlier f.with f.transform (element s f.type) i)) (sym e)
-      ∙ pushed_is f.type (values host earlier f is) f.name (read host earlier f i)
-      ∙ ap (λ vs. let r : Slot × List Fault = (Several f.type vs, at (faults_of (read host earlier f i)) (label f.name (length (values host earlier f is)))) in r) (sym (values_more f is i))
+      ap (λ s. pushed f.type (values setting earlier f is) f.name (read_at setting earlier f.with f.transform (element_by setting s f.type) i)) (sym e)
+      ∙ pushed_is f.type (values setting earlier f is) f.name (read setting earlier f i)
+      ∙ ap (λ vs. let r : Slot × List Fault = (Several f.type vs, at (faults_of (read setting earlier f i)) (label f.name (length (values setting earlier f is)))) in r) (sym (values_more f is i))
   arm_is f k i Flat is e n = absurd (true≢false (sym n))
 
   module _ (decl : Decl) where
     rested : (b a : Bool) (ns : List Text) (n : Text) (i : NestedMeta) (xs : List Slot) (fs : List Fault) (before : List NestedMeta) → is_unclaimed decl.fields i ≡ true
-        → by_rest (rest_by b a ns) n i (record { slots = xs; faults = fs; kept = kept_by host earlier decl b before; whole = no_value })
-        ≡ record { slots = xs; faults = fs ++ cond b [] (cond a [] (at_span (UnknownField n (set_of ns)) (item_span i) ∷ [])); kept = kept_by host earlier decl b (before ++ i ∷ []); whole = no_value }
+        → by_rest (rest_by b a ns) n i (record { slots = xs; faults = fs; kept = kept_by setting earlier decl b before; whole = no_value })
+        ≡ record { slots = xs; faults = fs ++ cond b [] (cond a [] (at_span (UnknownField n (set_of ns)) (nested_span i) ∷ [])); kept = kept_by setting earlier decl b (before ++ i ∷ []); whole = no_value }
     rested true a ns n i xs fs before e =
         ap₂ (λ fs is. let s : State = record { slots = xs; faults = fs; kept = is; whole = no_value } in s) (sym (append-nil fs)) (sym (filter_one (is_unclaimed decl.fields) before i e))
     rested false true ns n i xs fs before e = ap (λ fs. let s : State = record { slots = xs; faults = fs; kept = []; whole = no_value } in s) (sym (append-nil fs))
     rested false false ns n i xs fs before e = refl
 
-    kept_claimed : (b : Bool) (before : List NestedMeta) (i : NestedMeta) → is_unclaimed decl.fields i ≡ false → kept_by host earlier decl b before ≡ kept_by host earlier decl b (before ++ i ∷ [])
+    kept_claimed : (b : Bool) (before : List NestedMeta) (i : NestedMeta) → is_unclaimed decl.fields i ≡ false → kept_by setting earlier decl b before ≡ kept_by setting earlier decl b (before ++ i ∷ [])
     kept_claimed true before i e = sym (filter_none (is_unclaimed decl.fields) before i e)
     kept_claimed false before i e = refl
 
     -- an item that no field owns leaves the slots
-    slots_stay : (before : List NestedMeta) (i : NestedMeta) → owner decl.fields i ≡ None → each (field_slot host earlier) decl.fields (own decl.fields before) ≡ each (field_slot host earlier) decl.fields (own decl.fields (before ++ i ∷ []))
-    slots_stay before i e = ap (each (field_slot host earlier) decl.fields) (fun_ext (λ k. sym (filter_none (λ j. is_this k (owner decl.fields j)) before i (ap (is_this k) e))))
+    slots_stay : (before : List NestedMeta) (i : NestedMeta) → owner decl.fields i ≡ None → each (field_slot setting earlier) decl.fields (own decl.fields before) ≡ each (field_slot setting earlier) decl.fields (own decl.fields (before ++ i ∷ []))
+    slots_stay before i e = ap (each (field_slot setting earlier) decl.fields) (fun_ext (λ k. sym (filter_none (λ j. is_this k (owner decl.fields j)) before i (ap (is_this k) e))))
 
     one_item : (before : List NestedMeta) (fs : List Fault) (n : Text) (i : NestedMeta) (o : Option ℕ) → owner decl.fields i ≡ o → is_unclaimed decl.fields i ≡ is_none o → OnOwner decl.fields o
-        → by_arm host earlier (arms decl) (rest decl) n i (option_map (λ k. arm k (field_at decl.fields k)) o) (state_behind host earlier decl before fs) ≡ state_behind host earlier decl (before ++ i ∷ []) (fs ++ item_faults host earlier decl before n i o)
+        → by_arm setting earlier (arms decl) (rest decl) n i (option_map (λ k. arm k (field_at decl.fields k)) o) (state_behind setting earlier decl before fs) ≡ state_behind setting earlier decl (before ++ i ∷ []) (fs ++ item_faults setting earlier decl before n i o)
     one_item before fs n i None e u on =
-        rested (has_flat decl.fields) decl.allows_unknown (names decl.fields) n i (each (field_slot host earlier) decl.fields (own decl.fields before)) fs before u
-        ∙ ap (λ xs. let s : State = record { slots = xs; faults = fs ++ unknown host earlier decl n (item_span i); kept = kept_by host earlier decl (has_flat decl.fields) (before ++ i ∷ []); whole = no_value } in s) (slots_stay before i e)
+        rested (has_flat decl.fields) decl.allows_unknown (names decl.fields) n i (each (field_slot setting earlier) decl.fields (own decl.fields before)) fs before u
+        ∙ ap (λ xs. let s : State = record { slots = xs; faults = fs ++ unknown setting earlier decl n (nested_span i); kept = kept_by setting earlier decl (has_flat decl.fields) (before ++ i ∷ []); whole = no_value } in s) (slots_stay before i e)
     one_item before fs n i (Some k) e u on =
         let f = field_at decl.fields k in
         let mine = own decl.fields before k in
         let more : own decl.fields (before ++ i ∷ []) k ≡ mine ++ i ∷ [] = filter_one (λ j. is_this k (owner decl.fields j)) before i (ap (is_this k) e ∙ same k) in
-        let r : arm_slot host earlier (arm k f) i (slot_at (each (field_slot host earlier) decl.fields (own decl.fields before)) k) ≡ (field_slot host earlier f (mine ++ i ∷ []), own_faults host earlier f f.shape mine i) =
-        ap (arm_slot host earlier (arm k f) i) (each_at (field_slot host earlier) decl.fields k (own decl.fields before) on.0) ∙ arm_is f k i f.shape mine refl on.1 in
-        let slots : set (each (field_slot host earlier) decl.fields (own decl.fields before)) k (field_slot host earlier f (mine ++ i ∷ [])) ≡ each (field_slot host earlier) decl.fields (own decl.fields (before ++ i ∷ [])) =
-        ap (λ is. set (each (field_slot host earlier) decl.fields (own decl.fields before)) k (field_slot host earlier f is)) (sym more)
-        ∙ sym (each_put (field_slot host earlier) decl.fields k (own decl.fields before) (own decl.fields (before ++ i ∷ [])) (λ j ne. filter_none (λ x. is_this j (owner decl.fields x)) before i (ap (is_this j) e ∙ other k j (λ q. ne (sym q))))) in
-        ap (λ x. put k x (state_behind host earlier decl before fs)) r
-        ∙ ap₂ (λ xs is. let s : State = record { slots = xs; faults = fs ++ own_faults host earlier f f.shape mine i; kept = is; whole = no_value } in s) slots (kept_claimed (has_flat decl.fields) before i u)
+        let r : arm_slot setting earlier (arm k f) i (slot_at (each (field_slot setting earlier) decl.fields (own decl.fields before)) k) ≡ (field_slot setting earlier f (mine ++ i ∷ []), own_faults setting earlier f f.shape mine i) =
+        ap (arm_slot setting earlier (arm k f) i) (each_at (field_slot setting earlier) decl.fields k (own decl.fields before) on.0) ∙ arm_is f k i f.shape mine refl on.1 in
+        let slots : set (each (field_slot setting earlier) decl.fields (own decl.fields before)) k (field_slot setting earlier f (mine ++ i ∷ [])) ≡ each (field_slot setting earlier) decl.fields (own decl.fields (before ++ i ∷ [])) =
+        ap (λ is. set (each (field_slot setting earlier) decl.fields (own decl.fields before)) k (field_slot setting earlier f is)) (sym more)
+        ∙ sym (each_put (field_slot setting earlier) decl.fields k (own decl.fields before) (own decl.fields (before ++ i ∷ [])) (λ j ne. filter_none (λ x. is_this j (owner decl.fields x)) before i (ap (is_this j) e ∙ other k j (λ q. ne (sym q))))) in
+        ap (λ x. put k x (state_behind setting earlier decl before fs)) r
+        ∙ ap₂ (λ xs is. let s : State = record { slots = xs; faults = fs ++ own_faults setting earlier f f.shape mine i; kept = is; whole = no_value } in s) slots (kept_claimed (has_flat decl.fields) before i u)
 
-    one_entry : (before : List NestedMeta) (fs : List Fault) (e : Entry) → entry_step host earlier decl (state_behind host earlier decl before fs) e ≡ state_behind host earlier decl (before ++ items (e ∷ [])) (fs ++ entry_faults host earlier decl before e)
-    one_entry before fs (FaultEntry f) = ap (λ is. state_behind host earlier decl is (fs ++ f ∷ [])) (sym (append-nil before))
-    one_entry before fs (ItemEntry (nested.Lit l)) =
-        ap₂ (λ xs is. let s : State = record { slots = xs; faults = fs ++ entry_faults host earlier decl before (ItemEntry (nested.Lit l)); kept = is; whole = no_value } in s) (slots_stay before (nested.Lit l) refl) (kept_claimed (has_flat decl.fields) before (nested.Lit l) refl)
-    one_entry before fs (ItemEntry (nested.Meta m)) =
-        ap (λ a. by_arm host earlier (arms decl) (rest decl) (meta_name m) (nested.Meta m) a (state_behind host earlier decl before fs)) (arm_is_owner decl.fields (meta_name m))
-        ∙ one_item before fs (meta_name m) (nested.Meta m) (owner_named decl.fields (meta_name m)) refl refl (owner_on decl.fields (meta_name m))
+    one_named : (before : List NestedMeta) (fs : List Fault) (i : NestedMeta) (n : Option Text) → item_name i ≡ n
+        → by_name setting earlier (arms decl) (rest decl) (state_behind setting earlier decl before fs) i n ≡ state_behind setting earlier decl (before ++ i ∷ []) (fs ++ named_faults setting earlier decl before i n)
+    one_named before fs i None e =
+        ap₂ (λ xs is. let s : State = record { slots = xs; faults = fs ++ named_faults setting earlier decl before i None; kept = is; whole = no_value } in s)
+        (slots_stay before i (ap (option_and_then (owner_named decl.fields)) e)) (kept_claimed (has_flat decl.fields) before i (ap (is_unclaimed_name decl.fields) e))
+    one_named before fs i (Some n) e =
+        ap (λ a. by_arm setting earlier (arms decl) (rest decl) n i a (state_behind setting earlier decl before fs)) (arm_is_owner decl.fields n)
+        ∙ one_item before fs n i (owner_named decl.fields n) (ap (option_and_then (owner_named decl.fields)) e) (ap (is_unclaimed_name decl.fields) e) (owner_on decl.fields n)
+
+    one_entry : (before : List NestedMeta) (fs : List Fault) (e : Entry) → entry_step setting earlier decl (state_behind setting earlier decl before fs) e ≡ state_behind setting earlier decl (before ++ items (e ∷ [])) (fs ++ entry_faults setting earlier decl before e)
+    one_entry before fs (FaultEntry f) = ap (λ is. state_behind setting earlier decl is (fs ++ f ∷ [])) (sym (append-nil before))
+    one_entry before fs (ItemEntry i) = one_named before fs i (item_name i) refl
 
     pub items_cons : (e : Entry) (es : List Entry) → items (e ∷ es) ≡ items (e ∷ []) ++ items es
     items_cons (FaultEntry f) es = refl
     items_cons (ItemEntry i) es = refl
 
-    pub walk : (before : List NestedMeta) (fs : List Fault) (es : List Entry) → fold (entry_step host earlier decl) (state_behind host earlier decl before fs) es ≡ state_behind host earlier decl (before ++ items es) (fs ++ all_entry_faults host earlier decl before es)
-    walk before fs [] = ap₂ (state_behind host earlier decl) (sym (append-nil before)) (sym (append-nil fs))
+    pub walk : (before : List NestedMeta) (fs : List Fault) (es : List Entry) → fold (entry_step setting earlier decl) (state_behind setting earlier decl before fs) es ≡ state_behind setting earlier decl (before ++ items es) (fs ++ all_entry_faults setting earlier decl before es)
+    walk before fs [] = ap₂ (state_behind setting earlier decl) (sym (append-nil before)) (sym (append-nil fs))
     walk before fs (e ∷ es) =
-        ap (λ s. fold (entry_step host earlier decl) s es) (one_entry before fs e)
-        ∙ walk (before ++ items (e ∷ [])) (fs ++ entry_faults host earlier decl before e) es
-        ∙ ap₂ (state_behind host earlier decl) (append_assoc before (items (e ∷ [])) (items es) ∙ ap (λ is. before ++ is) (sym (items_cons e es))) (append_assoc fs (entry_faults host earlier decl before e) (all_entry_faults host earlier decl (before ++ items (e ∷ [])) es))
+        ap (λ s. fold (entry_step setting earlier decl) s es) (one_entry before fs e)
+        ∙ walk (before ++ items (e ∷ [])) (fs ++ entry_faults setting earlier decl before e) es
+        ∙ ap₂ (state_behind setting earlier decl) (append_assoc before (items (e ∷ [])) (items es) ∙ ap (λ is. before ++ is) (sym (items_cons e es))) (append_assoc fs (entry_faults setting earlier decl before e) (all_entry_faults setting earlier decl (before ++ items (e ∷ [])) es))
 
 pub walk_is_filters : WalkIsFilters
-walk_is_filters host earlier decl es = walk host earlier decl [] [] es
+walk_is_filters setting earlier decl es = walk setting earlier decl [] [] es

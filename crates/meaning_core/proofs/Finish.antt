@@ -1,6 +1,8 @@
 -- What one look at each slot gives at the end of a walk over a struct of texts.
-use Rattle.std.proofs.Common.{◌≡◌, ◌≢◌, ◌<◌, ℕ, zero, suc, true, false, IsTrue, List, [], ◌∷◌, ◌++◌, length, map, drop, fold, Option, Some, None, refl, ap, ap₂, sym, ◌∙◌, subst, set, get_or, slice_get, replicate, arith, true≢false, ◌+◌, ◌≤◌, append_assoc, append-nil}
+use Rattle.std.proofs.Common.{◌≡◌, ◌≢◌, ◌<◌, ℕ, zero, suc, false, IsTrue, List, [], ◌∷◌, ◌++◌, length, map, drop, fold, Option, Some, None, Result, refl, ap, ap₂, sym, ◌∙◌, subst, set, get_or, slice_get, replicate, arith, true≢false, ◌+◌, ◌≤◌, append_assoc, append-nil}
 use Rattle.std.specs.List.{list_any}
+use Rattle.std.specs.Result.{IfOk}
+use Rattle.std.proofs.lemmas.Result.{IfOk-weaker}
 use Rattle.base_core.specs.declared.text.Text.{Text}
 use Rattle.node_core.specs.declared.derive.DeriveInput.{DeriveInput}
 use Rattle.error_fault.specs.declared.fault.Fault.{Fault}
@@ -13,18 +15,19 @@ use Rattle.machine_value.specs.declared.value.Value.TheVariants as value
 use Rattle.meaning_core.specs.declared.walk.Slot.{Slot as Held}
 use Rattle.meaning_core.specs.declared.walk.Slot.TheVariants.{Unseen, Failed, Read}
 use Rattle.machine_value.specs.Members.{no_value, struct_of, labelled}
-use Rattle.meaning_core.specs.Decl.{TextType}
-use Rattle.meaning_core.specs.Host.{no_host}
 use Rattle.meaning_core.specs.Entries.{events}
 use Rattle.meaning_core.specs.Owners.{each}
+use Rattle.meaning_core.specs.FieldValue.{missing_by}
 use Rattle.meaning_core.specs.Meaning.{joined, in_order}
-use Rattle.meaning_core.specs.Receiver.{no_earlier, receiver_decl, subject_meaning, text_field}
+use Rattle.meaning_core.specs.Receiver.{no_earlier, no_setting, receiver_decl, subject_meaning, text_field, text_type}
 use Rattle.meaning_core.specs.Slots.{slot_of, state_of, has_failed, IsTold, by_slot, missing_of, members_of}
-use Rattle.meaning_core.specs.State.{One, State, entry_step}
+use Rattle.machine_core.specs.State.{One, State}
+use Rattle.meaning_core.specs.EntrySteps.{entry_step}
 use Rattle.meaning_core.specs.Walk.{with_slots, field_slot, kept_by, slot_missing, slot_value, closed, behind}
 use Rattle.meaning_core.proofs.Arms.{has_flat-texts}
 use Rattle.meaning_core.proofs.Clean.{nil_left, nil_right}
 use Rattle.meaning_core.proofs.Direct.{direct_is_meaning, settle_same}
+use Rattle.meaning_core.proofs.Texts.{none-text}
 
 abbrev IsSomething : {A : Type 0} → Option A → Type 0
 IsSomething None = ⊥
@@ -64,15 +67,20 @@ not_nil : {A : Type 0} (x : A) (xs : List A) → x ∷ xs ≡ [] → ⊥
 not_nil x xs e = subst (λ ys. IsCons ys) e tt
 
 module _ (receiver : Receiver) where
-  missing-is : (fields : List Text) (slots : List Held) → joined (with_slots (slot_missing no_host no_earlier (receiver_decl receiver)) (map text_field fields) (map slot_of slots)) ≡ missing_of fields slots
+  abbrev Missing : List Text → List Held → List Fault
+  Missing fields slots = joined (with_slots (slot_missing no_setting no_earlier (receiver_decl receiver)) (map text_field fields) (map slot_of slots))
+
+  missing-is : (fields : List Text) (slots : List Held) → Missing fields slots ≡ missing_of fields slots
   missing-is [] slots = refl
   missing-is (field ∷ fields) [] = refl
-  missing-is (field ∷ fields) (Unseen ∷ slots) = ap (λ xs. plain (MissingField field) ∷ xs) (missing-is fields slots)
+  missing-is (field ∷ fields) (Unseen ∷ slots) =
+      ap (λ nothing. missing_by no_setting no_earlier (receiver_decl receiver) (text_field field) None nothing ++ Missing fields slots) none-text
+      ∙ ap (λ xs. plain (MissingField field) ∷ xs) (missing-is fields slots)
   missing-is (field ∷ fields) (Failed ∷ slots) = missing-is fields slots
   missing-is (field ∷ fields) (Read text ∷ slots) = missing-is fields slots
 
   abbrev outcomes : List Text → List Held → Outcome (List Datum)
-  outcomes fields slots = in_order (with_slots (slot_value no_host no_earlier (receiver_decl receiver) no_value) (map text_field fields) (map slot_of slots))
+  outcomes fields slots = in_order (with_slots (slot_value no_setting no_earlier (receiver_decl receiver) no_value) (map text_field fields) (map slot_of slots))
 
   abbrev member_names : List Text → List Text
   member_names fields = map (λ field. field.member) (map text_field fields)
@@ -88,7 +96,7 @@ module _ (receiver : Receiver) where
       ∙ ap (on_value (λ members. (field, value.Text text) ∷ members)) (members-are fields slots none sound)
 
   -- the faults and what is missing, else the struct of the texts
-  pub closed-is : (slots : List Held) (faults : List Fault) → IsTold slots faults → settle (faults ++ missing_of receiver.fields slots) (Value (struct_of receiver.name (members_of receiver.fields slots))) ≡ closed no_host no_earlier (receiver_decl receiver) (state_of slots faults)
+  pub closed-is : (slots : List Held) (faults : List Fault) → IsTold slots faults → settle (faults ++ missing_of receiver.fields slots) (Value (struct_of receiver.name (members_of receiver.fields slots))) ≡ closed no_setting no_earlier (receiver_decl receiver) (state_of slots faults)
   closed-is slots faults told =
       let found = faults ++ missing_of receiver.fields slots in
       let built : Outcome Datum = on_value (λ values. struct_of receiver.name (labelled (member_names receiver.fields) values)) (outcomes receiver.fields slots) in
@@ -98,25 +106,29 @@ module _ (receiver : Receiver) where
       settle_same found (Value (struct_of receiver.name (members_of receiver.fields slots))) built same
       ∙ ap (λ more. settle (faults ++ more) built) (sym (missing-is receiver.fields slots))
 
-  each-unseen : (fields : List Text) → map slot_of (replicate (length fields) Unseen) ≡ each (field_slot no_host no_earlier) (map text_field fields) (λ number. [])
+  each-unseen : (fields : List Text) → map slot_of (replicate (length fields) Unseen) ≡ each (field_slot no_setting no_earlier) (map text_field fields) (λ number. [])
   each-unseen [] = refl
-  each-unseen (field ∷ fields) = ap (λ slots. One TextType false None ∷ slots) (each-unseen fields)
+  each-unseen (field ∷ fields) = ap (λ slots. One text_type false None ∷ slots) (each-unseen fields)
 
   -- a walk begins where no entry has been seen
-  starts : state_of (replicate (length receiver.fields) Unseen) [] ≡ behind no_host no_earlier (receiver_decl receiver) []
+  starts : state_of (replicate (length receiver.fields) Unseen) [] ≡ behind no_setting no_earlier (receiver_decl receiver) []
   starts =
       ap₂ (λ slots kept. let s : State = record { slots = slots; faults = []; kept = kept; whole = no_value } in s)
       (each-unseen receiver.fields)
-      (ap (λ b. kept_by no_host no_earlier (receiver_decl receiver) b []) (sym (has_flat-texts receiver.fields)))
+      (ap (λ b. kept_by no_setting no_earlier (receiver_decl receiver) b []) (sym (has_flat-texts receiver.fields)))
 
   -- a whole walk gives what the subject means
   pub walk-means : (subject : DeriveInput) (slots : List Held) (faults : List Fault)
-      → state_of slots faults ≡ fold (entry_step no_host no_earlier (receiver_decl receiver)) (state_of (replicate (length receiver.fields) Unseen) []) (events receiver.attributes subject.attrs)
-      → closed no_host no_earlier (receiver_decl receiver) (state_of slots faults) ≡ subject_meaning (receiver_decl receiver) subject
+      → state_of slots faults ≡ fold (entry_step no_setting no_earlier (receiver_decl receiver)) (state_of (replicate (length receiver.fields) Unseen) []) (events receiver.attributes subject.attrs)
+      → closed no_setting no_earlier (receiver_decl receiver) (state_of slots faults) ≡ subject_meaning (receiver_decl receiver) subject
   walk-means subject slots faults e =
-      ap (closed no_host no_earlier (receiver_decl receiver)) e
-      ∙ ap (λ s. closed no_host no_earlier (receiver_decl receiver) (fold (entry_step no_host no_earlier (receiver_decl receiver)) s (events receiver.attributes subject.attrs))) starts
-      ∙ direct_is_meaning no_host no_earlier (receiver_decl receiver) (events receiver.attributes subject.attrs) (has_flat-texts receiver.fields)
+      ap (closed no_setting no_earlier (receiver_decl receiver)) e
+      ∙ ap (λ s. closed no_setting no_earlier (receiver_decl receiver) (fold (entry_step no_setting no_earlier (receiver_decl receiver)) s (events receiver.attributes subject.attrs))) starts
+      ∙ direct_is_meaning no_setting no_earlier (receiver_decl receiver) (events receiver.attributes subject.attrs) (has_flat-texts receiver.fields)
+
+-- a value is that of an equation too
+pub if-same : {A E : Type 0} (result : Result A E) (x y : A) → x ≡ y → IfOk result (λ it. it ≡ x) → IfOk result (λ it. it ≡ y)
+if-same result x y e known = IfOk-weaker result _ _ (λ it p. p ∙ e) known
 
 -- nothing has failed where nothing has been seen
 pub told-start : (n : ℕ) → IsTold (replicate n Unseen) []

@@ -1,12 +1,10 @@
--- Declarations as their options leave them: types, fields, and the fallback of a field.
+-- Declarations as their options leave them: fields, and the fallback of a field.
 use Rattle.std.specs.Prelude.{ℕ, Bool, true, false, cond, not, List, [], ◌∷◌, Option, Some, None}
 use Rattle.base_core.specs.declared.text.Text.{Text}
-
--- the type of a field: a text, a list, or what the declaration of this number makes
-pub data FieldType : Type 0 where
-  TextType : FieldType
-  ListType : FieldType → FieldType
-  DeclaredType : ℕ → FieldType
+use Rattle.node_expr.specs.declared.ty.«Type».{«Type» as Type'}
+use Rattle.util_core.specs.declared.callable.Callable.{Callable}
+use Rattle.codegen_program.specs.declared.arm.PostfixTransform.{PostfixTransform}
+use Rattle.codegen_program.specs.declared.program.Derive.{Derive}
 
 -- a field has one value, one for each of its items, or what no other field takes
 pub data Shape : Type 0 where
@@ -17,38 +15,29 @@ pub data Shape : Type 0 where
 -- a default: that of the type, or the answer of a callable
 pub data Default : Type 0 where
   ByType : Default
-  ByCall : Text → Default
-
--- what a value goes through at the end: the callable, and whether it may refuse
-pub record Transform : Type 0 where
-  pub callable : Text
-  pub may_refuse : Bool
+  ByCall : Callable → Default
 
 -- a field: `member` in the struct that is built, `name` in the items that are read
 pub record FieldDecl : Type 0 where
   pub member : Text
   pub name : Text
-  pub type : FieldType
+  pub type : Type'
   pub shape : Shape
   pub skip : Bool
   pub default : Option Default
-  pub with : Option Text
-  pub transform : Option Transform
+  pub with : Option Callable
+  pub transform : Option PostfixTransform
 
--- how a declaration is read: from a list of items, or from the attributes of an item
-pub data Derive : Type 0 where
-  FromMeta : Derive
-  FromDeriveInput : Derive
-
--- a declaration: its number among all, and the names of the attributes that it reads
+-- a declaration: its number among all, its type, and the names of the attributes that it reads
 pub record Decl : Type 0 where
   pub derives : List Derive
   pub number : ℕ
   pub name : Text
+  pub type : Type'
   pub attributes : List Text
   pub fields : List FieldDecl
   pub default : Option Default
-  pub transform : Option Transform
+  pub transform : Option PostfixTransform
   pub allows_unknown : Bool
 
 -- the field is neither skipped nor flattened, so items name it
@@ -65,13 +54,11 @@ abbrev pub names : List FieldDecl → List Text
 names [] = []
 names (field ∷ fields) = cond (is_named field) (field.name ∷ names fields) (names fields)
 
--- the type of one value of a field
-abbrev pub element : Shape → FieldType → FieldType
-element Many (ListType type) = type
-element Many TextType = TextType
-element Many (DeclaredType number) = DeclaredType number
-element Single type = type
-element Flat type = type
+-- the field has a value for each of its items
+abbrev pub is_many : Shape → Bool
+is_many Single = false
+is_many Many = true
+is_many Flat = false
 
 abbrev pub is_flat : Shape → Bool
 is_flat Flat = true
@@ -86,7 +73,7 @@ has_flat (field ∷ fields) = cond (is_flat field.shape) true (has_flat fields)
 -- container's default
 pub data Fallback : Type 0 where
   OfType : Fallback
-  OfCall : Text → Fallback
+  OfCall : Callable → Fallback
   OfContainer : Text → Fallback
 
 -- a skipped field falls back on its type

@@ -1,15 +1,19 @@
 -- The meaning of a struct: the faults that are collected, else the value that is built.
-use Rattle.std.specs.Prelude.{ℕ, List, [], ◌∷◌, ◌++◌, map, Option, Some, None}
+use Rattle.std.specs.Prelude.{List, [], ◌∷◌, ◌++◌, map, Option, Some, None}
 use Rattle.error_fault.specs.declared.fault.Fault.{Fault}
 use Rattle.error_fault.specs.Outcome.{Outcome, Value, bind, on_value, settle}
 use Rattle.machine_value.specs.declared.value.Value.{Value as Datum}
 use Rattle.machine_value.specs.Members.{no_value, struct_of, labelled}
-use Rattle.meaning_core.specs.Decl.{DeclaredType, Default, ByType, ByCall, Decl}
-use Rattle.meaning_core.specs.Host.{Host}
-use Rattle.meaning_core.specs.Convert.{Earlier, default}
+use Rattle.machine_host.specs.Seen.{NothingSeen}
+use Rattle.machine_host.specs.declared.place.Use.TheVariants as use_at
+use Rattle.node_expr.specs.declared.ty.«Type».{«Type» as Type'}
+use Rattle.meaning_core.specs.Decl.{Default, ByType, ByCall, Decl}
+use Rattle.machine_core.specs.Setting.{Setting, ask}
+use Rattle.machine_core.specs.Convert.{Earlier, default}
 use Rattle.meaning_core.specs.Entries.{Entry, items}
 use Rattle.meaning_core.specs.Owners.{own, each}
-use Rattle.meaning_core.specs.EntryFaults.{transformed, all_entry_faults}
+use Rattle.machine_core.specs.Reading.{transformed}
+use Rattle.meaning_core.specs.EntryFaults.{all_entry_faults}
 use Rattle.meaning_core.specs.FieldValue.{flat_faults, missing, field_value}
 
 -- the lists, one after another
@@ -22,25 +26,25 @@ abbrev pub in_order : List (Outcome Datum) → Outcome (List Datum)
 in_order [] = Value []
 in_order (outcome ∷ outcomes) = bind outcome (λ value. on_value (λ values. value ∷ values) (in_order outcomes))
 
--- the default of a declaration of this number
-abbrev pub default_outcome : Host → ℕ → Default → Outcome Datum
-default_outcome host number ByType = Value (default host (DeclaredType number))
-default_outcome host number (ByCall callable) = host.default_by callable (DeclaredType number)
+-- the default of a declaration, which is this type
+abbrev pub default_outcome : Setting → Type' → Default → Outcome Datum
+default_outcome setting type ByType = Value (default setting type)
+default_outcome setting type (ByCall callable) = ask setting callable use_at.Default type NothingSeen
 
 -- the container's default, where it has one
-abbrev pub whole_default : Host → ℕ → Option Default → Outcome Datum
-whole_default host number None = Value no_value
-whole_default host number (Some given) = default_outcome host number given
+abbrev pub whole_default : Setting → Type' → Option Default → Outcome Datum
+whole_default setting type None = Value no_value
+whole_default setting type (Some given) = default_outcome setting type given
 
-module _ (host : Host) (earlier : Earlier) (decl : Decl) where
+module _ (setting : Setting) (earlier : Earlier) (decl : Decl) where
   -- the faults of all entries, those of what stands around them (`outer`), then the flattened fields' and the missing
   -- fields'
   abbrev pub collected_with : List Fault → List Entry → List Fault
   collected_with outer entries =
-      all_entry_faults host earlier decl [] entries
+      all_entry_faults setting earlier decl [] entries
       ++ (outer
-      ++ (joined (each (λ field own_items. flat_faults host earlier decl field field.shape (items entries)) decl.fields (own decl.fields (items entries)))
-      ++ joined (each (λ field own_items. missing host earlier decl field field.shape own_items) decl.fields (own decl.fields (items entries)))))
+      ++ (joined (each (λ field own_items. flat_faults setting earlier decl field field.shape (items entries)) decl.fields (own decl.fields (items entries)))
+      ++ joined (each (λ field own_items. missing setting earlier decl field field.shape own_items) decl.fields (own decl.fields (items entries)))))
 
   -- the collected faults of entries alone
   abbrev pub collected : List Entry → List Fault
@@ -50,14 +54,14 @@ module _ (host : Host) (earlier : Earlier) (decl : Decl) where
   abbrev pub built_struct : Datum → List Entry → Outcome Datum
   built_struct whole entries =
       on_value (λ values. struct_of decl.name (labelled (map (λ field. field.member) decl.fields) values))
-      (in_order (each (λ field own_items. field_value host earlier decl whole (items entries) field field.shape own_items) decl.fields (own decl.fields (items entries))))
+      (in_order (each (λ field own_items. field_value setting earlier decl whole (items entries) field field.shape own_items) decl.fields (own decl.fields (items entries))))
 
   -- the collected faults, else the struct behind the container's default and transform
   abbrev pub meaning_with : List Fault → List Entry → Outcome Datum
   meaning_with outer entries =
       settle (collected_with outer entries)
-      (transformed host earlier decl.transform (DeclaredType decl.number)
-      (bind (whole_default host decl.number decl.default) (λ whole. built_struct whole entries)))
+      (transformed setting earlier decl.transform decl.type
+      (bind (whole_default setting decl.type decl.default) (λ whole. built_struct whole entries)))
 
   -- what the entries mean
   abbrev pub struct_meaning : List Entry → Outcome Datum

@@ -1,11 +1,11 @@
 -- Owners: which field an item belongs to.
-use Rattle.std.specs.Prelude.{ℕ, ◌==◌, zero, suc, Bool, true, false, cond, List, [], ◌∷◌, filter, Option, Some, None, option_map, is_none}
+use Rattle.std.specs.Prelude.{ℕ, ◌==◌, zero, suc, Bool, true, false, cond, List, [], ◌∷◌, filter, Option, Some, None, option_and_then, option_map, is_none}
 use Rattle.std.specs.Str.{bytes_eq}
 use Rattle.base_core.specs.declared.text.Text.{Text}
-use Rattle.run_first.specs.declared.nested.NestedMeta.{NestedMeta}
-use Rattle.run_first.specs.declared.nested.NestedMeta.TheVariants as nested
-use Rattle.meaning_core.specs.Node.{meta_name}
-use Rattle.meaning_core.specs.Decl.{FieldDecl, TextType, Single, is_named}
+use Rattle.meta_nested.specs.declared.nested.NestedMeta.{NestedMeta}
+use Rattle.machine_host.specs.Made.{named_type}
+use Rattle.machine_core.specs.Names.{item_name}
+use Rattle.meaning_core.specs.Decl.{FieldDecl, Single, is_named}
 
 -- items name the field so
 abbrev pub has_this_name : FieldDecl → Text → Bool
@@ -18,8 +18,7 @@ owner_named (field ∷ fields) name = cond (has_this_name field name) (Some zero
 
 -- the number of the field that owns an item; a literal has no owner
 abbrev pub owner : List FieldDecl → NestedMeta → Option ℕ
-owner fields (nested.Lit it) = None
-owner fields (nested.Meta it) = owner_named fields (meta_name it)
+owner fields item = option_and_then (owner_named fields) (item_name item)
 
 abbrev pub is_this : ℕ → Option ℕ → Bool
 is_this number None = false
@@ -29,10 +28,13 @@ is_this number (Some other) = other == number
 abbrev pub own : List FieldDecl → List NestedMeta → ℕ → List NestedMeta
 own fields items number = filter (λ item. is_this number (owner fields item)) items
 
+abbrev pub is_unclaimed_name : List FieldDecl → Option Text → Bool
+is_unclaimed_name fields None = false
+is_unclaimed_name fields (Some name) = is_none (owner_named fields name)
+
 -- no literal, and without an owner
 abbrev pub is_unclaimed : List FieldDecl → NestedMeta → Bool
-is_unclaimed fields (nested.Lit it) = false
-is_unclaimed fields (nested.Meta it) = is_none (owner_named fields (meta_name it))
+is_unclaimed fields item = is_unclaimed_name fields (item_name item)
 
 -- the items that no field owns, in order
 abbrev pub unclaimed : List FieldDecl → List NestedMeta → List NestedMeta
@@ -40,7 +42,7 @@ unclaimed fields items = filter (is_unclaimed fields) items
 
 -- a field that no item names, which stands where there is no field of a number
 abbrev pub no_field : FieldDecl
-no_field = record { member = []; name = []; type = TextType; shape = Single; skip = true; default = None; with = None; transform = None }
+no_field = record { member = []; name = []; type = named_type []; shape = Single; skip = true; default = None; with = None; transform = None }
 
 -- the field of a number
 abbrev pub field_at : List FieldDecl → ℕ → FieldDecl

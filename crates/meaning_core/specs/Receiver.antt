@@ -11,8 +11,8 @@ use Rattle.tok_types.specs.declared.ident.Ident.{Ident}
 use Rattle.node_core.specs.declared.attr.Attribute.{Attribute}
 use Rattle.node_core.specs.declared.attr.Meta.{Meta}
 use Rattle.node_core.specs.declared.attr.Meta.TheVariants as meta
-use Rattle.node_core.specs.declared.data.Data.{Data}
-use Rattle.node_core.specs.declared.data.Data.TheVariants as body
+use Rattle.node_core.specs.declared.data.«Data».{«Data»}
+use Rattle.node_core.specs.declared.data.«Data».TheVariants as body
 use Rattle.node_core.specs.declared.data.Field.{Field}
 use Rattle.node_core.specs.declared.data.Fields.{Fields}
 use Rattle.node_core.specs.declared.data.Fields.TheVariants as fields
@@ -21,10 +21,16 @@ use Rattle.error_fault.specs.declared.kind.FaultKind.TheVariants.{Custom}
 use Rattle.error_fault.specs.Outcome.{Outcome, refused}
 use Rattle.meaning_core.specs.declared.receiver.Receiver.{Receiver}
 use Rattle.machine_value.specs.declared.value.Value.{Value as Datum}
-use Rattle.meaning_core.specs.Node.{meta_name}
-use Rattle.meaning_core.specs.Decl.{TextType, Single, FieldDecl, FromDeriveInput, Decl}
-use Rattle.meaning_core.specs.Host.{no_host}
-use Rattle.meaning_core.specs.Convert.{Earlier}
+use Rattle.codegen_program.specs.declared.program.Derive.TheVariants.{FromDeriveInput}
+use Rattle.node_expr.specs.declared.ty.«Type».{«Type» as Type'}
+use Rattle.meta_nested.specs.declared.nested.NestedMeta.{NestedMeta}
+use Rattle.machine_host.specs.Made.{named_type}
+use Rattle.machine_host.specs.Refusing.{refusing}
+use Rattle.machine_core.specs.Names.{meta_name}
+use Rattle.meaning_core.specs.Decl.{Single, FieldDecl, Decl}
+use Rattle.machine_core.specs.Setting.{Setting}
+use Rattle.machine_core.specs.Convert.{Earlier}
+use Rattle.machine_core.specs.Reading.{read_at}
 use Rattle.meaning_core.specs.Entries.{events}
 use Rattle.meaning_core.specs.Meaning.{struct_meaning}
 
@@ -69,7 +75,7 @@ option_names (word ∷ group ∷ other ∷ more) = []
 -- the names in `darling(attributes(names))`
 abbrev pub meta_names : Meta → List Text
 meta_names (meta.Path path) = []
-meta_names (meta.List list) = if bytes_eq (meta_name (meta.List list)) (codes "darling") then option_names (out-TokenStream list.tokens).trees else []
+meta_names (meta.«List» list) = if bytes_eq (meta_name (meta.«List» list)) (codes "darling") then option_names (out-TokenStream list.tokens).trees else []
 meta_names (meta.NameValue pair) = []
 
 -- the names of the attributes that the declaration reads
@@ -90,15 +96,19 @@ names_of (fields.Unnamed it) = []
 names_of fields.Unit = []
 
 -- the names of the fields of a struct
-abbrev pub field_names : Data → List Text
+abbrev pub field_names : «Data» → List Text
 field_names (body.Struct it) = names_of it.fields
 field_names (body.Enum it) = []
 field_names (body.Union it) = []
 
+-- the type of a text
+unfoldable pub text_type : Type'
+text_type = named_type (codes "String")
+
 -- a field that has to be given, as a text
 abbrev pub text_field : Text → FieldDecl
 text_field name =
-    record { member = name; name = name; type = TextType; shape = Single; skip = false; default = None; with = None; transform = None }
+    record { member = name; name = name; type = text_type; shape = Single; skip = false; default = None; with = None; transform = None }
 
 -- the receiver of a declaration: its name, the names of the attributes that it reads, and those of its fields
 abbrev pub receiver_of : DeriveInput → Receiver
@@ -108,19 +118,27 @@ receiver_of declaration =
 -- the declaration of a receiver: each field is a text that has to be given
 abbrev pub receiver_decl : Receiver → Decl
 receiver_decl receiver =
-    record { derives = FromDeriveInput ∷ []; number = 0; name = receiver.name; attributes = receiver.attributes; fields = map text_field receiver.fields; default = None; transform = None; allows_unknown = false }
+    record { derives = FromDeriveInput ∷ []; number = 0; name = receiver.name; type = named_type receiver.name; attributes = receiver.attributes; fields = map text_field receiver.fields; default = None; transform = None; allows_unknown = false }
 
 -- the declaration that a struct makes
 abbrev pub decl_of : DeriveInput → Decl
 decl_of declaration = receiver_decl (receiver_of declaration)
 
+-- no declaration is named, and no host is asked
+unfoldable pub no_setting : Setting
+no_setting = record { host = refusing; decls = [] }
+
 -- no declaration stands in front of the receiver
 abbrev pub no_earlier : Earlier
 no_earlier number items = refused (Custom (codes "no declaration"))
 
+-- an item, read as a text
+abbrev pub text_outcome : NestedMeta → Outcome Datum
+text_outcome item = read_at no_setting no_earlier None None text_type item
+
 -- what a subject means under a declaration
 abbrev pub subject_meaning : Decl → DeriveInput → Outcome Datum
-subject_meaning decl subject = struct_meaning no_host no_earlier decl (events decl.attributes subject.attrs)
+subject_meaning decl subject = struct_meaning no_setting no_earlier decl (events decl.attributes subject.attrs)
 
 -- what a subject means under the struct of a declaration
 abbrev pub item_meaning : DeriveInput → DeriveInput → Outcome Datum

@@ -1,29 +1,23 @@
 -- The slots of a walk over a struct of texts.
-use Rattle.std.specs.Prelude.{◌≢◌, Bool, true, false, IsTrue, List, [], ◌∷◌, ◌++◌, map, Some, None, Ok, Err, Result}
+use Rattle.std.specs.Prelude.{◌≢◌, Bool, true, false, IsTrue, List, [], ◌∷◌, ◌++◌, map, Some, None}
 use Rattle.std.specs.List.{list_any}
 use Rattle.base_core.specs.declared.text.Text.{Text}
 use Rattle.error_fault.specs.declared.fault.Fault.{Fault}
 use Rattle.error_fault.specs.declared.kind.FaultKind.TheVariants.{MissingField}
 use Rattle.error_fault.specs.Fault.{plain}
-use Rattle.error_fault.specs.Outcome.{Outcome, Value, Faults}
 use Rattle.machine_value.specs.declared.value.Value.{Value as Datum}
 use Rattle.machine_value.specs.declared.value.Value.TheVariants as value
 use Rattle.meaning_core.specs.declared.walk.Slot.{Slot as Held}
 use Rattle.meaning_core.specs.declared.walk.Slot.TheVariants.{Unseen, Failed, Read}
 use Rattle.machine_value.specs.Members.{no_value}
-use Rattle.meaning_core.specs.Decl.{TextType}
-use Rattle.meaning_core.specs.State.{Slot, One, State}
-
--- a text, or the one fault that stands in its way
-abbrev pub text_outcome : Result Text Fault → Outcome Datum
-text_outcome (Ok text) = Value (value.Text text)
-text_outcome (Err fault) = Faults fault []
+use Rattle.meaning_core.specs.Receiver.{text_type}
+use Rattle.machine_core.specs.State.{Slot, One, State}
 
 -- the place of one text
 abbrev pub slot_of : Held → Slot
-slot_of Unseen = One TextType false None
-slot_of Failed = One TextType true None
-slot_of (Read text) = One TextType true (Some (value.Text text))
+slot_of Unseen = One text_type false None
+slot_of Failed = One text_type true None
+slot_of (Read text) = One text_type true (Some (value.Text text))
 
 -- the state of a walk with these slots and faults
 abbrev pub state_of : List Held → List Fault → State

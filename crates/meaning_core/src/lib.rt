@@ -1,4 +1,5 @@
-//! What declarations mean, and the walk that reads a subject under one.
+//! What declarations mean, by filters over the entries of attributes, and the walk that reads a subject
+//! under one.
 //!
 //! `specs/` has the meaning: the entries of a subject's attributes, the owner of each item, the faults
 //! of each entry, the value of each field. Nothing in it follows a program's loops.
@@ -6,10 +7,8 @@
 
 mod laws;
 mod names;
-mod node;
 mod outcome;
 mod receiver;
-mod text;
 mod walk;
 
 pub use error_fault::{Fault, FaultKind, Items, Mem, Span, Text, TryClone};

@@ -1,8 +1,8 @@
 //! A declaration as a reading of subjects needs it.
 
 ghost use Rattle.std.specs.Prelude.{◌≡◌, ◌++◌, IfOk, OnOk};
-ghost use Rattle.meaning_core.specs.Entries.{has_name};
-ghost use Rattle.meaning_core.specs.Node.{meta_name};
+ghost use Rattle.machine_core.specs.Attributes.{has_name};
+ghost use Rattle.machine_core.specs.Names.{meta_name};
 ghost use Rattle.meaning_core.specs.Receiver.{receiver_of, receiver_decl, subject_meaning, option_names, meta_names, words_of, field_names, attribute_names};
 
 use crate::names::Names;
@@ -37,7 +37,7 @@ impl Receiver {
     }
 
     /// Whether an attribute of this meta is one that the declaration reads.
-    pub fn reads(&self, alloc: Global, meta: &Meta) -> Mem<bool>
+    pub(crate) fn reads(&self, alloc: Global, meta: &Meta) -> Mem<bool>
         ensures { IfOk result (λ reads. reads ≡ has_name self.now.attributes (meta_name meta.now)) }
     {
         let name = path_to_string(alloc, meta.path())?;

@@ -1,25 +1,31 @@
 //! The walk over the attributes of a subject.
 
-ghost use Rattle.std.specs.Prelude.{◌≡◌, ◌++◌, ◌∷◌, [], ◌<◌, None, IfOk, OnOk, length, map, fold, replicate};
-ghost use Rattle.run_first.specs.declared.nested.NestedMeta.TheVariants as nested;
-ghost use Rattle.meaning_core.specs.Decl.{TextType};
-ghost use Rattle.meaning_core.specs.Host.{no_host};
-ghost use Rattle.meaning_core.specs.EntryFaults.{read_at};
-ghost use Rattle.meaning_core.specs.Entries.{ItemEntry, entries_of, events, name_value_fault};
-ghost use Rattle.meaning_core.specs.Receiver.{no_earlier, receiver_decl, text_field};
+ghost use Rattle.std.specs.Prelude.{◌≡◌, ◌++◌, ◌∷◌, [], ◌<◌, IfOk, OnOk, length, map, fold, replicate};
+ghost use Rattle.error_core.specs.Answers.{Answers};
+ghost use Rattle.machine_value.specs.declared.value.Value.TheVariants as value;
+ghost use Rattle.meta_cells.specs.Dispatch as dispatch;
+ghost use Rattle.meaning_core.specs.Entries.{ItemEntry, entries_of, events, list_entries};
+ghost use Rattle.machine_core.specs.Attributes.{name_value_fault};
+ghost use Rattle.machine_core.specs.Names.{item_name};
+ghost use Rattle.meaning_core.specs.Receiver.{no_earlier, no_setting, receiver_decl, text_field, text_outcome, text_type};
 ghost use Rattle.meaning_core.specs.Slots.{IsTold, member_one, missing_one, slot_of, state_of};
-ghost use Rattle.meaning_core.specs.State.{arm, arm_slot, arms, entry_step, filled, put, rest, slot_at, step};
+ghost use Rattle.meaning_core.specs.EntrySteps.{arm, arms, entry_step, rest};
+ghost use Rattle.machine_core.specs.State.{arm_slot, filled, put, slot_at, step};
 ghost use Rattle.meaning_core.specs.Walk.{closed};
 
 use crate::outcome::Outcome;
 use crate::receiver::Receiver;
-use crate::text::{list_fault, read_text};
+use error_core::Result;
 use error_fault::Fault;
 use machine_value::{Style, Value};
-use node_core::{Attribute, Items, Mem, Meta, Text, TryClone, path_to_string, push_full_path};
+use meta_cells::items_of;
+use meta_core::FromMeta;
+use meta_nested::NestedMeta;
+use node_core::{
+    Attribute, Items, Mem, Meta, Text, TokenStream, TryClone, path_to_string, push_full_path,
+};
 use node_span::Spanned;
-use run_first::{NestedMeta, parse_meta_list};
-use std::alloc::Global;
+use std::alloc::{AllocError, Global};
 
 /// What the items so far have given a field.
 pub(crate) enum Slot {
@@ -57,7 +63,7 @@ impl Walk {
         attributes: &[Attribute],
     ) -> Mem<()>
         requires { length self.old.slots ≡ length receiver.now.fields }
-        ensures state { OnOk result (state_of self.new.slots self.new.faults ≡ fold (entry_step no_host no_earlier (receiver_decl receiver.now)) (state_of self.old.slots self.old.faults) (events receiver.now.attributes attributes.now)) }
+        ensures state { OnOk result (state_of self.new.slots self.new.faults ≡ fold (entry_step no_setting no_earlier (receiver_decl receiver.now)) (state_of self.old.slots self.old.faults) (events receiver.now.attributes attributes.now)) }
         ensures slots { OnOk result (length self.new.slots ≡ length receiver.now.fields) }
         ensures told { OnOk result (IsTold self.old.slots self.old.faults → IsTold self.new.slots self.new.faults) }
     {
@@ -71,19 +77,13 @@ impl Walk {
 
     fn take_attribute(&mut self, alloc: Global, receiver: &Receiver, meta: &Meta) -> Mem<()>
         requires { length self.old.slots ≡ length receiver.now.fields }
-        ensures state { OnOk result (state_of self.new.slots self.new.faults ≡ fold (entry_step no_host no_earlier (receiver_decl receiver.now)) (state_of self.old.slots self.old.faults) (entries_of meta.now)) }
+        ensures state { OnOk result (state_of self.new.slots self.new.faults ≡ fold (entry_step no_setting no_earlier (receiver_decl receiver.now)) (state_of self.old.slots self.old.faults) (entries_of meta.now)) }
         ensures slots { OnOk result (length self.new.slots ≡ length receiver.now.fields) }
         ensures told { OnOk result (IsTold self.old.slots self.old.faults → IsTold self.new.slots self.new.faults) }
     {
         match meta {
             Meta::Path(_) => Ok(()),
-            Meta::List(list) => match parse_meta_list(alloc, &list.tokens)? {
-                Some(items) => self.take_items(alloc, receiver, items.as_slice()),
-                None => {
-                    let fault = list_fault(alloc, &list.tokens)?;
-                    self.faults.push(fault)
-                }
-            },
+            Meta::List(list) => self.take_list(alloc, receiver, &list.tokens),
             Meta::NameValue(_) => {
                 let fault = name_value_fault(alloc, meta)?;
                 self.faults.push(fault)
@@ -91,9 +91,26 @@ impl Walk {
         }
     }
 
+    /// Takes the items of a list, or the faults of tokens that are none.
+    fn take_list(&mut self, alloc: Global, receiver: &Receiver, tokens: &TokenStream) -> Mem<()>
+        requires { length self.old.slots ≡ length receiver.now.fields }
+        ensures state { OnOk result (state_of self.new.slots self.new.faults ≡ fold (entry_step no_setting no_earlier (receiver_decl receiver.now)) (state_of self.old.slots self.old.faults) (list_entries (dispatch.items_of tokens.now))) }
+        ensures slots { OnOk result (length self.new.slots ≡ length receiver.now.fields) }
+        ensures told { OnOk result (IsTold self.old.slots self.old.faults → IsTold self.new.slots self.new.faults) }
+    {
+        match items_of(alloc, tokens) {
+            Ok(items) => self.take_items(alloc, receiver, items.as_slice()),
+            Err(fail) => {
+                let error = fail.into_error().ok_or(AllocError)?;
+                let faults = error.into_faults(alloc)?;
+                self.faults.append(faults)
+            }
+        }
+    }
+
     fn take_items(&mut self, alloc: Global, receiver: &Receiver, items: &[NestedMeta]) -> Mem<()>
         requires { length self.old.slots ≡ length receiver.now.fields }
-        ensures state { OnOk result (state_of self.new.slots self.new.faults ≡ fold (entry_step no_host no_earlier (receiver_decl receiver.now)) (state_of self.old.slots self.old.faults) (map ItemEntry items.now)) }
+        ensures state { OnOk result (state_of self.new.slots self.new.faults ≡ fold (entry_step no_setting no_earlier (receiver_decl receiver.now)) (state_of self.old.slots self.old.faults) (map ItemEntry items.now)) }
         ensures slots { OnOk result (length self.new.slots ≡ length receiver.now.fields) }
         ensures told { OnOk result (IsTold self.old.slots self.old.faults → IsTold self.new.slots self.new.faults) }
     {
@@ -105,67 +122,63 @@ impl Walk {
 
     fn take_item(&mut self, alloc: Global, receiver: &Receiver, item: &NestedMeta) -> Mem<()>
         requires { length self.old.slots ≡ length receiver.now.fields }
-        ensures state { OnOk result (state_of self.new.slots self.new.faults ≡ step no_host no_earlier (arms (receiver_decl receiver.now)) (rest (receiver_decl receiver.now)) (state_of self.old.slots self.old.faults) item.now) }
+        ensures state { OnOk result (state_of self.new.slots self.new.faults ≡ step no_setting no_earlier (arms (receiver_decl receiver.now)) (rest (receiver_decl receiver.now)) (state_of self.old.slots self.old.faults) item.now) }
         ensures slots { OnOk result (length self.new.slots ≡ length receiver.now.fields) }
         ensures told { OnOk result (IsTold self.old.slots self.old.faults → IsTold self.new.slots self.new.faults) }
     {
-        match item {
-            NestedMeta::Lit(lit) => {
-                let fault = Fault::unexpected_format(alloc, "literal", lit.spanned())?;
+        let Some(name) = item_name(alloc, item)? else {
+            let fault = Fault::unexpected_format(alloc, "literal", item.spanned())?;
+            return self.faults.push(fault);
+        };
+        let fields = &receiver.fields;
+        match fields.place_of(name.as_str()) {
+            Some(at) => self.fill(alloc, at, &fields.as_slice()[at], item),
+            None => {
+                let fault = Fault::unknown_field_among(
+                    alloc,
+                    name.as_str(),
+                    fields.as_set(),
+                    item.spanned(),
+                )?;
                 self.faults.push(fault)
-            }
-            NestedMeta::Meta(meta) => {
-                let name = path_to_string(alloc, meta.path())?;
-                let fields = &receiver.fields;
-                match fields.place_of(name.as_str()) {
-                    Some(at) => self.fill(alloc, at, &fields.as_slice()[at], meta),
-                    None => {
-                        let fault = Fault::unknown_field_among(
-                            alloc,
-                            name.as_str(),
-                            fields.as_set(),
-                            meta.spanned(),
-                        )?;
-                        self.faults.push(fault)
-                    }
-                }
             }
         }
     }
 
     /// Takes an item of the field `name`, whose place is `at`: its first item is read, a later one is
     /// refused.
-    fn fill(&mut self, alloc: Global, at: usize, name: &Text, meta: &Meta) -> Mem<()>
+    fn fill(&mut self, alloc: Global, at: usize, name: &Text, item: &NestedMeta) -> Mem<()>
         requires { at < length self.old.slots }
-        ensures state { OnOk result (state_of self.new.slots self.new.faults ≡ put at (arm_slot no_host no_earlier (arm at (text_field name.now)) (nested.Meta meta.now) (slot_at (map slot_of self.old.slots) at)) (state_of self.old.slots self.old.faults)) }
+        ensures state { OnOk result (state_of self.new.slots self.new.faults ≡ put at (arm_slot no_setting no_earlier (arm at (text_field name.now)) item.now (slot_at (map slot_of self.old.slots) at)) (state_of self.old.slots self.old.faults)) }
         ensures slots { OnOk result (length self.new.slots ≡ length self.old.slots) }
         ensures told { OnOk result (IsTold self.old.slots self.old.faults → IsTold self.new.slots self.new.faults) }
     {
         match self.slots.as_slice()[at] {
-            Slot::Unseen => self.read_first(alloc, at, name, meta),
+            Slot::Unseen => self.read_first(alloc, at, name, item),
             Slot::Failed | Slot::Read(_) => {
-                let fault = Fault::duplicate_field(alloc, name.as_str(), meta.spanned())?;
+                let fault = Fault::duplicate_field(alloc, name.as_str(), item.spanned())?;
                 self.faults.push(fault)
             }
         }
     }
 
     /// Reads an item into the slot at `at`.
-    fn read_first(&mut self, alloc: Global, at: usize, name: &Text, meta: &Meta) -> Mem<()>
+    fn read_first(&mut self, alloc: Global, at: usize, name: &Text, item: &NestedMeta) -> Mem<()>
         requires { at < length self.old.slots }
-        ensures state { OnOk result (state_of self.new.slots self.new.faults ≡ put at (filled TextType name.now (read_at no_host no_earlier None None TextType (nested.Meta meta.now))) (state_of self.old.slots self.old.faults)) }
+        ensures state { OnOk result (state_of self.new.slots self.new.faults ≡ put at (filled text_type name.now (text_outcome item.now)) (state_of self.old.slots self.old.faults)) }
         ensures slots { OnOk result (length self.new.slots ≡ length self.old.slots) }
         ensures told { OnOk result (IsTold self.old.slots self.old.faults → IsTold self.new.slots self.new.faults) }
     {
-        match read_text(alloc, meta)? {
+        match read_text(alloc, item) {
             Ok(text) => {
                 self.slots.set(at, Slot::Read(text));
                 Ok(())
             }
-            Err(fault) => {
-                let fault = fault.located(alloc, name.as_str())?;
+            Err(fail) => {
+                let error = fail.into_error().ok_or(AllocError)?;
+                let faults = error.at(alloc, name.as_str())?.into_faults(alloc)?;
                 self.slots.set(at, Slot::Failed);
-                self.faults.push(fault)
+                self.faults.append(faults)
             }
         }
     }
@@ -174,7 +187,7 @@ impl Walk {
     pub(crate) fn finish(self, alloc: Global, receiver: &Receiver) -> Mem<Outcome>
         requires slots { length self.slots ≡ length receiver.now.fields }
         requires told { IsTold self.slots self.faults }
-        ensures { IfOk result (λ outcome. outcome ≡ closed no_host no_earlier (receiver_decl receiver.now) (state_of self.slots self.faults)) }
+        ensures { IfOk result (λ outcome. outcome ≡ closed no_setting no_earlier (receiver_decl receiver.now) (state_of self.slots self.faults)) }
     {
         let Walk {
             mut slots,
@@ -228,7 +241,25 @@ impl Slot {
     }
 }
 
-pub(crate) fn name_value_fault(alloc: Global, meta: &Meta) -> Mem<Fault>
+/// The name of an item; a literal has none.
+fn item_name(alloc: Global, item: &NestedMeta) -> Mem<Option<Text>>
+    ensures { IfOk result (λ name. name ≡ item_name item.now) }
+{
+    match item {
+        NestedMeta::Meta(it) => Ok(Some(path_to_string(alloc, it.path())?)),
+        NestedMeta::Lit(_) => Ok(None),
+        NestedMeta::NameValueInvalidExpr(it) => Ok(Some(path_to_string(alloc, &it.path)?)),
+    }
+}
+
+/// The text that an item gives.
+fn read_text(alloc: Global, item: &NestedMeta) -> Result<Text>
+    ensures { Answers value.Text result (text_outcome item.now) }
+{
+    Text::from_nested_meta(alloc, item)
+}
+
+fn name_value_fault(alloc: Global, meta: &Meta) -> Mem<Fault>
     ensures { IfOk result (λ fault. fault ≡ name_value_fault meta.now) }
 {
     let mut message = Text::from_str(alloc, "Name-value arguments are not supported. Use #[")?;

@@ -4,7 +4,7 @@ use Rattle.tok_types.specs.declared.tree.Delimiter.{Delimiter}
 use Rattle.tok_types.specs.declared.tree.Delimiter.TheVariants.{Parenthesis, Bracket}
 use Rattle.tok_types.specs.declared.tree.Group.{Group, out-Group}
 use Rattle.tok_types.specs.declared.tree.TokenTree.{TokenTree}
-use Rattle.run_first.specs.Tree.{word_named, mark, group, trees_of}
+use Rattle.run_form.specs.Tree.{word_named, mark, group, trees_of}
 use Rattle.run_form.specs.Name.{identifier}
 
 abbrev pub trees_in : Option Group → List TokenTree

@@ -4,7 +4,7 @@ use Rattle.tok_types.specs.declared.tree.Delimiter.TheVariants.{Brace}
 use Rattle.tok_types.specs.declared.tree.Group.{Group, out-Group}
 use Rattle.tok_types.specs.declared.tree.TokenStream.{TokenStream}
 use Rattle.tok_types.specs.declared.tree.TokenTree.{TokenTree}
-use Rattle.run_first.specs.Tree.{word_named, group, trees_of}
+use Rattle.run_form.specs.Tree.{word_named, group, trees_of}
 use Rattle.run_form.specs.Attribute.{derives, reads_attribute}
 use Rattle.run_form.specs.Field.{are_fields}
 use Rattle.run_form.specs.Name.{declared_name}

@@ -3,7 +3,7 @@ use Rattle.std.specs.Prelude.{ℕ, Bool, ◌||◌, if◌then◌else◌, List, []
 use Rattle.std.specs.List.{list_any}
 use Rattle.tok_types.specs.declared.ident.Ident.{Ident}
 use Rattle.tok_types.specs.declared.tree.TokenTree.{TokenTree}
-use Rattle.run_first.specs.Tree.{◌>>=◌, word}
+use Rattle.run_form.specs.Tree.{◌>>=◌, word}
 use Rattle.std.specs.Str.{bytes_eq}
 
 unfoldable pub keywords : List (List ℕ)

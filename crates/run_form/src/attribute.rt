@@ -4,7 +4,7 @@ ghost use Rattle.std.specs.Prelude.{◌≡◌};
 ghost use Rattle.run_form.specs.Attribute.{contents, derives, reads_attribute, is_attributes, is_darling, is_derive, is_identifier, is_word};
 
 use crate::name::identifier;
-use run_first::{group, mark, word_named};
+use crate::tree::{group, mark, word_named};
 use tok_types::{Delimiter, TokenTree};
 
 /// `#[derive(FromDeriveInput)]`

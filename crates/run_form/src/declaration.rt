@@ -7,8 +7,8 @@ ghost use Rattle.run_form.specs.FirstForm.{holds_fields, is_declaration, is_firs
 use crate::attribute::{derives, reads_attribute};
 use crate::field::are_fields;
 use crate::name::declared_name;
+use crate::tree::{group, word_named};
 use base_core::Mem;
-use run_first::{group, word_named};
 use std::alloc::Global;
 use tok_types::{Delimiter, Group, TokenStream, TokenTree};
 

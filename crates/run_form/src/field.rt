@@ -1,12 +1,12 @@
 //! The fields of the first form of a declaration.
 
 ghost use Rattle.std.specs.Prelude.{◌≡◌, IfOk, map};
-ghost use Rattle.run_form.specs.Field.{are_distinct, are_fields, field};
-ghost use Rattle.run_first.specs.Nested.{listed};
+ghost use Rattle.std.specs.Option.{option_copied};
+ghost use Rattle.run_form.specs.Field.{after_comma, are_distinct, are_fields, field, listed};
 
 use crate::name::field_name;
+use crate::tree::{mark, word_named};
 use base_core::{Items, Mem, TryClone};
-use run_first::{after_comma, mark, word_named};
 use std::alloc::Global;
 use std::collections::BTreeSet;
 use tok_types::{Ident, TokenTree};
@@ -43,6 +43,17 @@ fn listed_fields(alloc: Global, trees: &[TokenTree]) -> Mem<Option<Items<Ident>>
     } else {
         Ok(None)
     }
+}
+
+/// What the next field begins: the trees after the comma, or none at the end of the list.
+fn after_comma(trees: &[TokenTree]) -> Option<&[TokenTree]>
+    ensures { option_copied result ≡ after_comma trees.now }
+{
+    let Some((comma, rest)) = trees.split_first() else {
+        return Some(trees);
+    };
+    mark(comma, ',')?;
+    Some(rest)
 }
 
 /// The name of a field.

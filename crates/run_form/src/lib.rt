@@ -6,5 +6,6 @@ mod attribute;
 mod declaration;
 mod field;
 mod name;
+mod tree;
 
 pub use declaration::is_first_form;

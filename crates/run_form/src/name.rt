@@ -4,7 +4,7 @@ ghost use Rattle.std.specs.Prelude.{◌≡◌, map};
 ghost use Rattle.std.specs.Option.{option_copied};
 ghost use Rattle.run_form.specs.Name.{keywords, magic_names, generated_names, is_among, identifier, declared_name, field_name};
 
-use run_first::word;
+use crate::tree::word;
 use tok_types::{Ident, TokenTree};
 
 const KEYWORDS: [&str; 51] = [

@@ -2,8 +2,6 @@
 #![tactic(auto)]
 
 #[cfg(test)]
-mod first;
-#[cfg(test)]
 mod meaning;
 #[cfg(test)]
 mod run;

@@ -2,113 +2,63 @@
 
 use error_fault::fault_line;
 use meaning_core::{Outcome, Receiver, Value};
-use node_core::{
-    Attribute, Boxed, Data, DataStruct, Delimiter, DeriveInput, Field, Fields, FieldsNamed,
-    Generics, Group, Ident, Items, Literal, Mem, Meta, MetaList, Punct, Span, Text, TokenStream,
-    TokenTree, Type, TypeNever, Visibility,
-};
-use run_first::path_of;
+use node_core::{DeriveInput, Mem, Text};
 use std::alloc::Global;
 use std::test::Fail;
+use syn_core::parse_derive_input;
+use tests_checks::{Tested, given, tokens};
 
-const NOWHERE: Span = Span::CallSite;
+// Attributes, with the texts of the struct or the lines of the faults, each with a `;` behind it.
+const ROWS: [(&str, &str); 13] = [
+    ("#[p(name = \"a\", size = \"b\")]", "a;b;"),
+    ("#[p(size = \"b\")] #[p[name = r#\"a\"#,]]", "a;b;"),
+    ("#[p(name = \"a\")]", "- Missing field `size`;"),
+    (
+        "#[p(name = \"a\", name = 3, nom = \"c\")]",
+        "16..24 Duplicate field `name`;26..35 Unknown field: `nom`. Available values: `name`, `size`;- Missing field `size`;",
+    ),
+    (
+        "#[p(name, size(x))]",
+        "4..8 Unexpected meta-item format `word` at name;10..17 Unexpected meta-item format `list` at size;",
+    ),
+    (
+        "#[p(name = 'c', size = true)]",
+        "11..14 Unexpected type `char` at name;23..27 Unexpected type `bool` at size;",
+    ),
+    (
+        "#[p(name = 3, size = a::b)]",
+        "11..12 Unexpected type `int` at name;21..25 Unexpected type `path` at size;",
+    ),
+    (
+        "#[p(\"a\", -1)]",
+        "4..7 Unexpected meta-item format `literal`;9..11 Unexpected meta-item format `literal`;- Missing field `name`;- Missing field `size`;",
+    ),
+    (
+        "#[p(name = a b, size(,), nom = pub)]",
+        "11..12 expected an expression at name;21..22 expected a meta list at size;25..34 Unknown field: `nom`. Available values: `name`, `size`;",
+    ),
+    (
+        "#[p(name = \"a\",, size)] #[p(size = \"b\")]",
+        "4..21 expected a meta list;- Missing field `name`;",
+    ),
+    (
+        "#[p = \"a\"] #[p]",
+        "2..9 Name-value arguments are not supported. Use #[p(...)];- Missing field `name`;- Missing field `size`;",
+    ),
+    (
+        "#[::p = 1]",
+        "2..9 Name-value arguments are not supported. Use #[::p(...)];- Missing field `name`;- Missing field `size`;",
+    ),
+    (
+        "#[q(name = \"a\")]",
+        "- Missing field `name`;- Missing field `size`;",
+    ),
+];
 
-fn ident(alloc: Global, text: &str) -> Mem<Ident> {
-    Ok(Ident {
-        text: Text::from_str(alloc, text)?,
-        raw: false,
-        span: NOWHERE,
-    })
+fn item(alloc: Global, text: &str) -> Tested<DeriveInput> {
+    given(parse_derive_input(alloc, &tokens(alloc, 0, text)?), text)
 }
 
-/// One token: a string where the text has a quotation mark, a mark, or else a word.
-fn token(alloc: Global, text: &str) -> Mem<TokenTree> {
-    if text.contains('"') {
-        return Ok(TokenTree::Literal(Literal {
-            text: Text::from_str(alloc, text)?,
-            span: NOWHERE,
-        }));
-    }
-    match text.chars().next() {
-        Some(ch) if !ch.is_ascii_alphabetic() => Ok(TokenTree::Punct(Punct {
-            ch,
-            joint: false,
-            span: NOWHERE,
-        })),
-        _ => Ok(TokenTree::Ident(ident(alloc, text)?)),
-    }
-}
-
-/// The tokens of a text that has a blank between two.
-fn tokens(alloc: Global, text: &str) -> Mem<TokenStream> {
-    let mut trees = Items::new(alloc);
-    for piece in text.split(' ') {
-        trees.push(token(alloc, piece)?)?;
-    }
-    Ok(TokenStream { trees })
-}
-
-/// `#[name(tokens)]`
-fn attribute(alloc: Global, name: &str, tokens: TokenStream) -> Mem<Attribute> {
-    let path = path_of(alloc, &ident(alloc, name)?)?;
-    Ok(Attribute {
-        meta: Meta::List(MetaList {
-            path,
-            delimiter: Delimiter::Parenthesis,
-            tokens,
-            span: NOWHERE,
-        }),
-        span: NOWHERE,
-    })
-}
-
-/// `#[..] struct S fields`
-fn item(alloc: Global, attribute: Attribute, fields: Fields) -> Mem<DeriveInput> {
-    Ok(DeriveInput {
-        attrs: Items::of(alloc, attribute)?,
-        vis: Visibility::Inherited,
-        ident: ident(alloc, "S")?,
-        generics: Generics {
-            params: Items::new(alloc),
-            where_clause: None,
-            span: NOWHERE,
-        },
-        body: Data::Struct(DataStruct {
-            fields,
-            span: NOWHERE,
-        }),
-        span: NOWHERE,
-    })
-}
-
-/// `#[darling(attributes(p))] struct S { name: !, size: ! }`
-fn declaration(alloc: Global) -> Mem<DeriveInput> {
-    let mut named = Items::new(alloc);
-    for name in ["name", "size"] {
-        named.push(Field {
-            attrs: Items::new(alloc),
-            vis: Visibility::Inherited,
-            ident: Some(ident(alloc, name)?),
-            ty: Type::Never(TypeNever { span: NOWHERE }),
-            span: NOWHERE,
-        })?;
-    }
-    let mut option = tokens(alloc, "attributes")?;
-    let group = Group {
-        delimiter: Delimiter::Parenthesis,
-        stream: tokens(alloc, "p")?,
-        span: NOWHERE,
-    };
-    let group = TokenTree::Group(Boxed::new(alloc, group)?);
-    option.trees.push(group)?;
-    let fields = Fields::Named(FieldsNamed {
-        named,
-        span: NOWHERE,
-    });
-    item(alloc, attribute(alloc, "darling", option)?, fields)
-}
-
-/// The texts of the struct or the lines of the faults, each with a `;` behind it.
 fn shown(alloc: Global, outcome: &Outcome) -> Mem<Text> {
     let mut text = Text::new(alloc);
     for fault in outcome.faults() {
@@ -129,29 +79,12 @@ fn shown(alloc: Global, outcome: &Outcome) -> Mem<Text> {
 #[test]
 fn reads_items_by_their_attributes(rt: HostRuntime) -> Result<(), Fail> {
     let alloc = rt.alloc();
-    let declaration = declaration(alloc)?;
-    let receiver = Receiver::new(alloc, &declaration)?;
-    let rows = [
-        ("name = \"a\" , size = \"b\"", "a;b;"),
-        ("size = \"b\" , name = \"a\" ,", "a;b;"),
-        ("name = \"a\"", "- Missing field `size`;"),
-        (
-            "name = \"a\" , name = \"b\" , nom = \"c\"",
-            "call Duplicate field `name`;call Unknown field: `nom`. Available values: `name`, `size`;- Missing field `size`;",
-        ),
-        (
-            "name",
-            "call expected a meta list;- Missing field `name`;- Missing field `size`;",
-        ),
-    ];
-    for (items, expected) in rows {
-        let list = attribute(alloc, "p", tokens(alloc, items)?)?;
-        let subject = item(alloc, list, Fields::Unit)?;
-        let walked = receiver.read(alloc, &subject)?;
-        assert!(rt; shown(alloc, &walked)?.is(expected));
+    let text = "#[darling(attributes(p))] struct S { name: String, size: String }";
+    let receiver = Receiver::new(alloc, &item(alloc, text)?)?;
+    for (attributes, expected) in ROWS {
+        let subject = format!(in alloc; "{attributes} struct S;")?;
+        let outcome = receiver.read(alloc, &item(alloc, subject.as_str())?)?;
+        assert!(rt; shown(alloc, &outcome)?.is(expected), "{attributes}");
     }
-    let other = attribute(alloc, "q", tokens(alloc, "name")?)?;
-    let unread = receiver.read(alloc, &item(alloc, other, Fields::Unit)?)?;
-    assert!(rt; shown(alloc, &unread)?.is("- Missing field `name`;- Missing field `size`;"));
     Ok(())
 }

@@ -21,7 +21,7 @@ struct Opts {}
 ";
 
 // Lists of the attribute `my`, with what is written of the item.
-const LISTS: [(&str, &str); 7] = [
+const LISTS: [(&str, &str); 14] = [
     ("(name = \"a\")", "ok S Opts {name: \"a\"}\n"),
     ("", "err S 1\n  - Missing field `name`\n"),
     (
@@ -38,6 +38,31 @@ const LISTS: [(&str, &str); 7] = [
         "ok S Opts {name: \"\u{e9}\\\"\"}\n",
     ),
     ("(name = r#\"a\"#)", "ok S Opts {name: \"a\"}\n"),
+    ("[name = \"a\"]", "ok S Opts {name: \"a\"}\n"),
+    (
+        "(name = \"a\", name = 5, nom = \"b\")",
+        "err S 2\n  17..25 Duplicate field `name`\n  27..36 Unknown field: `nom`. Available values: `name`\n",
+    ),
+    (
+        "(name = 5)",
+        "err S 1\n  12..13 Unexpected type `int` at name\n",
+    ),
+    (
+        "(name)",
+        "err S 1\n  5..9 Unexpected meta-item format `word` at name\n",
+    ),
+    (
+        "(\"a\")",
+        "err S 2\n  5..8 Unexpected meta-item format `literal`\n  - Missing field `name`\n",
+    ),
+    (
+        "(name = a b)",
+        "err S 1\n  12..13 expected an expression at name\n",
+    ),
+    (
+        " = 4",
+        "err S 2\n  2..8 Name-value arguments are not supported. Use #[my(...)]\n  - Missing field `name`\n",
+    ),
 ];
 
 // Items of any kind, each with what is written of it.
@@ -62,7 +87,7 @@ const ITEMS: [(&str, &str); 5] = [
 ];
 
 // Second parts that are refused, each with the line.
-const NO_ITEMS: [(&str, &str); 10] = [
+const NO_ITEMS: [(&str, &str); 5] = [
     (
         "#[my(n = 340282366920938463463374607431768211456)] struct S;",
         "refused: syntax in part 2 at 9\n",
@@ -73,20 +98,6 @@ const NO_ITEMS: [(&str, &str); 10] = [
         "refused: syntax in part 2 at 22\n",
     ),
     ("struct S; \"", "refused: syntax in part 2 at 10\n"),
-    (
-        "#[my[name = \"a\"]] struct S;",
-        "refused: unbuilt at 0..17\n",
-    ),
-    (
-        "struct R; #[other = 1] #[my = \"a\"] struct S;",
-        "refused: unbuilt at 23..34\n",
-    ),
-    ("#[my(name)] struct S;", "refused: unbuilt at 0..11\n"),
-    ("#[my(name = 1)] struct S;", "refused: unbuilt at 0..15\n"),
-    (
-        "#[my] #[my(\"a\")] struct S;",
-        "refused: unbuilt at 6..16\n",
-    ),
     ("struct S;\n%%\nx", "refused: unbuilt at 0..1\n"),
 ];
 

@@ -1,5 +1,5 @@
 use Rattle.std.proofs.Common.{sym, ◌∙◌}
-use Rattle.run_first.proofs.Lists.{put_before-read}
+use Rattle.run_form.proofs.Lists.{put_before-read}
 use Rattle.run_form.specs.Field.{field}
 use Rattle.run_form.proofs.field.listed_fields.Goals as goal
 

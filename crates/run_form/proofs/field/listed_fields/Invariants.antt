@@ -1,6 +1,6 @@
 use Rattle.std.proofs.Common.{◌≡◌, length}
-use Rattle.run_first.specs.Nested.{listed}
-use Rattle.run_first.proofs.Lists.{put_before}
+use Rattle.run_form.specs.Field.{listed}
+use Rattle.run_form.proofs.Lists.{put_before}
 use Rattle.run_form.specs.Field.{field}
 use Rattle.run_form.proofs.field.listed_fields.Given as goal
 

@@ -1,6 +1,4 @@
-use Rattle.std.proofs.Common.{◌∙◌}
-use Rattle.std.proofs.lemmas.Result.{IfOk-weaker}
-use Rattle.meaning_core.proofs.Finish.{told-start, walk-means}
+use Rattle.meaning_core.proofs.Finish.{if-same, told-start, walk-means}
 use Rattle.meaning_core.proofs.receiver.Receiver.read.Goals as goal
 
 pub finish-requires-clause-told : goal.finish-requires-clause-told
@@ -9,6 +7,6 @@ finish-requires-clause-told c =
 
 pub returns : goal.returns
 returns c =
-    IfOk-weaker c.finish.result _ _
-    (λ outcome e. e ∙ walk-means c.args.self.now c.args.subject.now c.take_attributes.new.self.slots c.take_attributes.new.self.faults (rw (c.in_ok-walk.ensures.0, c.in_ok-walk.ensures.1, c.len.ensures, c.as_slice.ensures) at c.in_ok-take_attributes.ensures.state))
+    if-same c.finish.result _ _
+    (walk-means c.args.self.now c.args.subject.now c.take_attributes.new.self.slots c.take_attributes.new.self.faults (rw (c.in_ok-walk.ensures.0, c.in_ok-walk.ensures.1, c.len.ensures, c.as_slice.ensures) at c.in_ok-take_attributes.ensures.state))
     c.finish.ensures

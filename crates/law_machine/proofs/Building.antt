@@ -1,0 +1,235 @@
+-- What is built from the slots, where no fault was collected.
+use Rattle.std.proofs.Common.{◌≡◌, ℕ, ◌+◌, zero, suc, Bool, true, false, List, [], ◌∷◌, ◌++◌, length, map, Option, Some, None, option_map, refl, ap, ap₂, ◌∙◌, sym, append_assoc}
+use Rattle.std.specs.List.{AllZip}
+use Rattle.std.specs.Option.{option_copied}
+use Rattle.std.specs.Prelude.{option_and_then}
+use Rattle.base_core.specs.declared.text.Text.{Text}
+use Rattle.tok_types.specs.Ident.{ident_text}
+use Rattle.node_expr.specs.declared.ty.«Type».{«Type» as Type'}
+use Rattle.meta_nested.specs.declared.nested.NestedMeta.{NestedMeta}
+use Rattle.error_fault.specs.declared.fault.Fault.{Fault}
+use Rattle.error_fault.specs.Outcome.{Outcome, Value, Faults, bind, on_value, value_of}
+use Rattle.machine_value.specs.declared.value.Value.{Value as Datum}
+use Rattle.machine_value.specs.declared.value.Value.TheVariants as value
+use Rattle.machine_value.specs.Members.{no_value, struct_of, labelled}
+use Rattle.codegen_program.specs.declared.arm.PostfixTransform.{PostfixTransform}
+use Rattle.codegen_program.specs.declared.init.DefaultSource.{DefaultSource}
+use Rattle.codegen_program.specs.declared.init.DefaultSource.TheVariants as sources
+use Rattle.codegen_program.specs.declared.init.Fallback.{Fallback as Falls}
+use Rattle.codegen_program.specs.declared.init.Fallback.TheVariants as fallbacks
+use Rattle.codegen_program.specs.declared.init.Init.{Init}
+use Rattle.codegen_program.specs.declared.stmt.Stmt.{Stmt}
+use Rattle.codegen_program.specs.declared.stmt.Stmt.TheVariants as stmt
+use Rattle.codegen_core.specs.Compiled.{build, fields_of, set_default, transform}
+use Rattle.codegen_core.specs.Defaults.{source}
+use Rattle.codegen_core.specs.Fields.{at_slots, fallback_of, init, inits}
+use Rattle.codegen_core.specs.declared.default_expression.DefaultExpression.{DefaultExpression}
+use Rattle.codegen_core.specs.declared.default_expression.DefaultExpression.TheVariants as defaults
+use Rattle.codegen_core.specs.declared.field.Field.{Field}
+use Rattle.codegen_core.specs.declared.trait_impl.TraitImpl.{TraitImpl}
+use Rattle.meaning_core.specs.Decl.{Decl, FieldDecl, Shape, Single, Many, Flat, Fallback, OfType, OfCall, OfContainer, Default, ByType, ByCall, fallback}
+use Rattle.machine_core.specs.Setting.{Setting}
+use Rattle.machine_core.specs.Convert.{Earlier, none}
+use Rattle.meaning_core.specs.Owners.{each, field_at, own}
+use Rattle.meaning_core.specs.EntryFaults.{read, value_list, values}
+use Rattle.machine_core.specs.Reading.{transformed}
+use Rattle.meaning_core.specs.FieldValue.{absent_value, empty_value, fallback_outcome, field_value, flat_faults, flat_outcome, missing_by, value_of_none}
+use Rattle.meaning_core.specs.Meaning.{default_outcome, in_order, joined, whole_default}
+use Rattle.machine_core.specs.State.{Slot, One, Several, State, slot_at}
+use Rattle.meaning_core.proofs.Clean.{Clean, IsValue, nil_left, nil_right, not_nil, value_if_none}
+use Rattle.machine_core.specs.Progress.{Given, Progress, Going, Built, Ended, built_or_stuck, on_outcome, outcome}
+use Rattle.machine_core.specs.Slots.{absent, fallback_value, in_front, init_value, init_values}
+use Rattle.machine_core.specs.Statements.{built_struct}
+use Rattle.machine_core.proofs.Statements as statement
+use Rattle.law_machine.specs.Compiles.{IsField, IsDecl, meant_default, meant_fallback}
+use Rattle.law_machine.proofs.Passes.{at_here, flat_added, full_by, full_slot, go, missing_added, missing_full, missing_is, one_more}
+
+module _ (setting : Setting) (earlier : Earlier) (type : Type') (given : Given) (decl : Decl) (all kept : List NestedMeta) where
+  -- ---- the value of one member
+
+  abbrev empty_meant : Type' → Datum → Option Fallback → Outcome Datum
+  empty_meant t whole None = Value (value.List [])
+  empty_meant t whole (Some x) = fallback_outcome setting t whole x
+
+  abbrev init_meant : Datum → Option Fallback → Slot → Option (Outcome Datum)
+  init_meant whole x (One t seen (Some v)) = Some (Value v)
+  init_meant whole x (One t seen None) = option_map (fallback_outcome setting t whole) x
+  init_meant whole x (Several t []) = Some (empty_meant t whole x)
+  init_meant whole x (Several t (v ∷ vs)) = Some (Value (value.List (v ∷ vs)))
+
+  falls_is : (t : Type') (whole : Datum) (x : Falls) → fallback_value setting t whole x ≡ fallback_outcome setting t whole (meant_fallback x)
+  falls_is t whole (fallbacks.Inherit ident) = refl
+  falls_is t whole (fallbacks.Explicit callable) = refl
+  falls_is t whole fallbacks.Trait = refl
+
+  meant_is : (whole : Datum) (x : Option Falls) (slot : Slot) → init_value setting whole x slot ≡ init_meant whole (option_map meant_fallback x) slot
+  meant_is whole x (One t seen (Some v)) = refl
+  meant_is whole None (One t seen None) = refl
+  meant_is whole (Some x) (One t seen None) = ap (λ o. let r : Option (Outcome Datum) = Some o in r) (falls_is t whole x)
+  meant_is whole None (Several t []) = refl
+  meant_is whole (Some x) (Several t []) = ap (λ o. let r : Option (Outcome Datum) = Some o in r) (falls_is t whole x)
+  meant_is whole x (Several t (v ∷ vs)) = refl
+
+  value_by_read : (whole : Datum) (x : Option Fallback) (t : Type') (o : Outcome Datum) → IsValue o → init_meant whole x (One t true (value_of o)) ≡ Some o
+  value_by_read whole x t (Value v) c = refl
+  value_by_read whole x t (Faults f fs) c = absurd c
+
+  values_by_read : (whole : Datum) (x : Option Fallback) (t : Type') (o : Outcome Datum) (vs : List Datum) → IsValue o
+      → init_meant whole x (Several t (value_list setting earlier o ++ vs)) ≡ Some (Value (value.List (value_list setting earlier o ++ vs)))
+  values_by_read whole x t (Value v) vs c = refl
+  values_by_read whole x t (Faults f fs) vs c = absurd c
+
+  empty_is : (f : FieldDecl) (whole : Datum) (x : Option Fallback) → empty_meant f.type whole x ≡ empty_value setting earlier decl f whole x
+  empty_is f whole None = refl
+  empty_is f whole (Some x) = refl
+
+  none_is : (f : FieldDecl) (whole : Datum) (v : Option Datum) → missing_by setting earlier decl f None v ≡ []
+      → init_meant whole None (absent f.type f.name v).0 ≡ Some (value_of_none setting earlier decl f v)
+  none_is f whole (Some v) e = refl
+  none_is f whole None e = absurd (not_nil _ [] e)
+
+  init_is : (f : FieldDecl) (s : Shape) (x : Option Fallback) (whole : Datum) (own_items : List NestedMeta) → fallback decl f ≡ x → Clean setting earlier f own_items
+      → flat_faults setting earlier decl f s all ≡ [] → missing_full setting earlier type given decl all kept f s x own_items ≡ []
+      → init_meant whole x (full_by setting earlier type given decl all kept f s x own_items) ≡ Some (field_value setting earlier decl whole all f s own_items)
+  init_is f Flat x whole own_items e c a m = value_by_read whole x f.type (flat_outcome setting earlier decl f all) (value_if_none (flat_outcome setting earlier decl f all) a)
+  init_is f Many x whole [] e c a m = ap (λ o. let r : Option (Outcome Datum) = Some o in r) (empty_is f whole x ∙ ap (empty_value setting earlier decl f whole) (sym e))
+  init_is f Many x whole (i ∷ more) e c a m = values_by_read whole x f.type (read setting earlier f i) (values setting earlier f more) c
+  init_is f Single None whole [] e c a m = none_is f whole (none setting earlier f.type) m ∙ ap (λ y. let r : Option (Outcome Datum) = Some (absent_value setting earlier decl f whole y) in r) (sym e)
+  init_is f Single (Some x) whole [] e c a m = ap (λ y. let r : Option (Outcome Datum) = Some (absent_value setting earlier decl f whole y) in r) (sym e)
+  init_is f Single None whole (i ∷ more) e c a m = value_by_read whole None f.type (read setting earlier f i) c
+  init_is f Single (Some x) whole (i ∷ more) e c a m = value_by_read whole (Some x) f.type (read setting earlier f i) c
+
+  -- ---- all members
+
+  abbrev full : FieldDecl → List NestedMeta → Slot
+  full f own_items = full_slot setting earlier type given decl all kept f own_items
+
+  abbrev added_flat : FieldDecl → List NestedMeta → List Fault
+  added_flat f own_items = flat_added setting earlier type given decl all kept f own_items
+
+  abbrev added_missing : FieldDecl → List NestedMeta → List Fault
+  added_missing f own_items = missing_added setting earlier type given decl all kept f own_items
+
+  -- no fault of the field was collected
+  abbrev IsGood : FieldDecl → List NestedMeta → Type 0
+  IsGood f own_items = Clean setting earlier f own_items × (added_flat f own_items ≡ []) × (added_missing f own_items ≡ [])
+
+  abbrev pub AreGood : List FieldDecl → (ℕ → List NestedMeta) → Type 0
+  AreGood [] own_items = Unit {0}
+  AreGood (f ∷ fs) own_items = IsGood f (own_items zero) × AreGood fs (λ k. own_items (suc k))
+
+  pub are_good : (fs : List FieldDecl) (own_items : ℕ → List NestedMeta) → ((k : ℕ) → Clean setting earlier (field_at fs k) (own_items k))
+      → joined (each added_flat fs own_items) ≡ [] → joined (each added_missing fs own_items) ≡ [] → AreGood fs own_items
+  are_good [] own_items c a m = tt
+  are_good (f ∷ fs) own_items c a m =
+      let later : ℕ → List NestedMeta = λ k. own_items (suc k) in (
+        (c zero, nil_left (added_flat f (own_items zero)) (joined (each added_flat fs later)) a, nil_left (added_missing f (own_items zero)) (joined (each added_missing fs later)) m),
+        are_good fs later (λ k. c (suc k)) (nil_right (added_flat f (own_items zero)) (joined (each added_flat fs later)) a) (nil_right (added_missing f (own_items zero)) (joined (each added_missing fs later)) m),
+      )
+
+  abbrev value_here : Datum → FieldDecl → List NestedMeta → Outcome Datum
+  value_here whole f own_items = field_value setting earlier decl whole all f f.shape own_items
+
+  abbrev one_init : ℕ → Field → List Init
+  one_init slot left = init slot left ∷ []
+
+  in_front_is : (o : Outcome Datum) (others : Outcome (List Datum)) → in_front setting (Some o) (Some others) ≡ Some (bind o (λ v. on_value (λ vs. v ∷ vs) others))
+  in_front_is (Value v) others = refl
+  in_front_is (Faults f fs) others = refl
+
+  values_are : (whole : Datum) (lefts : List Field) (fs : List FieldDecl) (own_items : ℕ → List NestedMeta) (done : List Slot) → AllZip (IsField decl) lefts fs → AreGood fs own_items
+      → init_values setting whole (done ++ each full fs own_items) (at_slots one_init (length done) lefts) ≡ Some (in_order (each (value_here whole) fs own_items))
+  values_are whole [] [] own_items done zip good = refl
+  values_are whole [] (f ∷ fs) own_items done zip good = absurd zip
+  values_are whole (left ∷ lefts) [] own_items done zip good = absurd zip
+  values_are whole (left ∷ lefts) (f ∷ fs) own_items done zip good =
+      let later : ℕ → List NestedMeta = λ k. own_items (suc k) in
+      let x = full f (own_items zero) in
+      let first : init_value setting whole (fallback_of left) (slot_at (done ++ x ∷ each full fs later) (length done)) ≡ Some (value_here whole f (own_items zero)) =
+      ap (init_value setting whole (fallback_of left)) (at_here done (each full fs later) x)
+      ∙ meant_is whole (fallback_of left) x
+      ∙ ap (λ y. init_meant whole y x) zip.0.fallback
+      ∙ init_is f f.shape (fallback decl f) whole (own_items zero) refl good.0.0 good.0.1 (missing_is setting earlier type given decl all kept f f.shape (own_items zero) ∙ good.0.2) in
+      let more : init_values setting whole (done ++ x ∷ each full fs later) (at_slots one_init (length done + 1) lefts) ≡ Some (in_order (each (value_here whole) fs later)) =
+      ap₂ (λ xs k. init_values setting whole xs (at_slots one_init k lefts)) (sym (append_assoc done (x ∷ []) (each full fs later))) (one_more done x)
+      ∙ values_are whole lefts fs later (done ++ x ∷ []) zip.1 good.1 in
+      ap₂ (in_front setting) first more ∙ in_front_is (value_here whole f (own_items zero)) (in_order (each (value_here whole) fs later))
+
+  members_are : (lefts : List Field) (fs : List FieldDecl) (k : ℕ) → AllZip (IsField decl) lefts fs → map (λ it. it.member) (at_slots one_init k lefts) ≡ map (λ f. f.member) fs
+  members_are [] [] k zip = refl
+  members_are [] (f ∷ fs) k zip = absurd zip
+  members_are (left ∷ lefts) [] k zip = absurd zip
+  members_are (left ∷ lefts) (f ∷ fs) k zip = ap₂ (λ m ms. m ∷ ms) zip.0.member (members_are lefts fs (k + 1) zip.1)
+
+  -- ---- the statements behind the errors
+
+  abbrev mine : ℕ → List NestedMeta
+  mine = own decl.fields all
+
+  abbrev pub full_state : Datum → List Fault → State
+  full_state whole faults = record { slots = each full decl.fields mine; faults = faults; kept = kept; whole = whole }
+
+  abbrev pub made : Datum → Outcome Datum
+  made whole = on_value (λ vs. struct_of decl.name (labelled (map (λ f. f.member) decl.fields) vs)) (in_order (each (value_here whole) decl.fields mine))
+
+  abbrev run_on : List Stmt → Progress → Progress
+  run_on stmts progress = go setting earlier type given decl stmts progress
+
+  transform_is : (p : Option PostfixTransform) (o : Outcome Datum) → run_on (transform p) (Built o) ≡ Built (transformed setting earlier p type o)
+  transform_is None o = refl
+  transform_is (Some p) o = statement.transform setting earlier type p given (Built o)
+
+  ended_transform : (p : Option PostfixTransform) (f : Fault) (fs : List Fault) → run_on (transform p) (Ended f fs) ≡ Ended f fs
+  ended_transform None f fs = refl
+  ended_transform (Some p) f fs = statement.transform setting earlier type p given (Ended f fs)
+
+  module _ (left : TraitImpl) (is : IsDecl left decl) where
+    abbrev pub last : List Stmt
+    last = build left ∷ transform (option_copied left.post_transform)
+
+    build_is : (whole : Datum) (faults : List Fault) → AreGood decl.fields mine → run_on (build left ∷ []) (Going (full_state whole faults)) ≡ Built (made whole)
+    build_is whole faults good =
+        let o = in_order (each (value_here whole) decl.fields mine) in
+        statement.build setting earlier type left.ident.now (inits (fields_of left)) given (Going (full_state whole faults))
+        ∙ ap (λ b. built_or_stuck (option_map (built_struct left.ident.now (inits (fields_of left))) b)) (values_are whole (fields_of left) decl.fields mine [] is.fields good)
+        ∙ ap₂ (λ n ms. Built (on_value (λ vs. struct_of n (labelled ms vs)) o)) is.name (members_are (fields_of left) decl.fields zero is.fields)
+
+    last_is : (whole : Datum) (faults : List Fault) → AreGood decl.fields mine → run_on last (Going (full_state whole faults)) ≡ Built (transformed setting earlier decl.transform type (made whole))
+    last_is whole faults good =
+        ap (run_on (transform (option_copied left.post_transform))) (build_is whole faults good)
+        ∙ transform_is (option_copied left.post_transform) (made whole)
+        ∙ ap (λ p. Built (transformed setting earlier p type (made whole))) is.transform
+
+    ended_last : (f : Fault) (fs : List Fault) → run_on last (Ended f fs) ≡ Ended f fs
+    ended_last f fs =
+        ap (run_on (transform (option_copied left.post_transform))) (statement.build setting earlier type left.ident.now (inits (fields_of left)) given (Ended f fs))
+        ∙ ended_transform (option_copied left.post_transform) f fs
+
+    passed_by : (p : Option PostfixTransform) (f : Fault) (fs : List Fault) → Some (Faults f fs) ≡ Some (transformed setting earlier p type (Faults f fs))
+    passed_by None f fs = refl
+    passed_by (Some p) f fs = refl
+
+    -- the default of the receiver first, whose faults end all
+    behind_whole : (o : Outcome Datum) (faults : List Fault) → AreGood decl.fields mine
+        → outcome (run_on last (on_outcome o (λ whole. Going (full_state whole faults)))) ≡ Some (transformed setting earlier decl.transform type (bind o made))
+    behind_whole (Value whole) faults good = ap outcome (last_is whole faults good)
+    behind_whole (Faults f fs) faults good = ap outcome (ended_last f fs) ∙ passed_by decl.transform f fs
+
+    pub behind_default : (x : Option DefaultExpression) (d : Option Default) (faults : List Fault) → option_and_then meant_default (option_and_then source x) ≡ d → AreGood decl.fields mine
+        → outcome (run_on (set_default (option_and_then source x) ++ last) (Going (full_state no_value faults))) ≡ Some (transformed setting earlier decl.transform type (bind (whole_default setting type d) made))
+    behind_default None d faults e good =
+        behind_whole (Value no_value) faults good ∙ ap (λ d. let r : Option (Outcome Datum) = Some (transformed setting earlier decl.transform type (bind (whole_default setting type d) made)) in r) e
+    behind_default (Some (defaults.Inherit ident)) d faults e good =
+        behind_whole (Value no_value) faults good ∙ ap (λ d. let r : Option (Outcome Datum) = Some (transformed setting earlier decl.transform type (bind (whole_default setting type d) made)) in r) e
+    behind_default (Some (defaults.Explicit call)) d faults e good =
+        ap (λ p. outcome (run_on last p)) (statement.set_default setting earlier type (sources.Explicit call.now) given (Going (full_state no_value faults)))
+        ∙ behind_whole (default_outcome setting type (ByCall call.now)) faults good
+        ∙ ap (λ d. let r : Option (Outcome Datum) = Some (transformed setting earlier decl.transform type (bind (whole_default setting type d) made)) in r) e
+    behind_default (Some (defaults.Trait span)) d faults e good =
+        ap (λ p. outcome (run_on last p)) (statement.set_default setting earlier type sources.Trait given (Going (full_state no_value faults)))
+        ∙ behind_whole (default_outcome setting type ByType) faults good
+        ∙ ap (λ d. let r : Option (Outcome Datum) = Some (transformed setting earlier decl.transform type (bind (whole_default setting type d) made)) in r) e
+
+    pub ended_default : (x : Option DefaultSource) (f : Fault) (fs : List Fault) → run_on (set_default x ++ last) (Ended f fs) ≡ Ended f fs
+    ended_default None f fs = ended_last f fs
+    ended_default (Some it) f fs = ap (run_on last) (statement.set_default setting earlier type it given (Ended f fs)) ∙ ended_last f fs

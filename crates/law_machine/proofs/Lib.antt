@@ -1,0 +1,5 @@
+pub mod Arms
+pub mod Passes
+pub mod Building
+pub mod Units
+pub mod Programs

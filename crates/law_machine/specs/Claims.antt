@@ -1,0 +1,40 @@
+-- What is claimed of programs.
+use Rattle.std.specs.Prelude.{◌≡◌, List, map, Some}
+use Rattle.node_core.specs.declared.derive.DeriveInput.{DeriveInput}
+use Rattle.meta_nested.specs.declared.nested.NestedMeta.{NestedMeta}
+use Rattle.machine_host.specs.HostSays.{HostSays}
+use Rattle.codegen_program.specs.declared.program.Program.{Program}
+use Rattle.codegen_program.specs.declared.program.«Unit».{«Unit» as Unit'}
+use Rattle.codegen_core.specs.Compiled.{list_stmts, input_stmts}
+use Rattle.codegen_core.specs.declared.from_derive_impl.FromDeriveInputImpl.{FromDeriveInputImpl}
+use Rattle.codegen_core.specs.declared.trait_impl.TraitImpl.{TraitImpl}
+use Rattle.meaning_core.specs.Decl.{Decl}
+use Rattle.machine_core.specs.Setting.{Setting}
+use Rattle.machine_core.specs.Convert.{Earlier}
+use Rattle.meaning_core.specs.Entries.{ItemEntry, events}
+use Rattle.meaning_core.specs.Declarations.{declared_meaning}
+use Rattle.meaning_core.specs.Meaning.{struct_meaning}
+use Rattle.machine_core.specs.Progress.{Items, Input, outcome}
+use Rattle.machine_core.specs.Statements.{run}
+use Rattle.machine_core.specs.Machine.{machine, setting_of}
+use Rattle.law_machine.specs.Compiles.{AreMetaUnits, IsDecl, IsInputDecl, IsInputUnit}
+
+-- the function that reads a list has an outcome, and it is what the items mean
+abbrev pub ListIsMeaning : Type 0
+ListIsMeaning =
+    (setting : Setting) (earlier : Earlier) (left : TraitImpl) (decl : Decl) (items : List NestedMeta) → IsDecl left decl
+    → outcome (run setting earlier decl.type (list_stmts left) (Items items)) ≡ Some (struct_meaning setting earlier decl (map ItemEntry items))
+
+-- the function that reads an item of a text has an outcome, and it is what the attributes of the item mean
+abbrev pub InputIsMeaning : Type 0
+InputIsMeaning =
+    (setting : Setting) (earlier : Earlier) (left : FromDeriveInputImpl) (decl : Decl) (input : DeriveInput) → IsInputDecl left decl
+    → outcome (run setting earlier decl.type (input_stmts left) (Input input)) ≡ Some (struct_meaning setting earlier decl (events decl.attributes input.attrs))
+
+-- On any item, the unit of a declaration gives what the item means under it, where each declaration below it that is
+-- read from items has its unit.
+abbrev pub ProgramIsMeaning : Type 0
+ProgramIsMeaning =
+    (host : HostSays) (program : Program) (unit : Unit') (decls : List Decl) (decl : Decl) (input : DeriveInput)
+    → AreMetaUnits program.units decls → IsInputUnit unit decl
+    → machine host program unit input ≡ Some (declared_meaning (setting_of host program) decls decl input)

@@ -1,0 +1,11 @@
+pub mod Names
+pub mod Setting
+pub mod Convert
+pub mod Reading
+pub mod Attributes
+pub mod Below
+pub mod State
+pub mod Progress
+pub mod Slots
+pub mod Statements
+pub mod Machine

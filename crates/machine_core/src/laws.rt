@@ -1,0 +1,8 @@
+//! Laws of the machine.
+
+ghost use Rattle.machine_core.specs.Statements.{RunInOrder};
+
+/// Statements that stand behind others go on from where those came to.
+pub fn statements_run_in_order()
+    ensures { RunInOrder }
+{}

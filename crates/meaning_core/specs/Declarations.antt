@@ -1,0 +1,39 @@
+-- What an item means under the last of several declarations.
+use Rattle.std.specs.Prelude.{ℕ, ◌==◌, Bool, true, false, ◌&&◌, List, [], ◌∷◌, map, Option, Some, None, if◌then◌else◌}
+use Rattle.node_core.specs.declared.derive.DeriveInput.{DeriveInput}
+use Rattle.meta_nested.specs.declared.nested.NestedMeta.{NestedMeta}
+use Rattle.error_fault.specs.Outcome.{Outcome}
+use Rattle.machine_value.specs.declared.value.Value.{Value as Datum}
+use Rattle.codegen_program.specs.declared.program.Derive.{Derive}
+use Rattle.codegen_program.specs.declared.program.Derive.TheVariants as derives
+use Rattle.machine_core.specs.Below.{below, unread}
+use Rattle.machine_core.specs.Convert.{Earlier}
+use Rattle.machine_core.specs.Setting.{Setting}
+use Rattle.meaning_core.specs.Decl.{Decl}
+use Rattle.meaning_core.specs.Entries.{ItemEntry, events}
+use Rattle.meaning_core.specs.Meaning.{struct_meaning}
+
+-- whether a list of items is read as the declaration
+abbrev pub derives_meta : List Derive → Bool
+derives_meta [] = false
+derives_meta (derives.FromMeta ∷ more) = true
+derives_meta (_ ∷ more) = derives_meta more
+
+-- the declaration of this number, where a list of items is read as it
+abbrev pub meta_decl : List Decl → ℕ → Option Decl
+meta_decl [] number = None
+meta_decl (decl ∷ decls) number = if (decl.number == number) && derives_meta decl.derives then Some decl else meta_decl decls number
+
+module _ (setting : Setting) where
+  -- what a list of items means under the declaration, where there is one
+  abbrev pub list_meaning : Earlier → Option Decl → List NestedMeta → Outcome Datum
+  list_meaning earlier None items = unread
+  list_meaning earlier (Some decl) items = struct_meaning setting earlier decl (map ItemEntry items)
+
+  -- what lists of items mean under the declarations below a number
+  abbrev pub earlier_decls : List Decl → ℕ → Earlier
+  earlier_decls decls = below (λ earlier number items. list_meaning earlier (meta_decl decls number) items)
+
+  -- what an item of a text means under a declaration, whose fields may have the types of those below it
+  abbrev pub declared_meaning : List Decl → Decl → DeriveInput → Outcome Datum
+  declared_meaning decls decl input = struct_meaning setting (earlier_decls decls decl.number) decl (events decl.attributes input.attrs)
