@@ -28,7 +28,7 @@ use Rattle.codegen_core.specs.declared.from_meta_impl.FromMetaImpl.{FromMetaImpl
 use Rattle.codegen_core.specs.declared.trait_impl.TraitImpl.{TraitImpl}
 use Rattle.codegen_core.specs.declared.variant.Variant.{Variant}
 use Rattle.codegen_core.specs.Defaults.{source}
-use Rattle.codegen_core.specs.Fields.{declarations, arms, rest, flattens, checks, inits}
+use Rattle.codegen_core.specs.Fields.{core_loop, declarations, flattens, checks, inits}
 
 -- the fields of a body; an enum has none of its own
 abbrev pub struct_fields : «Data» Variant Field → List Field
@@ -50,7 +50,7 @@ IsPlain base = HasNamedFields base.body × (base.transparent ≡ false)
 
 -- goes over the items of one attribute or list
 abbrev pub for_items : TraitImpl → Stmt
-for_items base = stmt.ForItems (arms (fields_of base)) (rest base.allow_unknown_fields (fields_of base))
+for_items base = core_loop base.allow_unknown_fields (fields_of base)
 
 -- what the default of the whole receiver comes from
 abbrev pub default_of : Bool → TraitImpl → Option DefaultSource

@@ -66,6 +66,10 @@ abbrev pub rest : Bool → List Field → Rest
 rest allow_unknown_fields fields =
     if list_any (λ field. field.flatten) fields then rests.Buffer else (if allow_unknown_fields then rests.Ignore else rests.Unknown (names fields))
 
+-- goes over the items of one attribute or list
+abbrev pub core_loop : Bool → List Field → Stmt
+core_loop allow_unknown_fields fields = stmt.ForItems (arms fields) (rest allow_unknown_fields fields)
+
 -- a flattened field is read from the items that were kept
 abbrev pub flatten : List Text → ℕ → Field → List Stmt
 flatten siblings slot field = if field.flatten then stmt.ReadFlatten slot siblings ∷ [] else []

@@ -5,94 +5,124 @@ ghost use Rattle.std.specs.List.{list_any};
 ghost use Rattle.codegen_core.specs.Fields as spec;
 
 use crate::field::Field;
+use body_core::ast::Fields;
 use codegen_program::{Arm, Init, Rest, Stmt};
 use node_core::{Items, Mem, Text};
 use std::alloc::Global;
 
-/// Adds what declares the slots.
-pub(crate) fn push_declarations(
-    alloc: Global,
-    fields: &[Field<'_>],
-    stmts: &mut Items<Stmt>,
-) -> Mem<()>
-    requires { length fields.now < 2 ^ 32 }
-    ensures { OnOk result (stmts.new ≡ stmts.old ++ spec.declarations fields.now) }
-{
-    let mut slot = 0;
-    for field in fields {
-        field.push_declaration(alloc, slot, stmts)?;
-        slot += 1;
-    }
-    Ok(())
+/// The fields of a struct or of a variant, and whether items that are for none of them are let pass.
+pub struct FieldsGen<'f, 'a> {
+    pub fields: &'f [Field<'a>],
+    pub allow_unknown_fields: bool,
 }
 
-/// The arms of the fields that have a name.
-pub(crate) fn arms_of(alloc: Global, fields: &[Field<'_>]) -> Mem<Items<Arm>>
-    requires { length fields.now < 2 ^ 32 }
-    ensures { IfOk result (λ it. it ≡ spec.arms fields.now) }
-{
-    let mut arms = Items::new(alloc);
-    let mut slot = 0;
-    for field in fields {
-        field.push_arm(alloc, slot, &mut arms)?;
-        slot += 1;
+impl<'f, 'a> FieldsGen<'f, 'a> {
+    pub fn new(fields: &'f Fields<Field<'a>>, allow_unknown_fields: bool) -> FieldsGen<'f, 'a>
+        ensures fields { result.fields.now ≡ fields.now.fields }
+        ensures allow { result.allow_unknown_fields ≡ allow_unknown_fields }
+    {
+        FieldsGen {
+            fields: fields.fields.as_slice(),
+            allow_unknown_fields,
+        }
     }
-    Ok(arms)
-}
 
-/// Adds the reading of the items that were kept for a flattened field.
-pub(crate) fn push_flattens(alloc: Global, fields: &[Field<'_>], stmts: &mut Items<Stmt>) -> Mem<()>
-    requires { length fields.now < 2 ^ 32 }
-    ensures { OnOk result (stmts.new ≡ stmts.old ++ spec.flattens fields.now) }
-{
-    let names = names_of(alloc, fields)?;
-    let mut slot = 0;
-    for field in fields {
-        field.push_flatten(alloc, slot, &names, stmts)?;
-        slot += 1;
+    /// Adds what declares the slots.
+    pub(crate) fn push_declarations(&self, alloc: Global, stmts: &mut Items<Stmt>) -> Mem<()>
+        requires { length self.now.fields.now < 2 ^ 32 }
+        ensures { OnOk result (stmts.new ≡ stmts.old ++ spec.declarations self.now.fields.now) }
+    {
+        let fields = self.fields;
+        let mut slot = 0;
+        for field in fields {
+            field.push_declaration(alloc, slot, stmts)?;
+            slot += 1;
+        }
+        Ok(())
     }
-    Ok(())
-}
 
-/// Adds the look at each slot that has to be written.
-pub(crate) fn push_checks(alloc: Global, fields: &[Field<'_>], stmts: &mut Items<Stmt>) -> Mem<()>
-    requires { length fields.now < 2 ^ 32 }
-    ensures { OnOk result (stmts.new ≡ stmts.old ++ spec.checks fields.now) }
-{
-    let mut slot = 0;
-    for field in fields {
-        field.push_check(alloc, slot, stmts)?;
-        slot += 1;
+    /// The loop over the items.
+    pub(crate) fn core_loop(&self, alloc: Global) -> Mem<Stmt>
+        requires { length self.now.fields.now < 2 ^ 32 }
+        ensures { IfOk result (λ it. it ≡ spec.core_loop self.now.allow_unknown_fields self.now.fields.now) }
+    {
+        let arms = self.arms(alloc)?;
+        let rest = self.rest(alloc)?;
+        Ok(Stmt::ForItems { arms, rest })
     }
-    Ok(())
-}
 
-/// The members that the fields become.
-pub(crate) fn inits_of(alloc: Global, fields: &[Field<'_>]) -> Mem<Items<Init>>
-    requires { length fields.now < 2 ^ 32 }
-    ensures { IfOk result (λ it. it ≡ spec.inits fields.now) }
-{
-    let mut inits = Items::new(alloc);
-    let mut slot = 0;
-    for field in fields {
-        let init = field.to_init(alloc, slot)?;
-        inits.push(init)?;
-        slot += 1;
+    /// The arms of the fields that have a name.
+    fn arms(&self, alloc: Global) -> Mem<Items<Arm>>
+        requires { length self.now.fields.now < 2 ^ 32 }
+        ensures { IfOk result (λ it. it ≡ spec.arms self.now.fields.now) }
+    {
+        let fields = self.fields;
+        let mut arms = Items::new(alloc);
+        let mut slot = 0;
+        for field in fields {
+            field.push_arm(alloc, slot, &mut arms)?;
+            slot += 1;
+        }
+        Ok(arms)
     }
-    Ok(inits)
-}
 
-/// What an item does that no arm is for.
-pub(crate) fn rest_of(alloc: Global, allow_unknown_fields: bool, fields: &[Field<'_>]) -> Mem<Rest>
-    ensures { IfOk result (λ it. it ≡ spec.rest allow_unknown_fields fields.now) }
-{
-    if has_flatten(fields) {
-        return Ok(Rest::Buffer);
+    /// What an item does that no arm is for.
+    fn rest(&self, alloc: Global) -> Mem<Rest>
+        ensures { IfOk result (λ it. it ≡ spec.rest self.now.allow_unknown_fields self.now.fields.now) }
+    {
+        if has_flatten(self.fields) {
+            return Ok(Rest::Buffer);
+        }
+        if self.allow_unknown_fields {
+            return Ok(Rest::Ignore);
+        }
+        Ok(Rest::Unknown(names_of(alloc, self.fields)?))
     }
-    if allow_unknown_fields {
-        return Ok(Rest::Ignore);
+
+    /// Adds the reading of the items that were kept for a flattened field.
+    pub(crate) fn push_flattens(&self, alloc: Global, stmts: &mut Items<Stmt>) -> Mem<()>
+        requires { length self.now.fields.now < 2 ^ 32 }
+        ensures { OnOk result (stmts.new ≡ stmts.old ++ spec.flattens self.now.fields.now) }
+    {
+        let fields = self.fields;
+        let names = names_of(alloc, fields)?;
+        let mut slot = 0;
+        for field in fields {
+            field.push_flatten(alloc, slot, &names, stmts)?;
+            slot += 1;
+        }
+        Ok(())
     }
-    Ok(Rest::Unknown(names_of(alloc, fields)?))
+
+    /// Adds the look at each slot that has to be written.
+    pub(crate) fn push_checks(&self, alloc: Global, stmts: &mut Items<Stmt>) -> Mem<()>
+        requires { length self.now.fields.now < 2 ^ 32 }
+        ensures { OnOk result (stmts.new ≡ stmts.old ++ spec.checks self.now.fields.now) }
+    {
+        let fields = self.fields;
+        let mut slot = 0;
+        for field in fields {
+            field.push_check(alloc, slot, stmts)?;
+            slot += 1;
+        }
+        Ok(())
+    }
+
+    /// The members that the fields become.
+    pub(crate) fn initializers(&self, alloc: Global) -> Mem<Items<Init>>
+        requires { length self.now.fields.now < 2 ^ 32 }
+        ensures { IfOk result (λ it. it ≡ spec.inits self.now.fields.now) }
+    {
+        let fields = self.fields;
+        let mut inits = Items::new(alloc);
+        let mut slot = 0;
+        for field in fields {
+            let init = field.to_init(alloc, slot)?;
+            inits.push(init)?;
+            slot += 1;
+        }
+        Ok(inits)
+    }
 }
 
 fn has_flatten(fields: &[Field<'_>]) -> bool
@@ -113,4 +143,13 @@ fn names_of(alloc: Global, fields: &[Field<'_>]) -> Mem<Items<Text>>
         }
     }
     Ok(names)
+}
+
+impl<'f, 'a> Drop for FieldsGen<'f, 'a> {
+    fn drop(self) {
+        let Self {
+            fields: _,
+            allow_unknown_fields: _,
+        } = self;
+    }
 }

@@ -3,7 +3,6 @@
 ghost use Rattle.std.specs.Prelude.{◌≡◌, ◌++◌, ◌<◌, ◌^◌, length, IfOk, OnOk};
 ghost use Rattle.codegen_core.specs.Compiled as spec;
 
-use crate::fields::push_declarations;
 use crate::trait_impl::TraitImpl;
 use codegen_program::{Derive, Forward, FuncName, Stmt, Unit};
 use meta_core::PathList;
@@ -43,7 +42,7 @@ impl<'a> FromDeriveInputImpl<'a> {
     {
         let mut stmts = Items::new(alloc);
         stmts.push(Stmt::DeclareErrors)?;
-        push_declarations(alloc, self.base.plain_fields(), &mut stmts)?;
+        self.base.fields_gen().push_declarations(alloc, &mut stmts)?;
         self.push_attributes(alloc, &mut stmts)?;
         stmts.push(Stmt::CheckShape)?;
         stmts.push(Stmt::ReadBody)?;
@@ -60,7 +59,7 @@ impl<'a> FromDeriveInputImpl<'a> {
         if names.is_empty() {
             return Ok(());
         }
-        let stmt = self.base.for_items(alloc)?;
+        let stmt = self.base.fields_gen().core_loop(alloc)?;
         let items = Items::of(alloc, stmt)?;
         let forward = Forward::Nothing;
         stmts.push(Stmt::ForAttributes {

@@ -3,7 +3,6 @@
 ghost use Rattle.std.specs.Prelude.{◌≡◌, ◌<◌, ◌^◌, length, IfOk};
 ghost use Rattle.codegen_core.specs.Compiled as spec;
 
-use crate::fields::push_declarations;
 use crate::trait_impl::TraitImpl;
 use codegen_program::{Derive, FuncName, Stmt, Unit};
 use node_core::{Items, Mem};
@@ -45,9 +44,9 @@ impl<'a> FromMetaImpl<'a> {
         ensures { IfOk result (λ it. it ≡ spec.list_stmts self.now.base) }
     {
         let mut stmts = Items::new(alloc);
-        push_declarations(alloc, self.base.plain_fields(), &mut stmts)?;
+        self.base.fields_gen().push_declarations(alloc, &mut stmts)?;
         stmts.push(Stmt::DeclareErrors)?;
-        stmts.push(self.base.for_items(alloc)?)?;
+        stmts.push(self.base.fields_gen().core_loop(alloc)?)?;
         self.base.push_closing(alloc, false, &mut stmts)?;
         Ok(stmts)
     }

@@ -19,6 +19,7 @@ pub use codegen_program::{
 };
 pub use default_expression::DefaultExpression;
 pub use field::Field;
+pub use fields::FieldsGen;
 pub use from_derive_impl::FromDeriveInputImpl;
 pub use from_meta_impl::FromMetaImpl;
 pub use overrideable_callable::OverrideableCallable;

@@ -6,7 +6,7 @@ ghost use Rattle.codegen_core.specs.Compiled as spec;
 
 use crate::default_expression::DefaultExpression;
 use crate::field::{Field, clone_of};
-use crate::fields::{arms_of, inits_of, push_checks, push_flattens, rest_of};
+use crate::fields::FieldsGen;
 use crate::variant::Variant;
 use body_core::ast::Data;
 use codegen_program::{DefaultSource, Derive, Func, FuncName, PostfixTransform, Stmt, Unit};
@@ -28,25 +28,24 @@ pub struct TraitImpl<'a> {
 }
 
 impl<'a> TraitImpl<'a> {
-    /// The fields in order.
-    pub(crate) fn plain_fields(&self) -> &[Field<'a>]
+    pub(crate) fn fields_gen(&self) -> FieldsGen<'_, 'a>
+        ensures fields { result.fields.now ≡ spec.fields_of self.now }
+        ensures allow { result.allow_unknown_fields ≡ self.now.allow_unknown_fields }
+    {
+        FieldsGen {
+            fields: self.plain_fields(),
+            allow_unknown_fields: self.allow_unknown_fields,
+        }
+    }
+
+    /// The fields in order; an enum has none of its own.
+    fn plain_fields(&self) -> &[Field<'a>]
         ensures { result.now ≡ spec.fields_of self.now }
     {
         match &self.body {
             Data::Struct(fields) => fields.fields.as_slice(),
             Data::Enum(_) => &[],
         }
-    }
-
-    /// The loop over the items.
-    pub(crate) fn for_items(&self, alloc: Global) -> Mem<Stmt>
-        requires { length (spec.fields_of self.now) < 2 ^ 32 }
-        ensures { IfOk result (λ it. it ≡ spec.for_items self.now) }
-    {
-        let fields = self.plain_fields();
-        let arms = arms_of(alloc, fields)?;
-        let rest = rest_of(alloc, self.allow_unknown_fields, fields)?;
-        Ok(Stmt::ForItems { arms, rest })
     }
 
     /// Adds what follows once the items are read, up to the end of the function.
@@ -59,9 +58,9 @@ impl<'a> TraitImpl<'a> {
         requires { length (spec.fields_of self.now) < 2 ^ 32 }
         ensures { OnOk result (stmts.new ≡ stmts.old ++ spec.closing from_ident self.now) }
     {
-        let fields = self.plain_fields();
-        push_flattens(alloc, fields, stmts)?;
-        push_checks(alloc, fields, stmts)?;
+        let fields = self.fields_gen();
+        fields.push_flattens(alloc, stmts)?;
+        fields.push_checks(alloc, stmts)?;
         stmts.push(Stmt::CheckErrors { location: None })?;
         self.push_default(alloc, from_ident, stmts)?;
         self.push_build(alloc, stmts)?;
@@ -95,7 +94,7 @@ impl<'a> TraitImpl<'a> {
         ensures { OnOk result (stmts.new ≡ stmts.old ++ spec.build self.now ∷ []) }
     {
         let name = self.ident.try_clone(alloc)?;
-        let inits = inits_of(alloc, self.plain_fields())?;
+        let inits = self.fields_gen().initializers(alloc)?;
         stmts.push(Stmt::Build { name, inits })
     }
 

@@ -1,6 +1,6 @@
 use Rattle.std.proofs.Common.{◌≡◌, ◌++◌, drop}
 use Rattle.codegen_core.specs.Fields.{at_slots, declaration}
-use Rattle.codegen_core.proofs.fields.push_declarations.Given as goal
+use Rattle.codegen_core.proofs.fields.FieldsGen.push_declarations.Given as goal
 
 abbrev pub invariant-loop-field : goal.invariant-loop-field
 invariant-loop-field l = record {

@@ -1,6 +1,6 @@
 use Rattle.std.proofs.Common.{◌≡◌, ◌++◌, drop}
 use Rattle.codegen_core.specs.Fields.{at_slots, arm, arms}
-use Rattle.codegen_core.proofs.fields.arms_of.Given as goal
+use Rattle.codegen_core.proofs.fields.FieldsGen.arms.Given as goal
 
 abbrev pub invariant-loop-field : goal.invariant-loop-field
 invariant-loop-field l = record {

@@ -1,6 +1,6 @@
 use Rattle.std.proofs.Common.{◌≡◌, ◌++◌, drop}
 use Rattle.codegen_core.specs.Fields.{at_slots, check}
-use Rattle.codegen_core.proofs.fields.push_checks.Given as goal
+use Rattle.codegen_core.proofs.fields.FieldsGen.push_checks.Given as goal
 
 abbrev pub invariant-loop-field : goal.invariant-loop-field
 invariant-loop-field l = record {
