@@ -9,14 +9,14 @@ use Rattle.codegen_core.specs.Compiled.{list_stmts, input_stmts}
 use Rattle.codegen_core.specs.declared.from_derive_impl.FromDeriveInputImpl.{FromDeriveInputImpl}
 use Rattle.codegen_core.specs.declared.trait_impl.TraitImpl.{TraitImpl}
 use Rattle.meaning_core.specs.Decl.{Decl}
-use Rattle.machine_core.specs.Setting.{Setting}
-use Rattle.machine_core.specs.Convert.{Earlier}
+use Rattle.machine_steps.specs.Setting.{Setting}
+use Rattle.machine_steps.specs.Convert.{Earlier}
 use Rattle.meaning_core.specs.Entries.{ItemEntry, events}
 use Rattle.meaning_core.specs.Declarations.{declared_meaning}
 use Rattle.meaning_core.specs.Meaning.{struct_meaning}
-use Rattle.machine_core.specs.Progress.{Items, Input, outcome}
-use Rattle.machine_core.specs.Statements.{run}
-use Rattle.machine_core.specs.Machine.{machine, setting_of}
+use Rattle.machine_steps.specs.Progress.{Items, Input, outcome}
+use Rattle.machine_steps.specs.Statements.{run}
+use Rattle.machine_steps.specs.Machine.{machine, setting_of}
 use Rattle.law_machine.specs.Compiles.{AreMetaUnits, IsDecl, IsInputDecl, IsInputUnit}
 
 -- the function that reads a list has an outcome, and it is what the items mean

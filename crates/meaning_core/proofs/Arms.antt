@@ -11,13 +11,13 @@ use Rattle.error_fault.specs.Kind.{set_of}
 use Rattle.error_fault.specs.Fault.{at_span}
 use Rattle.meaning_core.specs.declared.receiver.Receiver.{Receiver}
 use Rattle.meaning_core.specs.declared.walk.Slot.{Slot as Held}
-use Rattle.machine_core.specs.Names.{item_name}
+use Rattle.machine_steps.specs.Names.{item_name}
 use Rattle.meaning_core.specs.Decl.{has_flat, names}
 use Rattle.meaning_core.specs.Owners.{owner_named, field_at}
 use Rattle.meaning_core.specs.Receiver.{no_earlier, no_setting, receiver_decl, text_field}
 use Rattle.meaning_core.specs.Slots.{slot_of, state_of}
 use Rattle.codegen_program.specs.declared.arm.Arm.{Arm}
-use Rattle.machine_core.specs.State.{State, arm_slot, by_arm, by_name, by_rest, find_arm, put, slot_at, step}
+use Rattle.machine_steps.specs.State.{State, arm_slot, by_arm, by_name, by_rest, find_arm, put, slot_at, step}
 use Rattle.meaning_core.specs.EntrySteps.{arm, arms, rest, rest_by}
 use Rattle.meaning_core.proofs.Filters.{arm_is_owner}
 

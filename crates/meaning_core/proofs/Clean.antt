@@ -6,13 +6,13 @@ use Rattle.meta_nested.specs.declared.nested.NestedMeta.{NestedMeta}
 use Rattle.error_fault.specs.Faults.{at}
 use Rattle.error_fault.specs.Outcome.{Outcome, Value, Faults, faults_of}
 use Rattle.std.specs.Prelude.{option_and_then}
-use Rattle.machine_core.specs.Names.{item_name}
+use Rattle.machine_steps.specs.Names.{item_name}
 use Rattle.meaning_core.specs.Decl.{Shape, Single, Many, Flat, FieldDecl, Decl, is_named_by}
-use Rattle.machine_core.specs.Setting.{Setting}
-use Rattle.machine_core.specs.Convert.{Earlier}
+use Rattle.machine_steps.specs.Setting.{Setting}
+use Rattle.machine_steps.specs.Convert.{Earlier}
 use Rattle.meaning_core.specs.Entries.{Entry, FaultEntry, ItemEntry, items}
 use Rattle.meaning_core.specs.Owners.{owner, owner_named, is_this, own, field_at}
-use Rattle.machine_core.specs.Reading.{label}
+use Rattle.machine_steps.specs.Reading.{label}
 use Rattle.meaning_core.specs.EntryFaults.{read, own_faults, item_faults, named_faults, entry_faults, all_entry_faults}
 use Rattle.meaning_core.proofs.Filters.{OnOwner, owner_on, filter_none, filter_one, items_cons, same, other}
 

@@ -8,15 +8,15 @@ use Rattle.machine_value.specs.declared.value.Value.{Value as Datum}
 use Rattle.machine_value.specs.declared.value.Value.TheVariants as value
 use Rattle.machine_value.specs.Members.{struct_of, labelled}
 use Rattle.meaning_core.specs.Decl.{Shape, Single, Many, Flat, FieldDecl, Decl, has_flat, is_flat}
-use Rattle.machine_core.specs.Setting.{Setting}
-use Rattle.machine_core.specs.Convert.{Earlier}
+use Rattle.machine_steps.specs.Setting.{Setting}
+use Rattle.machine_steps.specs.Convert.{Earlier}
 use Rattle.meaning_core.specs.Entries.{items}
 use Rattle.meaning_core.specs.Owners.{own, field_at, each}
 use Rattle.meaning_core.specs.EntryFaults.{read, value_list, values, all_entry_faults}
-use Rattle.machine_core.specs.Reading.{transformed}
+use Rattle.machine_steps.specs.Reading.{transformed}
 use Rattle.meaning_core.specs.FieldValue.{flat_faults, missing, field_value}
 use Rattle.meaning_core.specs.Meaning.{joined, in_order, whole_default, collected}
-use Rattle.machine_core.specs.State.{Slot, One, Several}
+use Rattle.machine_steps.specs.State.{Slot, One, Several}
 use Rattle.meaning_core.specs.Walk.{with_slots, slot_by, field_slot, slot_missing, slot_value, closed, DirectIsMeaning}
 use Rattle.meaning_core.proofs.Filters.{walk_is_filters}
 use Rattle.meaning_core.proofs.Clean.{IsValue, Clean, clean_all, nil_left}

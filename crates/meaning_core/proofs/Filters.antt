@@ -16,14 +16,14 @@ use Rattle.meta_nested.specs.Nodes.{nested_span}
 use Rattle.node_expr.specs.declared.ty.«Type».{«Type» as Type'}
 use Rattle.codegen_program.specs.declared.arm.Arm.{Arm}
 use Rattle.meaning_core.specs.Decl.{Shape, Single, Many, Flat, FieldDecl, Decl, is_named, is_named_by, has_flat, names}
-use Rattle.machine_core.specs.Names.{item_name}
-use Rattle.machine_core.specs.Setting.{Setting}
-use Rattle.machine_core.specs.Convert.{Earlier}
+use Rattle.machine_steps.specs.Names.{item_name}
+use Rattle.machine_steps.specs.Setting.{Setting}
+use Rattle.machine_steps.specs.Convert.{Earlier}
 use Rattle.meaning_core.specs.EntryFaults.{element_by, read, value_list, values, own_faults, unknown, item_faults, named_faults, entry_faults, all_entry_faults}
 use Rattle.meaning_core.specs.Entries.{Entry, FaultEntry, ItemEntry, items}
 use Rattle.meaning_core.specs.Owners.{owner, owner_named, is_this, own, is_unclaimed, is_unclaimed_name, field_at, each}
-use Rattle.machine_core.specs.Reading.{label, read_at}
-use Rattle.machine_core.specs.State.{Slot, One, Several, State, find_arm, put, slot_at, filled, pushed, by_rest, arm_slot, by_arm, by_name}
+use Rattle.machine_steps.specs.Reading.{label, read_at}
+use Rattle.machine_steps.specs.State.{Slot, One, Several, State, find_arm, put, slot_at, filled, pushed, by_rest, arm_slot, by_arm, by_name}
 use Rattle.meaning_core.specs.EntrySteps.{arm, arms_from, arms, rest, rest_by, entry_step}
 use Rattle.meaning_core.specs.Walk.{slot_by, field_slot, kept_by, state_behind, WalkIsFilters}
 

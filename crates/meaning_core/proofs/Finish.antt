@@ -21,7 +21,7 @@ use Rattle.meaning_core.specs.FieldValue.{missing_by}
 use Rattle.meaning_core.specs.Meaning.{joined, in_order}
 use Rattle.meaning_core.specs.Receiver.{no_earlier, no_setting, receiver_decl, subject_meaning, text_field, text_type}
 use Rattle.meaning_core.specs.Slots.{slot_of, state_of, has_failed, IsTold, by_slot, missing_of, members_of}
-use Rattle.machine_core.specs.State.{One, State}
+use Rattle.machine_steps.specs.State.{One, State}
 use Rattle.meaning_core.specs.EntrySteps.{entry_step}
 use Rattle.meaning_core.specs.Walk.{with_slots, field_slot, kept_by, slot_missing, slot_value, closed, behind}
 use Rattle.meaning_core.proofs.Arms.{has_flat-texts}

@@ -22,7 +22,7 @@ use Rattle.meaning_core.specs.declared.walk.Slot.TheVariants.{Unseen, Failed, Re
 use Rattle.machine_value.specs.Members.{no_value}
 use Rattle.meaning_core.specs.Receiver.{no_earlier, no_setting, text_field, text_outcome, text_type}
 use Rattle.meaning_core.specs.Slots.{slot_of, state_of, has_failed, IsTold}
-use Rattle.machine_core.specs.State.{State, arm_slot, filled, put, slot_at}
+use Rattle.machine_steps.specs.State.{State, arm_slot, filled, put, slot_at}
 use Rattle.meaning_core.specs.EntrySteps.{arm}
 
 -- the state with one slot replaced

@@ -38,9 +38,9 @@ use Rattle.machine_cells.specs.RowCells.{layer_cells, row_cells}
 use Rattle.machine_cells.specs.Shown.{shown_cells}
 use Rattle.machine_cells.proofs.Showing.{shows}
 use Rattle.machine_host.specs.Made.{name_of}
-use Rattle.machine_core.specs.Convert.{cells, declared_cells, host_cells, none}
+use Rattle.machine_steps.specs.Convert.{cells, declared_cells, host_cells, none}
 use Rattle.meaning_core.specs.Receiver.{no_earlier, no_setting, text_outcome, text_type}
-use Rattle.machine_core.specs.Setting.{row as row_in}
+use Rattle.machine_steps.specs.Setting.{row as row_in}
 
 -- the one segment of its path
 abbrev segment : PathSegment

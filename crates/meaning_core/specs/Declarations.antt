@@ -6,9 +6,9 @@ use Rattle.error_fault.specs.Outcome.{Outcome}
 use Rattle.machine_value.specs.declared.value.Value.{Value as Datum}
 use Rattle.codegen_program.specs.declared.program.Derive.{Derive}
 use Rattle.codegen_program.specs.declared.program.Derive.TheVariants as derives
-use Rattle.machine_core.specs.Below.{below, unread}
-use Rattle.machine_core.specs.Convert.{Earlier}
-use Rattle.machine_core.specs.Setting.{Setting}
+use Rattle.machine_steps.specs.Below.{below, unread}
+use Rattle.machine_steps.specs.Convert.{Earlier}
+use Rattle.machine_steps.specs.Setting.{Setting}
 use Rattle.meaning_core.specs.Decl.{Decl}
 use Rattle.meaning_core.specs.Entries.{ItemEntry, events}
 use Rattle.meaning_core.specs.Meaning.{struct_meaning}

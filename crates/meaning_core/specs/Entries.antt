@@ -8,8 +8,8 @@ use Rattle.meta_nested.specs.declared.nested.NestedMeta.{NestedMeta}
 use Rattle.meta_cells.specs.Dispatch.{items_of}
 use Rattle.error_fault.specs.declared.fault.Fault.{Fault}
 use Rattle.error_fault.specs.Outcome.{Outcome, Value, Faults}
-use Rattle.machine_core.specs.Attributes.{has_name, name_value_fault}
-use Rattle.machine_core.specs.Names.{meta_name}
+use Rattle.machine_steps.specs.Attributes.{has_name, name_value_fault}
+use Rattle.machine_steps.specs.Names.{meta_name}
 
 pub data Entry : Type 0 where
   FaultEntry : Fault → Entry

@@ -13,10 +13,10 @@ use Rattle.machine_value.specs.declared.value.Value.{Value as Datum}
 use Rattle.meta_nested.specs.Nodes.{nested_span}
 use Rattle.node_expr.specs.declared.ty.«Type».{«Type» as Type'}
 use Rattle.meaning_core.specs.Decl.{Shape, Single, Many, Flat, FieldDecl, Decl, has_flat, names}
-use Rattle.machine_core.specs.Names.{item_name}
-use Rattle.machine_core.specs.Setting.{Setting}
-use Rattle.machine_core.specs.Convert.{Earlier, element}
-use Rattle.machine_core.specs.Reading.{label, read_at}
+use Rattle.machine_steps.specs.Names.{item_name}
+use Rattle.machine_steps.specs.Setting.{Setting}
+use Rattle.machine_steps.specs.Convert.{Earlier, element}
+use Rattle.machine_steps.specs.Reading.{label, read_at}
 use Rattle.meaning_core.specs.Entries.{Entry, FaultEntry, ItemEntry, items}
 use Rattle.meaning_core.specs.Owners.{owner_named, own, field_at}
 

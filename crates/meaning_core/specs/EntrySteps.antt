@@ -4,9 +4,9 @@ use Rattle.base_core.specs.declared.text.Text.{Text}
 use Rattle.codegen_program.specs.declared.arm.Arm.{Arm}
 use Rattle.codegen_program.specs.declared.arm.Rest.{Rest}
 use Rattle.codegen_program.specs.declared.arm.Rest.TheVariants as rests
-use Rattle.machine_core.specs.Setting.{Setting}
-use Rattle.machine_core.specs.Convert.{Earlier}
-use Rattle.machine_core.specs.State.{State, step, with_faults}
+use Rattle.machine_steps.specs.Setting.{Setting}
+use Rattle.machine_steps.specs.Convert.{Earlier}
+use Rattle.machine_steps.specs.State.{State, step, with_faults}
 use Rattle.meaning_core.specs.Decl.{FieldDecl, Decl, has_flat, is_many, is_named, names}
 use Rattle.meaning_core.specs.Entries.{Entry, FaultEntry, ItemEntry}
 

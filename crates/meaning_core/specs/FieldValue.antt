@@ -12,8 +12,8 @@ use Rattle.machine_host.specs.Seen.{NothingSeen}
 use Rattle.machine_host.specs.declared.place.Use.TheVariants as use_at
 use Rattle.node_expr.specs.declared.ty.«Type».{«Type» as Type'}
 use Rattle.meaning_core.specs.Decl.{Shape, Single, Many, Flat, FieldDecl, Decl, Fallback, OfType, OfCall, OfContainer, fallback, names}
-use Rattle.machine_core.specs.Setting.{Setting, ask}
-use Rattle.machine_core.specs.Convert.{Earlier, list, none, default}
+use Rattle.machine_steps.specs.Setting.{Setting, ask}
+use Rattle.machine_steps.specs.Convert.{Earlier, list, none, default}
 use Rattle.meaning_core.specs.Owners.{unclaimed}
 use Rattle.meaning_core.specs.EntryFaults.{read, values}
 

@@ -8,11 +8,11 @@ use Rattle.machine_host.specs.Seen.{NothingSeen}
 use Rattle.machine_host.specs.declared.place.Use.TheVariants as use_at
 use Rattle.node_expr.specs.declared.ty.«Type».{«Type» as Type'}
 use Rattle.meaning_core.specs.Decl.{Default, ByType, ByCall, Decl}
-use Rattle.machine_core.specs.Setting.{Setting, ask}
-use Rattle.machine_core.specs.Convert.{Earlier, default}
+use Rattle.machine_steps.specs.Setting.{Setting, ask}
+use Rattle.machine_steps.specs.Convert.{Earlier, default}
 use Rattle.meaning_core.specs.Entries.{Entry, items}
 use Rattle.meaning_core.specs.Owners.{own, each}
-use Rattle.machine_core.specs.Reading.{transformed}
+use Rattle.machine_steps.specs.Reading.{transformed}
 use Rattle.meaning_core.specs.EntryFaults.{all_entry_faults}
 use Rattle.meaning_core.specs.FieldValue.{flat_faults, missing, field_value}
 

@@ -4,7 +4,7 @@ use Rattle.std.specs.Str.{bytes_eq}
 use Rattle.base_core.specs.declared.text.Text.{Text}
 use Rattle.meta_nested.specs.declared.nested.NestedMeta.{NestedMeta}
 use Rattle.machine_host.specs.Made.{named_type}
-use Rattle.machine_core.specs.Names.{item_name}
+use Rattle.machine_steps.specs.Names.{item_name}
 use Rattle.meaning_core.specs.Decl.{FieldDecl, Single, is_named}
 
 -- items name the field so

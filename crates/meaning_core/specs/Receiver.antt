@@ -26,11 +26,11 @@ use Rattle.node_expr.specs.declared.ty.«Type».{«Type» as Type'}
 use Rattle.meta_nested.specs.declared.nested.NestedMeta.{NestedMeta}
 use Rattle.machine_host.specs.Made.{named_type}
 use Rattle.machine_host.specs.Refusing.{refusing}
-use Rattle.machine_core.specs.Names.{meta_name}
+use Rattle.machine_steps.specs.Names.{meta_name}
 use Rattle.meaning_core.specs.Decl.{Single, FieldDecl, Decl}
-use Rattle.machine_core.specs.Setting.{Setting}
-use Rattle.machine_core.specs.Convert.{Earlier}
-use Rattle.machine_core.specs.Reading.{read_at}
+use Rattle.machine_steps.specs.Setting.{Setting}
+use Rattle.machine_steps.specs.Convert.{Earlier}
+use Rattle.machine_steps.specs.Reading.{read_at}
 use Rattle.meaning_core.specs.Entries.{events}
 use Rattle.meaning_core.specs.Meaning.{struct_meaning}
 

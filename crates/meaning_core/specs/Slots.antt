@@ -11,7 +11,7 @@ use Rattle.meaning_core.specs.declared.walk.Slot.{Slot as Held}
 use Rattle.meaning_core.specs.declared.walk.Slot.TheVariants.{Unseen, Failed, Read}
 use Rattle.machine_value.specs.Members.{no_value}
 use Rattle.meaning_core.specs.Receiver.{text_type}
-use Rattle.machine_core.specs.State.{Slot, One, State}
+use Rattle.machine_steps.specs.State.{Slot, One, State}
 
 -- the place of one text
 abbrev pub slot_of : Held → Slot

@@ -9,15 +9,15 @@ use Rattle.machine_value.specs.declared.value.Value.{Value as Datum}
 use Rattle.machine_value.specs.declared.value.Value.TheVariants as value
 use Rattle.machine_value.specs.Members.{no_value, struct_of, labelled}
 use Rattle.meaning_core.specs.Decl.{Shape, Single, Many, Flat, FieldDecl, Decl, fallback, has_flat}
-use Rattle.machine_core.specs.Setting.{Setting}
-use Rattle.machine_core.specs.Convert.{Earlier, none}
+use Rattle.machine_steps.specs.Setting.{Setting}
+use Rattle.machine_steps.specs.Convert.{Earlier, none}
 use Rattle.meaning_core.specs.Entries.{Entry, items}
 use Rattle.meaning_core.specs.Owners.{own, unclaimed, each}
 use Rattle.meaning_core.specs.EntryFaults.{read, values, all_entry_faults}
-use Rattle.machine_core.specs.Reading.{transformed}
+use Rattle.machine_steps.specs.Reading.{transformed}
 use Rattle.meaning_core.specs.FieldValue.{missing_by, absent_value, empty_value}
 use Rattle.meaning_core.specs.Meaning.{joined, in_order, whole_default, struct_meaning}
-use Rattle.machine_core.specs.State.{Slot, One, Several, State}
+use Rattle.machine_steps.specs.State.{Slot, One, Several, State}
 use Rattle.meaning_core.specs.EntrySteps.{entry_step}
 
 -- something of each field and its slot, in order

@@ -1,8 +1,8 @@
 //! A declaration as a reading of subjects needs it.
 
 ghost use Rattle.std.specs.Prelude.{◌≡◌, ◌++◌, IfOk, OnOk};
-ghost use Rattle.machine_core.specs.Attributes.{has_name};
-ghost use Rattle.machine_core.specs.Names.{meta_name};
+ghost use Rattle.machine_steps.specs.Attributes.{has_name};
+ghost use Rattle.machine_steps.specs.Names.{meta_name};
 ghost use Rattle.meaning_core.specs.Receiver.{receiver_of, receiver_decl, subject_meaning, option_names, meta_names, words_of, field_names, attribute_names};
 
 use crate::names::Names;

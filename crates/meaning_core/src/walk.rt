@@ -5,12 +5,12 @@ ghost use Rattle.error_core.specs.Answers.{Answers};
 ghost use Rattle.machine_value.specs.declared.value.Value.TheVariants as value;
 ghost use Rattle.meta_cells.specs.Dispatch as dispatch;
 ghost use Rattle.meaning_core.specs.Entries.{ItemEntry, entries_of, events, list_entries};
-ghost use Rattle.machine_core.specs.Attributes.{name_value_fault};
-ghost use Rattle.machine_core.specs.Names.{item_name};
+ghost use Rattle.machine_steps.specs.Attributes.{name_value_fault};
+ghost use Rattle.machine_steps.specs.Names.{item_name};
 ghost use Rattle.meaning_core.specs.Receiver.{no_earlier, no_setting, receiver_decl, text_field, text_outcome, text_type};
 ghost use Rattle.meaning_core.specs.Slots.{IsTold, member_one, missing_one, slot_of, state_of};
 ghost use Rattle.meaning_core.specs.EntrySteps.{arm, arms, entry_step, rest};
-ghost use Rattle.machine_core.specs.State.{arm_slot, filled, put, slot_at, step};
+ghost use Rattle.machine_steps.specs.State.{arm_slot, filled, put, slot_at, step};
 ghost use Rattle.meaning_core.specs.Walk.{closed};
 
 use crate::outcome::Outcome;

@@ -4,7 +4,7 @@ use Rattle.meta_nested.specs.declared.nested.NestedMeta.{NestedMeta}
 use Rattle.error_fault.specs.Outcome.{Outcome, refused}
 use Rattle.error_fault.specs.declared.kind.FaultKind.TheVariants.{Custom}
 use Rattle.machine_value.specs.declared.value.Value.{Value as Datum}
-use Rattle.machine_core.specs.Convert.{Earlier}
+use Rattle.machine_steps.specs.Convert.{Earlier}
 
 -- no declaration of this number is read from items
 abbrev pub unread : Outcome Datum

@@ -15,11 +15,11 @@ use Rattle.codegen_program.specs.declared.program.FuncName.TheVariants as func
 use Rattle.codegen_program.specs.declared.program.Program.{Program}
 use Rattle.codegen_program.specs.declared.program.«Unit».{«Unit» as Unit'}
 use Rattle.codegen_program.specs.declared.stmt.Stmt.{Stmt}
-use Rattle.machine_core.specs.Setting.{Setting}
-use Rattle.machine_core.specs.Convert.{Earlier}
-use Rattle.machine_core.specs.Below.{below, unread}
-use Rattle.machine_core.specs.Progress.{Given, Items, Input, outcome}
-use Rattle.machine_core.specs.Statements.{run}
+use Rattle.machine_steps.specs.Setting.{Setting}
+use Rattle.machine_steps.specs.Convert.{Earlier}
+use Rattle.machine_steps.specs.Below.{below, unread}
+use Rattle.machine_steps.specs.Progress.{Given, Items, Input, outcome}
+use Rattle.machine_steps.specs.Statements.{run}
 
 abbrev pub or_unread : Option (Outcome Datum) → Outcome Datum
 or_unread None = unread

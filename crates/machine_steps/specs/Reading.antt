@@ -18,8 +18,8 @@ use Rattle.machine_host.specs.declared.place.Use.{Use}
 use Rattle.machine_host.specs.declared.place.Use.TheVariants as use_at
 use Rattle.machine_value.specs.declared.value.Value.{Value as Datum}
 use Rattle.codegen_program.specs.declared.arm.PostfixTransform.{PostfixTransform}
-use Rattle.machine_core.specs.Setting.{Setting, ask, called}
-use Rattle.machine_core.specs.Convert.{Earlier, convert}
+use Rattle.machine_steps.specs.Setting.{Setting, ask, called}
+use Rattle.machine_steps.specs.Convert.{Earlier, convert}
 
 -- the name of a value in a list: the field's, and how many values stand before it
 abbrev pub label : Text → ℕ → Text

@@ -7,7 +7,7 @@ use Rattle.error_fault.specs.declared.fault.Fault.{Fault}
 use Rattle.error_fault.specs.Outcome.{Outcome, Value, Faults}
 use Rattle.machine_value.specs.declared.value.Value.{Value as Datum}
 use Rattle.machine_value.specs.Members.{no_value}
-use Rattle.machine_core.specs.State.{State}
+use Rattle.machine_steps.specs.State.{State}
 
 -- what a function is run on: the items of a list, or an item of a text
 pub data Given : Type 0 where

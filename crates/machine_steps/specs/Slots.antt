@@ -16,9 +16,9 @@ use Rattle.machine_value.specs.Members.{member}
 use Rattle.codegen_program.specs.declared.init.Fallback.{Fallback}
 use Rattle.codegen_program.specs.declared.init.Fallback.TheVariants as fallbacks
 use Rattle.codegen_program.specs.declared.init.Init.{Init}
-use Rattle.machine_core.specs.Setting.{Setting, ask}
-use Rattle.machine_core.specs.Convert.{Earlier, list, none, default}
-use Rattle.machine_core.specs.State.{Slot, One, Several, slot_at}
+use Rattle.machine_steps.specs.Setting.{Setting, ask}
+use Rattle.machine_steps.specs.Convert.{Earlier, list, none, default}
+use Rattle.machine_steps.specs.State.{Slot, One, Several, slot_at}
 
 abbrev pub slot_type : Slot → Type'
 slot_type (One type seen value) = type

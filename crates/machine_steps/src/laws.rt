@@ -1,6 +1,6 @@
 //! Laws of the machine.
 
-ghost use Rattle.machine_core.specs.Statements.{RunInOrder};
+ghost use Rattle.machine_steps.specs.Statements.{RunInOrder};
 
 /// Statements that stand behind others go on from where those came to.
 pub fn statements_run_in_order()

@@ -22,14 +22,14 @@ use Rattle.codegen_program.specs.declared.init.DefaultSource.TheVariants as sour
 use Rattle.codegen_program.specs.declared.init.Init.{Init}
 use Rattle.codegen_program.specs.declared.stmt.Stmt.{Stmt, fold-Stmt}
 use Rattle.codegen_program.specs.declared.stmt.Stmt.TheOpen.{Stmt-F}
-use Rattle.machine_core.specs.Names.{meta_name}
-use Rattle.machine_core.specs.Setting.{Setting, ask, outcome_of}
-use Rattle.machine_core.specs.Convert.{Earlier, default}
-use Rattle.machine_core.specs.Attributes.{has_name, name_value_fault}
-use Rattle.machine_core.specs.Reading.{transformed}
-use Rattle.machine_core.specs.State.{Slot, One, Several, State, put, slot_at, step, with_faults}
-use Rattle.machine_core.specs.Progress.{Given, Items, Input, items_given, attributes_given, Progress, Going, start, going, building, unless_faults, on_outcome, built_or_stuck}
-use Rattle.machine_core.specs.Slots.{read_flat, check_missing, init_values}
+use Rattle.machine_steps.specs.Names.{meta_name}
+use Rattle.machine_steps.specs.Setting.{Setting, ask, outcome_of}
+use Rattle.machine_steps.specs.Convert.{Earlier, default}
+use Rattle.machine_steps.specs.Attributes.{has_name, name_value_fault}
+use Rattle.machine_steps.specs.Reading.{transformed}
+use Rattle.machine_steps.specs.State.{Slot, One, Several, State, put, slot_at, step, with_faults}
+use Rattle.machine_steps.specs.Progress.{Given, Items, Input, items_given, attributes_given, Progress, Going, start, going, building, unless_faults, on_outcome, built_or_stuck}
+use Rattle.machine_steps.specs.Slots.{read_flat, check_missing, init_values}
 
 -- what a statement makes of the progress of a run
 abbrev pub Doing : Type 0

@@ -16,10 +16,10 @@ use Rattle.codegen_program.specs.declared.arm.Rest.{Rest}
 use Rattle.codegen_program.specs.declared.arm.Rest.TheVariants as rests
 use Rattle.machine_host.specs.Made.{named_type}
 use Rattle.node_expr.specs.declared.ty.«Type».{«Type» as Type'}
-use Rattle.machine_core.specs.Names.{item_name}
-use Rattle.machine_core.specs.Setting.{Setting}
-use Rattle.machine_core.specs.Convert.{Earlier, element}
-use Rattle.machine_core.specs.Reading.{label, read_at}
+use Rattle.machine_steps.specs.Names.{item_name}
+use Rattle.machine_steps.specs.Setting.{Setting}
+use Rattle.machine_steps.specs.Convert.{Earlier, element}
+use Rattle.machine_steps.specs.Reading.{label, read_at}
 
 -- a place for one value, seen or not, with a value or none; or for a list of values
 pub data Slot : Type 0 where

@@ -16,7 +16,7 @@ use Rattle.machine_rows.specs.Rows.{element_of}
 use Rattle.machine_host.specs.Decls.{decl_names}
 use Rattle.machine_value.specs.Members.{no_value}
 use Rattle.machine_value.specs.declared.value.Value.{Value as Datum}
-use Rattle.machine_core.specs.Setting.{Setting, outcome_of, row}
+use Rattle.machine_steps.specs.Setting.{Setting, outcome_of, row}
 
 -- what the declarations of lower numbers read from a list of items
 abbrev pub Earlier : Type 0

@@ -12,10 +12,10 @@ use Rattle.codegen_program.specs.declared.init.Init.{Init}
 use Rattle.codegen_program.specs.declared.stmt.Stmt.{Stmt, roll-Stmt, fold-roll-Stmt}
 use Rattle.codegen_program.specs.declared.stmt.Stmt.TheOpen.{Stmt-F}
 use Rattle.codegen_program.specs.declared.stmt.Stmt.TheVariants as stmt
-use Rattle.machine_core.specs.Setting.{Setting}
-use Rattle.machine_core.specs.Convert.{Earlier}
-use Rattle.machine_core.specs.Progress.{Given, Progress}
-use Rattle.machine_core.specs.Statements.{Doing, stmt_step, does, run_from}
+use Rattle.machine_steps.specs.Setting.{Setting}
+use Rattle.machine_steps.specs.Convert.{Earlier}
+use Rattle.machine_steps.specs.Progress.{Given, Progress}
+use Rattle.machine_steps.specs.Statements.{Doing, stmt_step, does, run_from}
 
 module _ (setting : Setting) (earlier : Earlier) (type : Type') where
   -- the step of a layer

@@ -1,5 +1,0 @@
-use Rattle.machine_core.proofs.Statements.{run_append}
-use Rattle.machine_core.proofs.laws.statements_run_in_order.Goals as goal
-
-pub returns : goal.returns
-returns c = run_append
