@@ -15,6 +15,7 @@ pub use error_core::{Error, Fail, Result, Spanned};
 pub use from_meta::FromMeta;
 pub use from_meta_tag::{FromMetaTag, FromMetaTagAll};
 pub use key::KeyFromPath;
+pub use map_key::{KeySet, MapKey};
 pub use meta_cells::Call;
 pub use meta_nested::{MetaNameValueInvalidExpr, NestedMeta};
 pub use node_core::{
@@ -25,4 +26,5 @@ pub use node_core::{
     TypeSlice, TypeTraitObject, TypeTuple, Visibility, WhereClause, WherePredicate, path_to_string,
 };
 pub use path_list::{Intersection, PathList};
+pub use rows::read_key;
 pub use syn_core::{Parse, ParseFail};

@@ -10,7 +10,7 @@ use std::collections::{BTreeSet, HashSet};
 use std::hash::Hash;
 
 /// A key that a map compares by what is seen of it.
-pub(crate) trait MapKey: KeyFromPath + Eq {
+pub trait MapKey: KeyFromPath + Eq {
     ghost use Rattle.std.specs.Cmp.{IsEquivalence};
 
     /// Another key that is seen as this one.
@@ -75,7 +75,7 @@ impl MapKey for Path {
 }
 
 /// A set of keys, by which a repeated one is found.
-pub(crate) trait KeySet<K: Eq>: Sized {
+pub trait KeySet<K: Eq>: Sized {
     ghost use Rattle.std.specs.Prelude.{Bool};
 
     ghost has: { Self → K → Bool };

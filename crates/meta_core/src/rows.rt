@@ -14,3 +14,5 @@ mod unsigned;
 mod vectors;
 mod words;
 mod wrappers;
+
+pub use entries::read_key;

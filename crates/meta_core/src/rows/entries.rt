@@ -115,7 +115,7 @@ fn read_pair<K: MapKey + Drop, V: FromMeta + Drop, S: KeySet<K>>(
 }
 
 /// The key that the path is, which is put to those before. Its faults are put behind the errors.
-fn read_key<K: MapKey + Drop, S: KeySet<K>>(
+pub fn read_key<K: MapKey + Drop, S: KeySet<K>>(
     alloc: Global,
     path: &Path,
     keys: &mut S,
