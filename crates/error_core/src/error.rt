@@ -71,7 +71,8 @@ impl Model for Error {
 }
 
 impl Error {
-    pub(crate) fn from_fault(alloc: Global, fault: Fault) -> Error
+    /// The error of a fault, with its place and the fields that it is in.
+    pub fn from_fault(alloc: Global, fault: Fault) -> Error
         ensures { result ≡ One fault }
     {
         let (kind, locations, span) = fault.into_parts();
