@@ -21,6 +21,6 @@ pub use head::{Head, head_of};
 pub use leaf::{Integer, Leaf, LitKind, Parsed, PunctuatedItem, SetItem, Unsigned, VecItem};
 pub use names::Names;
 pub use path::is_named;
-pub use resolve::{element_of, row_among, row_of};
+pub use resolve::{element_among, element_of, row_among, row_of};
 pub use row::Row;
 pub use wrapper::{HashKey, TreeKey, Wrapper};

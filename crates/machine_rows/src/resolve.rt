@@ -69,8 +69,15 @@ fn host(alloc: Global, ty: &Type) -> Mem<Row>
 pub fn element_of<'a>(decls: &[Ident], ty: &'a Type) -> Option<&'a Type>
     ensures { option_copied result ≡ spec.element_of decls.now ty.now }
 {
+    element_among(&decls, ty)
+}
+
+/// The `T` of a `Vec<T>`, as [`element_of`] gives it, among declarations in whatever form they are at hand.
+pub fn element_among<'a, N: Names>(decls: &N, ty: &'a Type) -> Option<&'a Type>
+    ensures { option_copied result ≡ spec.element_of (N.idents decls.now) ty.now }
+{
     let segments = segments_in(ty);
-    match (meant_by(&decls, segments), last_arguments(segments)) {
+    match (meant_by(decls, segments), last_arguments(segments)) {
         (Meant::Table(Name::Vec), Arguments::One(inner)) => Some(inner),
         _ => None,
     }
