@@ -1,0 +1,18 @@
+//! What the types of the table answer, as values: each type's own conversion, with what it reads shown.
+#![tactic(auto)]
+
+mod default;
+mod lists;
+mod literals;
+mod numbers;
+mod order;
+mod sets;
+mod shown;
+mod syntax;
+mod table;
+mod words;
+
+pub use default::leaf_default;
+pub use order::in_order;
+pub use shown::syntax_value;
+pub use table::{leaf_cell, unit_cell};
