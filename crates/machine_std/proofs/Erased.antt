@@ -38,13 +38,13 @@ use Rattle.machine_host.specs.HostSays.{erased_call, erased_decls, erased_place}
 use Rattle.machine_host.specs.Made.{named_type}
 use Rattle.machine_host.specs.declared.place.Place.{Place}
 use Rattle.machine_host.specs.declared.place.Use.{Use}
-use Rattle.machine_std.specs.Defaults.{decl_default, declared_in, default_among, default_below, default_in, each_of, member_default, named_in, named_of, struct_default, type_default, with_first}
+use Rattle.machine_std.specs.Defaults.{decl_default, declared_in, default_among, default_below, default_in, each_of, member_default, named_in, named_of, none_of_host, struct_default, type_default, with_first}
 use Rattle.machine_std.specs.Functions.{chosen, head_leaf, layer_path, leaf_in, offer_by, offer_for, offered_at, path_in}
 use Rattle.machine_std.specs.StdSays.{is_tag, taken}
 use Rattle.machine_std.proofs.Heads.{are_bare-bare, bared_head, head_of-bare, path_text-bare, segments_in-bare}
 use Rattle.machine_std.proofs.Nodes.{opened_expr, opened_expr_path}
 use Rattle.machine_std.specs.DefaultRows.{default, default-Host, default-at, step}
-use Rattle.machine_std.specs.Rests.{around_layer, head_default, none_of_host}
+use Rattle.machine_std.specs.Rests.{around_layer, head_default}
 
 pub names-bare : (decls : List DeriveInput) → decl_names (erased_decls decls) ≡ map erased_ident (decl_names decls)
 names-bare [] = refl
@@ -188,7 +188,3 @@ is_tag-bare ty = ap (are_bare (codes "Tag" ∷ [])) (segments_in-bare ty) ∙ ar
 
 pub taken-bare : (path : Path) → taken (erased_path path) ≡ taken path
 taken-bare path = ap (λ text. if bytes_eq (codes "text::trim") text || bytes_eq (codes "text::nonempty") text then Some (named_type (codes "String")) else None) (path_text-bare path)
-
-pub map-some : {A B : Type 0} (f : A → B) (it : Option A) → is_some (option_map f it) ≡ is_some it
-map-some f None = refl
-map-some f (Some it) = refl

@@ -13,16 +13,21 @@ use Rattle.machine_host.specs.Decls.{member_name}
 use Rattle.machine_std.specs.Defaults.{each_of, member_default, struct_default, with_first}
 
 -- the members, and then these
-abbrev pub behind : {A : Type 0} → List A → Option (List A) → Option (List A)
-behind members found = option_map (λ rest. members ++ rest) found
+abbrev pub followed_by : {A : Type 0} → List A → Option (List A) → Option (List A)
+followed_by members found = option_map (λ rest. members ++ rest) found
 
-pub behind-nothing : {A : Type 0} (found : Option (List A)) → behind [] found ≡ found
-behind-nothing None = refl
-behind-nothing (Some rest) = refl
+pub followed_by-nothing : {A : Type 0} (found : Option (List A)) → followed_by [] found ≡ found
+followed_by-nothing None = refl
+followed_by-nothing (Some rest) = refl
 
-behind-one : {A : Type 0} (members : List A) (member : A) (found : Option (List A)) → behind members (with_first (Some member) found) ≡ behind (members ++ (member ∷ [])) found
-behind-one members member None = refl
-behind-one members member (Some rest) = ap Some (sym (append_assoc members (member ∷ []) rest))
+followed_by-one : {A : Type 0} (members : List A) (member : A) (found : Option (List A)) → followed_by members (with_first (Some member) found) ≡ followed_by (members ++ (member ∷ [])) found
+followed_by-one members member None = refl
+followed_by-one members member (Some rest) = ap Some (sym (append_assoc members (member ∷ []) rest))
+
+-- whether there is a value does not change where a function is put on it
+pub is_some-map : {A B : Type 0} (f : A → B) (it : Option A) → is_some (option_map f it) ≡ is_some it
+is_some-map f None = refl
+is_some-map f (Some it) = refl
 
 module _ (default_of : Type' → Option Value) where
   abbrev pub members_of : List Field → Option (List (Text × Value))
@@ -31,22 +36,22 @@ module _ (default_of : Type' → Option Value) where
   opened : (fields : List Field) (at : ℕ) (field : Field) → at < length fields → field ≡ get_or fields at field → drop at fields ≡ field ∷ drop (at + 1) fields
   opened fields at field lt is = drop-cons fields at field lt ∙ ap (λ first. first ∷ drop (suc at) fields) (sym is) ∙ ap (λ n. field ∷ drop n fields) (sym (add-one at))
 
-  pub behind-more : (members : List (Text × Value)) (fields : List Field) (at : ℕ) (field : Field) → at < length fields → field ≡ get_or fields at field → (made : Value) → Some made ≡ default_of field.ty
-      → behind members (members_of (drop at fields)) ≡ behind (members ++ ((member_name field, made) ∷ [])) (members_of (drop (at + 1) fields))
-  behind-more members fields at field lt is made e =
+  pub followed_by-more : (members : List (Text × Value)) (fields : List Field) (at : ℕ) (field : Field) → at < length fields → field ≡ get_or fields at field → (made : Value) → Some made ≡ default_of field.ty
+      → followed_by members (members_of (drop at fields)) ≡ followed_by (members ++ ((member_name field, made) ∷ [])) (members_of (drop (at + 1) fields))
+  followed_by-more members fields at field lt is made e =
       let member : Text × Value = (member_name field, made) in
-      ap (λ rest. behind members (members_of rest)) (opened fields at field lt is)
-      ∙ ap (λ found. behind members (with_first (option_map (λ (it : Value). let one : Text × Value = (member_name field, it) in one) found) (members_of (drop (at + 1) fields)))) (sym e)
-      ∙ behind-one members member (members_of (drop (at + 1) fields))
+      ap (λ rest. followed_by members (members_of rest)) (opened fields at field lt is)
+      ∙ ap (λ found. followed_by members (with_first (option_map (λ (it : Value). let one : Text × Value = (member_name field, it) in one) found) (members_of (drop (at + 1) fields)))) (sym e)
+      ∙ followed_by-one members member (members_of (drop (at + 1) fields))
 
-  pub behind-none : (members : List (Text × Value)) (fields : List Field) (at : ℕ) (field : Field) → at < length fields → field ≡ get_or fields at field → None ≡ default_of field.ty
-      → behind members (members_of (drop at fields)) ≡ None
-  behind-none members fields at field lt is e =
-      ap (λ rest. behind members (members_of rest)) (opened fields at field lt is)
-      ∙ ap (λ found. behind members (with_first (option_map (λ (it : Value). let one : Text × Value = (member_name field, it) in one) found) (members_of (drop (at + 1) fields)))) (sym e)
+  pub followed_by-none : (members : List (Text × Value)) (fields : List Field) (at : ℕ) (field : Field) → at < length fields → field ≡ get_or fields at field → None ≡ default_of field.ty
+      → followed_by members (members_of (drop at fields)) ≡ None
+  followed_by-none members fields at field lt is e =
+      ap (λ rest. followed_by members (members_of rest)) (opened fields at field lt is)
+      ∙ ap (λ found. followed_by members (with_first (option_map (λ (it : Value). let one : Text × Value = (member_name field, it) in one) found) (members_of (drop (at + 1) fields)))) (sym e)
 
-  pub behind-end : (members : List (Text × Value)) (fields : List Field) (at : ℕ) → length fields ≤ at → behind members (members_of (drop at fields)) ≡ Some members
-  behind-end members fields at le = ap (λ rest. behind members (members_of rest)) (drop_all at fields le) ∙ ap Some (append-nil members)
+  pub followed_by-end : (members : List (Text × Value)) (fields : List Field) (at : ℕ) → length fields ≤ at → followed_by members (members_of (drop at fields)) ≡ Some members
+  followed_by-end members fields at le = ap (λ rest. followed_by members (members_of rest)) (drop_all at fields le) ∙ ap Some (append-nil members)
 
   -- ---- whether there is a default
 
@@ -55,16 +60,12 @@ module _ (default_of : Type' → Option Value) where
   with_first-some (Some first) None = refl
   with_first-some (Some first) (Some more) = refl
 
-  map-some : {A B : Type 0} (f : A → B) (it : Option A) → is_some (option_map f it) ≡ is_some it
-  map-some f None = refl
-  map-some f (Some it) = refl
-
   members-some : (fields : List Field) → is_some (members_of fields) ≡ list_all (λ field. is_some (default_of field.ty)) fields
   members-some [] = refl
   members-some (field ∷ fields) =
       with_first-some (member_default default_of field) (members_of fields)
-      ∙ ap (λ b. b && is_some (members_of fields)) (map-some (λ (it : Value). let one : Text × Value = (member_name field, it) in one) (default_of field.ty))
+      ∙ ap (λ b. b && is_some (members_of fields)) (is_some-map (λ (it : Value). let one : Text × Value = (member_name field, it) in one) (default_of field.ty))
       ∙ ap (λ b. is_some (default_of field.ty) && b) (members-some fields)
 
   pub struct-some : (ident : Ident) (fields : List Field) → is_some (struct_default default_of ident fields) ≡ list_all (λ field. is_some (default_of field.ty)) fields
-  struct-some ident fields = map-some (value.Struct ident.text style.Struct) (members_of fields) ∙ members-some fields
+  struct-some ident fields = is_some-map (value.Struct ident.text style.Struct) (members_of fields) ∙ members-some fields

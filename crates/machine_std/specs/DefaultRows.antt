@@ -15,7 +15,8 @@ use Rattle.machine_rows.specs.declared.wrapper.Wrapper.{Wrapper}
 use Rattle.machine_rows.specs.declared.wrapper.Wrapper.TheVariants as wrapper
 use Rattle.machine_value.specs.declared.value.Value.{Value}
 use Rattle.machine_cells.specs.Defaults.{layer_default, leaf_default, row_default}
-use Rattle.machine_std.specs.Rests.{around_layer, head_default, none_of_host}
+use Rattle.machine_std.specs.Defaults.{none_of_host}
+use Rattle.machine_std.specs.Rests.{around_layer, head_default}
 
 module _ (declared : ℕ → Option Value) where
   abbrev pub default : Row → Option Value

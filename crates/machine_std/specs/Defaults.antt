@@ -50,9 +50,13 @@ abbrev pub decl_default : (Type' → Option Value) → Option DeriveInput → Op
 decl_default default_of (Some decl) = option_and_then (struct_default default_of decl.ident) (named_in decl.body)
 decl_default default_of None = None
 
--- the default of a type among the declarations that have these; no type of the host has one
+-- no type of the host has a default
+abbrev pub none_of_host : Type' → Option Value
+none_of_host host = None
+
+-- the default of a type among the declarations that have these
 abbrev pub type_default : List DeriveInput → (ℕ → Option Value) → Type' → Option Value
-type_default decls declared ty = row_default declared (λ host. None) (row_of (decl_names decls) ty)
+type_default decls declared ty = row_default declared none_of_host (row_of (decl_names decls) ty)
 
 -- the default of the declaration of a number below the bound; its fields are of declarations before it
 unfoldable pub default_below : List DeriveInput → ℕ → ℕ → Option Value

@@ -43,9 +43,9 @@ use Rattle.machine_host.specs.Integers.{InRange}
 use Rattle.machine_host.specs.Leaves.{FitsItem, FitsLeaf}
 use Rattle.machine_host.specs.Nodes.{IsListed, IsListedPath, IsSetItem}
 use Rattle.machine_host.proofs.Fitting.{fits_at, opened}
-use Rattle.machine_std.specs.Defaults.{decl_default, default_below, each_of, member_default, named_in, named_of, struct_default, type_default, with_first}
+use Rattle.machine_std.specs.Defaults.{decl_default, default_below, each_of, member_default, named_in, named_of, none_of_host, struct_default, type_default, with_first}
 use Rattle.machine_std.specs.DefaultRows.{default, default-around, default-by}
-use Rattle.machine_std.specs.Rests.{around_layer, none_of_host}
+use Rattle.machine_std.specs.Rests.{around_layer}
 
 -- ---- values
 

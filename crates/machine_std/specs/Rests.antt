@@ -8,12 +8,9 @@ use Rattle.machine_rows.specs.declared.wrapper.Wrapper.{Wrapper}
 use Rattle.machine_rows.specs.declared.wrapper.Wrapper.TheVariants as wrapper
 use Rattle.machine_value.specs.declared.value.Value.{Value}
 use Rattle.machine_cells.specs.Defaults.{layer_default}
+use Rattle.machine_std.specs.Defaults.{none_of_host}
 use Rattle.machine_std.specs.declared.has_default.Rest.{Rest}
 use Rattle.machine_std.specs.declared.has_default.Rest.TheVariants as rest
-
--- no type of the host has a default
-abbrev pub none_of_host : Type' → Option Value
-none_of_host host = None
 
 -- the row of a type that holds one type, where this is known of the type inside
 abbrev pub around_layer : {X : Type 0} → Wrapper → X → Row-F X

@@ -16,7 +16,8 @@ ghost use Rattle.machine_std.specs.Defaults as spec;
 ghost use Rattle.machine_std.specs.Marks.{is_marked as is_marked_in, left};
 ghost use Rattle.node_expr.specs.declared.ty.«Type».{«Type» as TypeSeen};
 ghost use Rattle.machine_rows.specs.Heads.{seen_head};
-ghost use Rattle.machine_std.specs.Rests.{head_default, none_of_host, rests_on as rests};
+ghost use Rattle.machine_std.specs.Defaults.{none_of_host};
+ghost use Rattle.machine_std.specs.Rests.{head_default, rests_on as rests};
 
 use crate::make_default::{MAX_LEVEL, declaration, named_in};
 use crate::marks::{is_marked, mark};

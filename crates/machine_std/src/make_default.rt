@@ -11,7 +11,8 @@ ghost use Rattle.machine_rows.specs.Rows.{row_at};
 ghost use Rattle.node_expr.specs.declared.ty.«Type».{«Type» as TypeSeen};
 ghost use Rattle.tok_types.specs.declared.span.Span.TheVariants.{CallSite};
 ghost use Rattle.machine_std.specs.Defaults as spec;
-ghost use Rattle.machine_std.specs.Rests.{around_layer, head_default, none_of_host};
+ghost use Rattle.machine_std.specs.Defaults.{none_of_host};
+ghost use Rattle.machine_std.specs.Rests.{around_layer, head_default};
 
 use base_core::{Items, Text};
 use machine_rows::{Head, Leaf, Wrapper, head_of};

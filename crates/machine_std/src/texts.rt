@@ -8,27 +8,7 @@ ghost use Rattle.machine_std.specs.Texts as spec;
 pub fn trimmed(text: &str) -> &str
     ensures { result.now ≡ spec.trimmed text.now }
 {
-    without_back(without_front(text))
-}
-
-fn without_front(text: &str) -> &str
-    ensures { result.now ≡ spec.without_front text.now }
-{
-    let mut rest = text;
-    while let Some(shorter) = rest.strip_prefix(' ') {
-        rest = shorter;
-    }
-    rest
-}
-
-fn without_back(text: &str) -> &str
-    ensures { result.now ≡ spec.without_back text.now }
-{
-    let mut rest = text;
-    while let Some(shorter) = rest.strip_suffix(' ') {
-        rest = shorter;
-    }
-    rest
+    text.trim_start_matches(' ').trim_end_matches(' ')
 }
 
 /// What stands behind the front, where the text begins with it.

@@ -7,7 +7,7 @@ use Rattle.machine_rows.specs.Rows.{row_at, row_of}
 use Rattle.machine_std.specs.Defaults.{decl_default, default_below, type_default}
 use Rattle.machine_std.specs.Rests.{head_default}
 use Rattle.machine_std.proofs.Belows.{among-is, below-among, below-none}
-use Rattle.machine_std.proofs.Members.{behind, behind-end, behind-more, behind-none, members_of}
+use Rattle.machine_std.proofs.Members.{followed_by, followed_by-end, followed_by-more, followed_by-none, members_of}
 use Rattle.machine_std.specs.DefaultRows.{default, default-Host}
 use Rattle.machine_std.proofs.Rows.{default-above}
 use Rattle.machine_std.proofs.make_default.+make_default.Goals as goal
@@ -34,12 +34,12 @@ unfolding row_of
 struct_default-returns-in-None t c =
     let here = type_default c.args.decls.now (default_below c.args.decls.now c.args.below) in
     sym (ap (option_map (value.Struct c.args.ident.now.text style.Struct))
-    (c.loop-field.invariant ∙ behind-none here c.loop-field.members c.args.fields.now c.loop-field.field-index c.field-item.result c.loop-field-test.true c.field-item.is (sym c.in-None.is ∙ c.in_ok-value.ensures)))
+    (c.loop-field.invariant ∙ followed_by-none here c.loop-field.members c.args.fields.now c.loop-field.field-index c.field-item.result c.loop-field-test.true c.field-item.is (sym c.in-None.is ∙ c.in_ok-value.ensures)))
 
 pub struct_default-returns : goal.struct_default-returns
 struct_default-returns t c =
     let here = type_default c.args.decls.now (default_below c.args.decls.now c.args.below) in
-    let whole = ap (option_map (value.Struct c.args.ident.now.text style.Struct)) (c.loop-field.invariant ∙ behind-end here c.loop-field.members c.args.fields.now c.loop-field.field-index c.loop-field-test.false) in
+    let whole = ap (option_map (value.Struct c.args.ident.now.text style.Struct)) (c.loop-field.invariant ∙ followed_by-end here c.loop-field.members c.args.fields.now c.loop-field.field-index c.loop-field-test.false) in
     subst (λ (it : Option Value). IfOk c.struct_of.result (λ made. made ≡ it)) (sym whole) c.struct_of.ensures
 
 pub struct_default-loop-field-preserved : goal.struct_default-loop-field-preserved
@@ -47,8 +47,8 @@ unfolding row_of
 struct_default-loop-field-preserved t c =
     let here = type_default c.args.decls.now (default_below c.args.decls.now c.args.below) in
     c.loop-field.invariant
-    ∙ behind-more here c.loop-field.members c.args.fields.now c.loop-field.field-index c.field-item.result c.loop-field-test.true c.field-item.is c.in-Some.value (sym c.in-Some.is ∙ c.in_ok-value.ensures)
-    ∙ ap (λ members. behind members (members_of here (drop (c.loop-field.field-index + 1) c.args.fields.now))) (sym c.in_ok-push_member-in-Some.ensures)
+    ∙ followed_by-more here c.loop-field.members c.args.fields.now c.loop-field.field-index c.field-item.result c.loop-field-test.true c.field-item.is c.in-Some.value (sym c.in-Some.is ∙ c.in_ok-value.ensures)
+    ∙ ap (λ members. followed_by members (members_of here (drop (c.loop-field.field-index + 1) c.args.fields.now))) (sym c.in_ok-push_member-in-Some.ensures)
 
 pub type_default-returns-then-level-eq0 : goal.type_default-returns-then-level-eq0
 type_default-returns-then-level-eq0 t c =

@@ -1,12 +1,12 @@
 use Rattle.std.proofs.Common.{◌≡◌, ◌+◌, ◌*◌, drop}
 use Rattle.machine_std.specs.Defaults.{default_below, type_default}
-use Rattle.machine_std.proofs.Members.{behind, members_of}
+use Rattle.machine_std.proofs.Members.{followed_by, members_of}
 use Rattle.machine_std.proofs.make_default.+make_default.Given as goal
 
 abbrev pub invariant-struct_default-loop-field : goal.invariant-struct_default-loop-field
 invariant-struct_default-loop-field l =
     members_of (type_default l.decls (default_below l.decls l.below)) l.fields
-    ≡ behind l.members (members_of (type_default l.decls (default_below l.decls l.below)) (drop l.field-index l.fields))
+    ≡ followed_by l.members (members_of (type_default l.decls (default_below l.decls l.below)) (drop l.field-index l.fields))
 
 abbrev pub decreases-declaration_default : goal.decreases-declaration_default
 decreases-declaration_default l = 7 * l.room + 4
