@@ -1,0 +1,15 @@
+use Rattle.std.proofs.Common.{◌≡◌, List, [], ◌++◌, drop}
+use Rattle.error_core.specs.ErrorView.{held}
+use Rattle.meta_core.specs.KnownKeys.{Knows}
+use Rattle.meta_core.specs.Maps.{entries_of, map_faults}
+use Rattle.machine_read.specs.Entries.{texts}
+use Rattle.machine_read.proofs.map.collect_entries.Given as goal
+
+abbrev pub invariant-loop-item : goal.invariant-loop-item
+invariant-loop-item g l =
+    let k = g.K.KeyFromPath in
+    let cells = g.R.Reader.cells l.inner in
+    (texts k.text (entries_of k.key cells l.items) ≡ l.entries.items ++ texts k.text (entries_of k.key cells (drop l.item-index l.items))) ×
+    ((before : List k.Seen) × Knows k.same k.seen (g.S.KeySet.has l.keys) before ×
+    (held l.initial.errors ++ map_faults k.same k.text k.key cells [] l.items
+    ≡ held l.errors ++ map_faults k.same k.text k.key cells before (drop l.item-index l.items)))

@@ -1,0 +1,5 @@
+pub mod Asked
+pub mod Entries
+pub mod Layers
+pub mod Scopes
+pub mod Wrapped

@@ -1,0 +1,98 @@
+//! Rows: what each answers to a call itself, by the row inside.
+
+ghost use Rattle.meta_cells.specs.Cells.{AnswersCell, cell_at};
+ghost use Rattle.machine_read.specs.Scopes.{cells_of, seen_setting};
+ghost use Rattle.machine_steps.specs.Convert.{declared_cells};
+
+use crate::around;
+use crate::declared::Declared;
+use crate::layer::{Layer, layer_of};
+use crate::reader::Reader;
+use crate::scope::Scope;
+use crate::wrapped::wrapper_cell;
+use error_core::{Fail, Result};
+use machine_host::Host;
+use machine_leaf::{leaf_cell, unit_cell};
+use machine_rows::Row;
+use machine_value::Value;
+use meta_cells::Call;
+use std::alloc::Global;
+
+/// A row, as a type that is read.
+#[derive(Drop)]
+pub(crate) struct Inside<'a, 's, H, D, F> {
+    pub(crate) scope: &'a Scope<'s, H, D>,
+    /// How deep it may read.
+    pub(crate) room: usize,
+    pub(crate) row: &'a Row,
+    pub(crate) cell: F,
+}
+
+impl<H: Host, D: Declared, F> Reader for Inside<'_, '_, H, D, F>
+where
+    F: Fn(&Scope<'_, H, D>, usize, &Row, Call<'_>) -> Result<Option<Value>>,
+{
+    ghost use Rattle.std.specs.Prelude.{Option, Result};
+    ghost use Rattle.error_core.specs.declared.fail.Fail.{Fail as FailSeen};
+    ghost use Rattle.machine_value.specs.declared.value.Value.{Value as Datum};
+    ghost use Rattle.meta_cells.specs.Cells.{AnswersCell, cell_at};
+    ghost use Rattle.meta_cells.specs.declared.call.Call.{Call as CallSeen};
+    ghost use Rattle.machine_read.specs.Scopes.{cells_of, seen_setting};
+
+    ghost cells = { λ it. cells_of (seen_setting (H.says it.scope.now.setting.host.now) it.scope.now.setting.decls.now) (D.earlier it.scope.now.declared.now) it.row.now };
+
+    ghost is_callable = { λ it.
+        ((call : CallSeen) → F.pre it.cell it.scope it.room it.row call)
+        × ((call : CallSeen) (answer : Result (Option Datum) FailSeen) → F.post it.cell it.scope it.room it.row call answer
+        → AnswersCell (λ found. found) answer (cell_at (cells_of (seen_setting (H.says it.scope.now.setting.host.now) it.scope.now.setting.decls.now) (D.earlier it.scope.now.declared.now) it.row.now) call)) };
+
+    fn cell(&self, _alloc: Global, call: Call<'_>) -> Result<Option<Value>> {
+        (self.cell)(self.scope, self.room, self.row, call)
+    }
+}
+
+/// What a row answers to a call itself, reading no deeper than `room` levels. What would be deeper is want of memory.
+pub(crate) fn row_cell<H: Host, D: Declared>(
+    scope: &Scope<'_, H, D>,
+    room: usize,
+    row: &Row,
+    call: Call<'_>,
+) -> Result<Option<Value>>
+    requires { D.reads_within scope.now.declared.now room }
+    ensures { AnswersCell (λ it. it) result (cell_at (cells_of (seen_setting (H.says scope.now.setting.host.now) scope.now.setting.decls.now) (D.earlier scope.now.declared.now) row.now) call.entry) }
+{
+    if room == 0 {
+        return Err(Fail::NoMemory);
+    }
+    match layer_of(&*row) {
+        Layer::Unit => unit_cell(scope.alloc, call),
+        Layer::Leaf(leaf) => leaf_cell(scope.alloc, leaf, call),
+        Layer::Around(wrapper, inner) => {
+            let inside = Inside {
+                scope: &*scope,
+                room: room - 1,
+                row: inner,
+                cell: row_cell::<H, D>,
+            };
+            wrapper_cell(scope.alloc, wrapper, &inside, call)
+        }
+        Layer::Declared(number) => declared_cell(&*scope, room - 1, number, call),
+        Layer::Host(ty) => scope.setting.host_cell(scope.alloc, ty, call),
+    }
+}
+
+/// What a declaration answers to a call itself: it reads a list.
+fn declared_cell<H, D: Declared>(
+    scope: &Scope<'_, H, D>,
+    room: usize,
+    number: usize,
+    call: Call<'_>,
+) -> Result<Option<Value>>
+    requires { D.reads_within scope.now.declared.now room }
+    ensures { AnswersCell (λ it. it) result (cell_at (declared_cells (D.earlier scope.now.declared.now) number) call.entry) }
+{
+    match call {
+        Call::List(items) => around::same(scope.declared.list(scope.alloc, room, number, items)),
+        _ => Ok(None),
+    }
+}

@@ -1,0 +1,21 @@
+//! How a run reads items at types: the conversions of types that are known when it runs.
+//!
+//! A [`Reader`] is a type that is known at run time, which is read as `FromMeta` reads a type of Rust. A [`Scope`] is what types
+//! are read under: the host and the declarations of the program, and what the declarations of lower numbers read.
+#![tactic(auto)]
+
+mod around;
+mod declared;
+mod inside;
+mod layer;
+mod map;
+mod reader;
+mod scope;
+mod setting;
+mod values;
+mod wrapped;
+
+pub use declared::Declared;
+pub use reader::Reader;
+pub use scope::Scope;
+pub use setting::Setting;

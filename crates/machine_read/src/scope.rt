@@ -1,0 +1,199 @@
+//! What types are read under.
+
+ghost use Rattle.std.specs.Prelude.{◌≡◌, IfOk, Some, codes};
+ghost use Rattle.std.specs.Option.{option_copied};
+ghost use Rattle.std.specs.Str.{bytes_eq};
+ghost use Rattle.error_core.specs.Answers.{Answers, refusal};
+ghost use Rattle.error_fault.specs.Outcome as outcomes;
+ghost use Rattle.error_fault.specs.Outcome.{Outcome};
+ghost use Rattle.machine_read.specs.Scopes.{seen_setting};
+ghost use Rattle.machine_steps.specs.Convert as convert;
+ghost use Rattle.machine_steps.specs.Reading as reading;
+ghost use Rattle.machine_steps.specs.Setting.{called};
+ghost use Rattle.tok_types.specs.Ident.{ident_text};
+ghost use Rattle.machine_value.specs.declared.value.Value.{Value as Datum};
+
+use crate::declared::Declared;
+use crate::inside::{Inside, row_cell};
+use crate::reader::Reader;
+use crate::setting::Setting;
+use codegen_program::PostfixTransform;
+use error_core::{Fail, Result, Spanned};
+use machine_host::{Arg, Callable, Host, Use};
+use machine_value::{Mem, TryClone, Value};
+use meta_cells::spanned;
+use meta_nested::{MetaNameValueInvalidExpr, NestedMeta};
+use node_core::{Ident, Path, Type};
+use std::alloc::Global;
+
+/// What types are read under: the setting, and what the declarations that they may name read.
+pub struct Scope<'a, H, D> {
+    pub alloc: Global,
+    pub setting: Setting<'a, H>,
+    pub declared: &'a D,
+}
+
+impl<H: Host, D: Declared> Scope<'_, H, D> {
+    /// An item at a type: a meta and a bad value by their calls, a literal by its own.
+    pub fn convert(&self, room: usize, ty: &Type, item: &NestedMeta) -> Result<Value>
+        requires { D.reads_within self.now.declared.now room }
+        ensures { Answers (λ it. it) result (convert.convert (seen_setting (H.says self.now.setting.host.now) self.now.setting.decls.now) (D.earlier self.now.declared.now) ty.now item.now) }
+    {
+        let row = self.setting.row(self.alloc, ty)?;
+        let inside = Inside {
+            scope: self,
+            room,
+            row: &row,
+            cell: row_cell::<H, D>,
+        };
+        inside.by_kind(self.alloc, item)
+    }
+
+    /// The items of a list at a type.
+    pub fn list(&self, room: usize, ty: &Type, items: &[NestedMeta]) -> Result<Value>
+        requires { D.reads_within self.now.declared.now room }
+        ensures { Answers (λ it. it) result (convert.list (seen_setting (H.says self.now.setting.host.now) self.now.setting.decls.now) (D.earlier self.now.declared.now) ty.now items.now) }
+    {
+        let row = self.setting.row(self.alloc, ty)?;
+        let inside = Inside {
+            scope: self,
+            room,
+            row: &row,
+            cell: row_cell::<H, D>,
+        };
+        inside.from_list(self.alloc, items)
+    }
+
+    /// What a type is without any item, where it is something.
+    pub fn none(&self, room: usize, ty: &Type) -> Mem<Option<Value>>
+        requires { D.reads_within self.now.declared.now room }
+        ensures { IfOk result (λ it. it ≡ convert.none (seen_setting (H.says self.now.setting.host.now) self.now.setting.decls.now) (D.earlier self.now.declared.now) ty.now) }
+    {
+        let row = self.setting.row(self.alloc, ty)?;
+        let inside = Inside {
+            scope: self,
+            room,
+            row: &row,
+            cell: row_cell::<H, D>,
+        };
+        inside.from_none(self.alloc)
+    }
+
+    /// What a transform makes of an answer; faults pass it by.
+    pub fn transformed(
+        &self,
+        transform: Option<&PostfixTransform>,
+        ty: &Type,
+        answer: Result<Value>,
+    ) -> Result<Value>
+        ensures { (outcome : Outcome Datum) → Answers (λ it. it) answer outcome → Answers (λ it. it) result (reading.transformed (seen_setting (H.says self.now.setting.host.now) self.now.setting.decls.now) (D.earlier self.now.declared.now) (option_copied transform.entry) ty.now outcome) }
+    {
+        match transform {
+            Some(transform) => match answer {
+                Ok(value) => self.transform(transform, ty, &value),
+                Err(fail) => Err(fail),
+            },
+            None => answer,
+        }
+    }
+
+    /// What a transform makes of a value.
+    fn transform(&self, transform: &PostfixTransform, ty: &Type, value: &Value) -> Result<Value>
+        ensures { Answers (λ it. it) result (reading.transformed (seen_setting (H.says self.now.setting.host.now) self.now.setting.decls.now) (D.earlier self.now.declared.now) (Some transform.now) ty.now (outcomes.Value value.now)) }
+    {
+        let callable = callable_of(self.alloc, &transform.function)?;
+        self.setting.ask(
+            self.alloc,
+            &callable,
+            transform_use(transform),
+            ty,
+            Arg::Value(value),
+        )
+    }
+
+    /// An item at the type of one value: by the field's own reader, where it has one, and then through its transform. A lone
+    /// fault without a place stands at the item.
+    #[tactic(auto, using(meta_cells::proofs::PlaceLemmas::answers_at))]
+    pub fn read_at(
+        &self,
+        room: usize,
+        with: Option<&Callable>,
+        transform: Option<&PostfixTransform>,
+        ty: &Type,
+        item: &NestedMeta,
+    ) -> Result<Value>
+        requires { D.reads_within self.now.declared.now room }
+        ensures { Answers (λ it. it) result (reading.read_at (seen_setting (H.says self.now.setting.host.now) self.now.setting.decls.now) (D.earlier self.now.declared.now) (option_copied with.entry) (option_copied transform.entry) ty.now item.now) }
+    {
+        let read = self.read_with(room, with, self.converted(transform, ty), item);
+        spanned(self.transformed(transform, ty, read), item.spanned())
+    }
+
+    /// The type that is read: what the transform takes, else the type itself.
+    fn converted<'t>(&'t self, transform: Option<&PostfixTransform>, ty: &'t Type) -> &'t Type
+        ensures { result.now ≡ reading.converted (seen_setting (H.says self.now.setting.host.now) self.now.setting.decls.now) (D.earlier self.now.declared.now) (option_copied transform.entry) ty.now }
+    {
+        match transform {
+            Some(transform) => match self.setting.host.takes(&transform.function) {
+                Some(taken) => taken,
+                None => ty,
+            },
+            None => ty,
+        }
+    }
+
+    /// An item, by the field's own reader where it has one.
+    fn read_with(
+        &self,
+        room: usize,
+        with: Option<&Callable>,
+        ty: &Type,
+        item: &NestedMeta,
+    ) -> Result<Value>
+        requires { D.reads_within self.now.declared.now room }
+        ensures { Answers (λ it. it) result (reading.read_with (seen_setting (H.says self.now.setting.host.now) self.now.setting.decls.now) (D.earlier self.now.declared.now) (option_copied with.entry) ty.now item.now) }
+    {
+        let Some(callable) = with else {
+            return self.convert(room, ty, item);
+        };
+        match item {
+            NestedMeta::Meta(it) => {
+                self.setting
+                    .ask(self.alloc, callable, Use::With, ty, Arg::Meta(it))
+            }
+            NestedMeta::Lit(_) => self.convert(room, ty, item),
+            NestedMeta::NameValueInvalidExpr(it) => stored_fault(self.alloc, it),
+        }
+    }
+}
+
+/// The stored fault of tokens that are no expression.
+fn stored_fault(alloc: Global, it: &MetaNameValueInvalidExpr) -> Result<Value>
+    ensures { Answers (λ value. value) result (refusal it.now.error) }
+{
+    Err(Fail::Faults(it.error.try_clone(alloc)?))
+}
+
+/// What the path calls.
+fn callable_of(alloc: Global, path: &Path) -> Mem<Callable>
+    ensures { IfOk result (λ it. it ≡ called path.now) }
+{
+    Callable::from_path(alloc, path.try_clone(alloc)?)
+}
+
+/// Where a transform is asked for.
+fn transform_use(transform: &PostfixTransform) -> Use
+    ensures { result ≡ reading.transform_use transform.now }
+{
+    if is_and_then(&transform.transformer) {
+        Use::AndThen
+    } else {
+        Use::Map
+    }
+}
+
+fn is_and_then(ident: &Ident) -> bool
+    ensures { result ≡ bytes_eq (ident_text ident.now) (codes "and_then") }
+{
+    !ident.raw && ident.text.as_str() == "and_then"
+}

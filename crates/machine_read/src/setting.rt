@@ -1,0 +1,189 @@
+//! The setting of a run, and what it says of types and functions.
+
+ghost use Rattle.std.specs.Prelude.{◌≡◌, ◌∷◌, IfOk, Some, None};
+ghost use Rattle.error_core.specs.Answers.{Answers};
+ghost use Rattle.error_core.specs.ErrorView.{leaves};
+ghost use Rattle.law_spans.specs.Erased.{erased_type};
+ghost use Rattle.machine_cells.specs.Defaults.{row_default};
+ghost use Rattle.machine_host.specs.HostSays.{erased_decls, erased_place};
+ghost use Rattle.machine_host.specs.Seen.{IdentSeen, seen_arg, seen_item};
+ghost use Rattle.machine_read.specs.Scopes.{seen_setting};
+ghost use Rattle.machine_steps.specs.Convert as convert;
+ghost use Rattle.machine_steps.specs.Setting as spec;
+ghost use Rattle.meta_cells.specs.Cells.{AnswersCell, cell_at};
+
+use crate::values::{inherit, spanned_value};
+use error_core::{Error, Fail, Result};
+use error_fault::Fault;
+use machine_host::{Arg, Callable, Host, HostItem, Place, Said, Use, named_type};
+use machine_leaf::leaf_default;
+use machine_rows::{Row, element_among, row_among};
+use machine_value::{Items, Mem, Span, Text, TryClone, Value};
+use meta_cells::Call;
+use node_core::{DeriveInput, Ident, Type};
+use std::alloc::Global;
+
+/// What a declaration is read under: the host, and the declarations of the program.
+#[derive(Clone, Copy)]
+pub struct Setting<'a, H> {
+    pub host: &'a H,
+    pub decls: &'a [DeriveInput],
+}
+
+impl<H: Host> Setting<'_, H> {
+    /// The row that a type is.
+    pub fn row(&self, alloc: Global, ty: &Type) -> Mem<Row>
+        ensures { IfOk result (λ row. row ≡ spec.row (seen_setting (H.says self.now.host.now) self.now.decls.now) ty.now) }
+    {
+        row_among(alloc, &self.decls, ty)
+    }
+
+    /// The type of one value of a list that is read item by item.
+    pub fn element<'t>(&self, ty: &'t Type) -> &'t Type
+        ensures { result.now ≡ convert.element (seen_setting (H.says self.now.host.now) self.now.decls.now) ty.now }
+    {
+        match element_among(&self.decls, ty) {
+            Some(inner) => inner,
+            None => ty,
+        }
+    }
+
+    /// What a function answers where it is asked for a type.
+    pub fn ask(
+        &self,
+        alloc: Global,
+        callable: &Callable,
+        at: Use,
+        ty: &Type,
+        arg: Arg<'_>,
+    ) -> Result<Value>
+        ensures { Answers (λ it. it) result (spec.ask (seen_setting (H.says self.now.host.now) self.now.decls.now) callable.now at ty.now (seen_arg arg.entry)) }
+    {
+        let place = Place {
+            at,
+            ty: ty.try_clone(alloc)?,
+        };
+        let said = self
+            .host
+            .answer(alloc, self.decls, Some(callable), &place, arg)?;
+        said_outcome(alloc, said)
+    }
+
+    /// What the host makes of the identifier that a type is read from.
+    pub fn from_ident(&self, alloc: Global, ty: &Type, ident: &Ident) -> Result<Value>
+        ensures { Answers (λ it. it) result (spec.outcome_of ((H.says self.now.host.now).answer (erased_decls self.now.decls.now) None (erased_place (record { at = Use.FromIdent; ty = ty.now })) (IdentSeen ident.now))) }
+    {
+        let place = Place {
+            at: Use::FromIdent,
+            ty: ty.try_clone(alloc)?,
+        };
+        let arg = Arg::Ident(ident);
+        let said = self.host.answer(alloc, self.decls, None, &place, arg)?;
+        said_outcome(alloc, said)
+    }
+
+    /// The default of a type; the empty text, where it has none.
+    pub fn default(&self, alloc: Global, ty: &Type) -> Mem<Value>
+        ensures { IfOk result (λ value. value ≡ convert.default (seen_setting (H.says self.now.host.now) self.now.decls.now) ty.now) }
+    {
+        let row = self.row(alloc, ty)?;
+        match self.row_default(alloc, &row)? {
+            Some(value) => Ok(value),
+            None => Ok(Value::Text(Text::new(alloc))),
+        }
+    }
+
+    /// The default of a row, where it has one.
+    fn row_default(&self, alloc: Global, row: &Row) -> Mem<Option<Value>>
+        ensures { IfOk result (λ value. value ≡ row_default (convert.declared_default (seen_setting (H.says self.now.host.now) self.now.decls.now)) (convert.default_said (seen_setting (H.says self.now.host.now) self.now.decls.now)) row.now) }
+    {
+        match row {
+            Row::Unit => Ok(Some(Value::Unit)),
+            Row::Leaf(leaf) => leaf_default(alloc, leaf),
+            Row::Option(_) => Ok(Some(Value::Opt(None))),
+            Row::Box(inner) => self.row_default(alloc, inner.get()),
+            Row::Result(_) | Row::ResultMeta(_) | Row::WithOriginal(_) => Ok(None),
+            Row::Override(_) => Ok(Some(inherit(alloc)?)),
+            Row::SpannedValue(inner) => match self.row_default(alloc, inner.get())? {
+                Some(value) => Ok(Some(spanned_value(alloc, value, Span::CallSite)?)),
+                None => Ok(None),
+            },
+            Row::HashMap(_, _) | Row::BTreeMap(_, _) => Ok(Some(Value::Map(Items::new(alloc)))),
+            Row::Vec(_) => Ok(Some(Value::List(Items::new(alloc)))),
+            Row::Declared(number) => self.declared_default(alloc, *number),
+            Row::Host(ty) => self.default_said(alloc, ty),
+        }
+    }
+
+    /// The default of a declaration, where it has one.
+    fn declared_default(&self, alloc: Global, number: usize) -> Mem<Option<Value>>
+        ensures { IfOk result (λ value. value ≡ convert.declared_default (seen_setting (H.says self.now.host.now) self.now.decls.now) number) }
+    {
+        match self.decls.get(number) {
+            Some(decl) => {
+                let ty = named_type(alloc, decl.ident.text.as_str())?;
+                self.default_said(alloc, &ty)
+            }
+            None => Ok(None),
+        }
+    }
+
+    /// The default that the host says a type has, where it has one.
+    fn default_said(&self, alloc: Global, ty: &Type) -> Mem<Option<Value>>
+        ensures { IfOk result (λ value. value ≡ convert.default_said (seen_setting (H.says self.now.host.now) self.now.decls.now) ty.now) }
+    {
+        if !self.host.has_default(self.decls, ty) {
+            return Ok(None);
+        }
+        Ok(Some(self.host.default_of(alloc, self.decls, ty)?))
+    }
+
+    /// What a type of the host answers to a call itself.
+    pub(crate) fn host_cell(
+        &self,
+        alloc: Global,
+        ty: &Type,
+        call: Call<'_>,
+    ) -> Result<Option<Value>>
+        ensures { AnswersCell (λ it. it) result (cell_at (convert.host_cells (seen_setting (H.says self.now.host.now) self.now.decls.now) ty.now) call.entry) }
+    {
+        match call {
+            Call::Meta(it) => self.converted(alloc, ty, HostItem::Meta(it)),
+            Call::List(items) => self.converted(alloc, ty, HostItem::Items(items)),
+            Call::InvalidExpr(it) => self.converted(alloc, ty, HostItem::Bad(it)),
+            Call::Absent => Ok(self.host.none_of(alloc, ty)?),
+            _ => Ok(None),
+        }
+    }
+
+    /// What the host converts.
+    fn converted(&self, alloc: Global, ty: &Type, item: HostItem<'_>) -> Result<Option<Value>>
+        ensures { AnswersCell (λ it. it) result (Some (spec.outcome_of ((H.says self.now.host.now).convert (erased_type ty.now) (seen_item item.entry)))) }
+    {
+        let said = self.host.convert(alloc, ty, item)?;
+        Ok(Some(said_outcome(alloc, said)?))
+    }
+}
+
+/// The value that is given, or the error of the faults. Nothing given is the empty text.
+fn said_outcome(alloc: Global, said: Said) -> Result<Value>
+    ensures { Answers (λ it. it) result (spec.outcome_of said) }
+{
+    match said.into_result() {
+        Ok(Some(value)) => Ok(value),
+        Ok(None) => Ok(Value::Text(Text::new(alloc))),
+        Err((fault, more)) => Err(Fail::Faults(error_of(alloc, fault, more)?)),
+    }
+}
+
+/// The error of the faults.
+fn error_of(alloc: Global, first: Fault, more: Items<Fault>) -> Mem<Error>
+    ensures { IfOk result (λ error. leaves error ≡ first ∷ more) }
+{
+    let mut errors = Vec::new(alloc);
+    errors.push(Error::from_fault(alloc, first))?;
+    for fault in more.into_vec() {
+        errors.push(Error::from_fault(alloc, fault))?;
+    }
+    Error::multiple(alloc, errors)
+}
