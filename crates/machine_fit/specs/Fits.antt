@@ -1,0 +1,65 @@
+-- Which types fit their places.
+use Rattle.std.specs.Prelude.{ℕ, Bool, true, false, ◌&&◌, ◌||◌, not, if◌then◌else◌, nat_lt, Option, Some, None, is_some}
+use Rattle.node_expr.specs.declared.ty.«Type».{«Type» as Type'}
+use Rattle.law_spans.specs.Erased.{erased_type}
+use Rattle.codegen_program.specs.declared.program.Program.{Program}
+use Rattle.machine_rows.specs.Rows.{element_of, row_of}
+use Rattle.machine_rows.specs.declared.row.Row.{Row}
+use Rattle.machine_rows.specs.declared.row.Row.TheFolds.{fold-Row}
+use Rattle.machine_rows.specs.declared.row.Row.TheOpen.{Row-F}
+use Rattle.machine_cells.specs.Defaults.{row_default}
+use Rattle.machine_host.specs.Decls.{decl_names}
+use Rattle.machine_host.specs.HostSays.{HostSays}
+use Rattle.machine_steps.specs.Convert.{declared_default, default_said}
+use Rattle.machine_steps.specs.Machine.{setting_of}
+use Rattle.machine_forms.specs.Units.{is_item}
+
+-- the row that a type is
+abbrev pub row_in : Program → Type' → Row
+row_in program type = row_of (decl_names program.decls) type
+
+module _ (host : HostSays) (program : Program) where
+  -- The types of the declaration of the number `here` may name declarations before it. Where items are read at the type
+  -- itself, those must be ones that items are read as.
+  module _ (here : ℕ) (reads : Bool) where
+    abbrev pub may_name : ℕ → Bool
+    may_name number = nat_lt number here && (not reads || is_item program number)
+
+    -- a row whose type inside fits, or not; a list of values is none but as the type of a whole field
+    abbrev pub layer_fits : Row-F Bool → Bool
+    layer_fits Row-F.Unit = true
+    layer_fits (Row-F.Leaf it) = true
+    layer_fits (Row-F.Option inner) = inner
+    layer_fits (Row-F.Box inner) = inner
+    layer_fits (Row-F.Result inner) = inner
+    layer_fits (Row-F.ResultMeta inner) = inner
+    layer_fits (Row-F.Override inner) = inner
+    layer_fits (Row-F.SpannedValue inner) = inner
+    layer_fits (Row-F.WithOriginal inner) = inner
+    layer_fits (Row-F.HashMap key inner) = inner
+    layer_fits (Row-F.BTreeMap key inner) = inner
+    layer_fits (Row-F.Vec inner) = false
+    layer_fits (Row-F.Declared number) = may_name number
+    layer_fits (Row-F.Host type) = host.knows (erased_type type)
+
+    abbrev pub row_fits : Row → Bool
+    row_fits = fold-Row Bool layer_fits
+
+    -- the type of one value
+    abbrev pub type_fits : Type' → Bool
+    type_fits type = row_fits (row_in program type)
+
+    abbrev pub element_fits : Option Type' → Bool
+    element_fits None = false
+    element_fits (Some element) = type_fits element
+
+    -- the type of a field, which may take a list of values
+    abbrev pub field_fits : Bool → Type' → Bool
+    field_fits many type = if many then element_fits (element_of (decl_names program.decls) type) else type_fits type
+
+  -- the type has a default
+  abbrev pub row_has_default : Row → Bool
+  row_has_default it = is_some (row_default (declared_default (setting_of host program)) (default_said (setting_of host program)) it)
+
+  abbrev pub has_default : Type' → Bool
+  has_default type = row_has_default (row_in program type)

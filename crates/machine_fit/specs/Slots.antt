@@ -1,0 +1,13 @@
+-- Sets of slots.
+use Rattle.std.specs.Prelude.{ℕ, Bool}
+use Rattle.std.specs.BTreeSet.{BTreeSet, contains}
+use Rattle.std.specs.Ordering.{nat_cmp}
+use Rattle.machine_forms.specs.Asks.{SlotAsks}
+use Rattle.machine_fit.specs.declared.slots.Slots.{Slots}
+
+-- the slot is in the set
+abbrev pub has_slot : BTreeSet ℕ → ℕ → Bool
+has_slot slots slot = contains nat_cmp slots slot
+
+abbrev pub seen_slots : Slots → SlotAsks
+seen_slots it = record { many = has_slot it.many; read = has_slot it.read; default = has_slot it.default }

@@ -1,0 +1,246 @@
+//! Functions that the host doesn't offer.
+
+ghost use Rattle.std.specs.Prelude.{◌≡◌, IfOk, length, map};
+ghost use Rattle.std.specs.Option.{option_copied};
+ghost use Rattle.std.specs.List.{list_any};
+ghost use Rattle.machine_forms.specs.Answer.{Says, first_in};
+ghost use Rattle.machine_forms.specs.Asks as asked;
+ghost use Rattle.machine_fit.specs.Callables as spec;
+ghost use Rattle.machine_fit.specs.Fields.{struct_fields};
+ghost use Rattle.machine_fit.specs.Types.{decl_type};
+ghost use Rattle.machine_forms.specs.Units.{AreGroups};
+ghost use Rattle.machine_steps.specs.Reading.{transform_use as use_of};
+ghost use Rattle.machine_steps.specs.Setting.{called as called_by};
+
+use crate::checker::Checker;
+use base_core::{Items, Mem, TryClone};
+use codegen_program::{Arm, DefaultSource, Init, PostfixTransform, Unit};
+use machine_forms::{Ask, Unfit, asks_of, fallback_call, fields_of};
+use machine_host::{Callable, Host, Place, Use, named_type};
+use machine_rows::element_among;
+use node_core::{Data, DeriveInput, Field, Type};
+use node_span::Spanned;
+use std::alloc::Global;
+
+impl<H: Host> Checker<'_, H> {
+    /// Refuses the first function that the host doesn't offer.
+    pub(crate) fn check_callables(&self, groups: &[Items<&Unit>]) -> Result<(), Unfit>
+        requires { AreGroups self.now.program.now.units (length self.now.program.now.decls) groups.now }
+        ensures { Says result (spec.unknown_callable (H.says self.now.host.now) self.now.program.now) }
+    {
+        let decls = self.program.decls.as_slice();
+        for number in 0..decls.len() {
+            self.check_callables_in(groups[number].as_slice(), &decls[number])?;
+        }
+        Ok(())
+    }
+
+    fn check_callables_in(&self, units: &[&Unit], decl: &DeriveInput) -> Result<(), Unfit>
+        ensures { Says result (spec.unknown_callable_in (H.says self.now.host.now) self.now.program.now (map (λ unit. unit.now) units.now) decl.now) }
+    {
+        let asks = asks_of(self.alloc, units)?;
+        if self.lacks_ident(decl, asks.as_slice())? {
+            return Err(Unfit::UnknownCallable {
+                span: decl.ident.span,
+            });
+        }
+        self.check_asks(decl, asks.as_slice())
+    }
+
+    /// Whether an identifier is asked for the receiver, and makes none.
+    fn lacks_ident(&self, decl: &DeriveInput, asks: &[Ask<'_>]) -> Mem<bool>
+        ensures { IfOk result (λ lacks. lacks ≡ spec.lacks_ident (H.says self.now.host.now) self.now.program.now decl.now (map asked.seen asks.now)) }
+    {
+        if !asks_ident(asks) {
+            return Ok(false);
+        }
+        let ty = named_type(self.alloc, decl.ident.text.as_str())?;
+        Ok(!self.offers(None, Use::FromIdent, &ty)?)
+    }
+
+    /// Refuses the first function that the units of the declaration ask and that isn't offered.
+    fn check_asks(&self, decl: &DeriveInput, asks: &[Ask<'_>]) -> Result<(), Unfit>
+        ensures { Says result (first_in (spec.unoffered_ask (H.says self.now.host.now) self.now.program.now (decl_type decl.now) (struct_fields decl.now.body)) (map asked.seen asks.now)) }
+    {
+        let ty = named_type(self.alloc, decl.ident.text.as_str())?;
+        self.check_offered(&ty, slots_of(&decl.body), asks)
+    }
+
+    /// Whether the host offers the function where it is asked for the type.
+    fn offers(&self, callable: Option<&Callable>, at: Use, ty: &Type) -> Mem<bool>
+        ensures { IfOk result (λ offers. offers ≡ spec.offers (H.says self.now.host.now) self.now.program.now (option_copied callable.entry) at ty.now) }
+    {
+        let ty = ty.try_clone(self.alloc)?;
+        let place = Place { at, ty };
+        Ok(
+            self.host
+                .offers(self.program.decls.as_slice(), callable, &place),
+        )
+    }
+
+    /// Refuses the first function that is asked by a receiver of this type with these fields.
+    fn check_offered(&self, ty: &Type, fields: &[Field], asks: &[Ask<'_>]) -> Result<(), Unfit>
+        ensures { Says result (first_in (spec.unoffered_ask (H.says self.now.host.now) self.now.program.now ty.now fields.now) (map asked.seen asks.now)) }
+    {
+        for ask in asks {
+            self.check_asked(ty, fields, *ask)?;
+        }
+        Ok(())
+    }
+
+    fn check_asked(&self, ty: &Type, fields: &[Field], ask: Ask<'_>) -> Result<(), Unfit>
+        ensures { Says result (spec.unoffered_ask (H.says self.now.host.now) self.now.program.now ty.now fields.now (asked.seen ask.entry)) }
+    {
+        match ask {
+            Ask::Read(arm) => self.check_read(arm, fields.get(arm.slot as usize)),
+            Ask::Whole(DefaultSource::Explicit(callable)) => {
+                self.check_call(Use::Default, ty, Some(callable))
+            }
+            Ask::Member(init) => self.check_member(init, fields.get(init.slot as usize)),
+            Ask::Transform(post) => self.check_post(ty, post),
+            _ => Ok(()),
+        }
+    }
+
+    /// Looks at the functions of an arm for this field.
+    fn check_read(&self, arm: &Arm, field: Option<&Field>) -> Result<(), Unfit>
+        ensures { Says result (spec.unoffered_read (H.says self.now.host.now) self.now.program.now arm.now (option_copied field.entry)) }
+    {
+        match field {
+            Some(field) => self.check_arm(arm, self.value_type(arm.many, &field.ty)),
+            None => Ok(()),
+        }
+    }
+
+    /// The type of one value of a field.
+    fn value_type<'t>(&self, many: bool, ty: &'t Type) -> &'t Type
+        ensures { result.now ≡ spec.value_type (H.says self.now.host.now) self.now.program.now many ty.now }
+    {
+        if !many {
+            return ty;
+        }
+        match element_among(&self.program.decls.as_slice(), ty) {
+            Some(element) => element,
+            None => ty,
+        }
+    }
+
+    /// Looks at the functions of an arm whose slot gets values of the type.
+    fn check_arm(&self, arm: &Arm, ty: &Type) -> Result<(), Unfit>
+        ensures { Says result (spec.unoffered_arm (H.says self.now.host.now) self.now.program.now arm.now ty.now) }
+    {
+        self.check_call(
+            Use::With,
+            self.converted(arm.post.as_ref(), ty),
+            arm.with.as_ref(),
+        )?;
+        self.check_transform(ty, arm.post.as_ref())
+    }
+
+    /// The type that items are read at: what the transform takes, else the type itself.
+    fn converted<'t>(&'t self, post: Option<&PostfixTransform>, ty: &'t Type) -> &'t Type
+        ensures { result.now ≡ spec.converted (H.says self.now.host.now) self.now.program.now (option_copied post.entry) ty.now }
+    {
+        let Some(post) = post else {
+            return ty;
+        };
+        match self.host.takes(&post.function) {
+            Some(taken) => taken,
+            None => ty,
+        }
+    }
+
+    fn check_member(&self, init: &Init, field: Option<&Field>) -> Result<(), Unfit>
+        ensures { Says result (spec.unoffered_member (H.says self.now.host.now) self.now.program.now init.now (option_copied field.entry)) }
+    {
+        match field {
+            Some(field) => {
+                self.check_call(Use::Default, &field.ty, fallback_call(&init.fallback))
+            }
+            None => Ok(()),
+        }
+    }
+
+    fn check_call(&self, at: Use, ty: &Type, callable: Option<&Callable>) -> Result<(), Unfit>
+        ensures { Says result (spec.unoffered (H.says self.now.host.now) self.now.program.now at ty.now (option_copied callable.entry)) }
+    {
+        let Some(callable) = callable else {
+            return Ok(());
+        };
+        if self.offers(Some(callable), at, ty)? {
+            return Ok(());
+        }
+        Err(Unfit::UnknownCallable {
+            span: callable.call.spanned(),
+        })
+    }
+
+    /// Looks at what is called on a value of the type.
+    fn check_post(&self, ty: &Type, post: &PostfixTransform) -> Result<(), Unfit>
+        ensures { Says result (spec.unoffered_post (H.says self.now.host.now) self.now.program.now ty.now post.now) }
+    {
+        let callable = called(self.alloc, post)?;
+        if self.offers(Some(&callable), transform_use(self.alloc, post)?, ty)? {
+            return Ok(());
+        }
+        Err(Unfit::UnknownCallable {
+            span: post.function.spanned(),
+        })
+    }
+
+    /// Looks at what is called on a value of a field, which takes a type that the host names.
+    fn check_transform(&self, ty: &Type, post: Option<&PostfixTransform>) -> Result<(), Unfit>
+        ensures { Says result (spec.unknown_post (H.says self.now.host.now) self.now.program.now ty.now (option_copied post.entry)) }
+    {
+        let Some(post) = post else {
+            return Ok(());
+        };
+        match self.host.takes(&post.function) {
+            Some(_) => self.check_post(ty, post),
+            None => Err(Unfit::UnknownCallable {
+                span: post.function.spanned(),
+            }),
+        }
+    }
+}
+
+/// Whether it is asked what an identifier makes.
+fn asks_ident(asks: &[Ask<'_>]) -> bool
+    ensures { result ≡ list_any asked.is_from_ident (map asked.seen asks.now) }
+{
+    for ask in asks {
+        if ask.is_from_ident() {
+            return true;
+        }
+    }
+    false
+}
+
+/// The fields of a struct, which have the slots of these numbers.
+fn slots_of(body: &Data) -> &[Field]
+    ensures { result.now ≡ struct_fields body.now }
+{
+    match body {
+        Data::Struct(it) => fields_of(&it.fields),
+        _ => &[],
+    }
+}
+
+/// What a transform calls.
+fn called(alloc: Global, post: &PostfixTransform) -> Mem<Callable>
+    ensures { IfOk result (λ callable. callable ≡ called_by post.now.function) }
+{
+    let path = post.function.try_clone(alloc)?;
+    Callable::from_path(alloc, path)
+}
+
+/// Where a transform is asked for.
+fn transform_use(alloc: Global, post: &PostfixTransform) -> Mem<Use>
+    ensures { IfOk result (λ at. at ≡ use_of post.now) }
+{
+    let method = post.transformer.to_text(alloc)?;
+    if method.as_str() == "and_then" {
+        return Ok(Use::AndThen);
+    }
+    Ok(Use::Map)
+}

@@ -1,0 +1,147 @@
+//! Which types fit their places.
+
+ghost use Rattle.std.specs.Prelude.{◌≡◌, IfOk, is_some};
+ghost use Rattle.machine_cells.specs.Defaults.{leaf_default};
+ghost use Rattle.machine_steps.specs.Convert as convert;
+ghost use Rattle.machine_steps.specs.Machine.{setting_of};
+ghost use Rattle.machine_fit.specs.Fits as spec;
+ghost use Rattle.machine_forms.specs.Units.{is_item as item_at};
+
+use crate::checker::Checker;
+use base_core::Mem;
+use machine_host::{Host, named_type};
+use machine_rows::{Leaf, Row, element_among, row_among};
+use node_core::Type;
+
+impl<H: Host> Checker<'_, H> {
+    /// Whether the type of a field fits its place in the declaration of the number `here`, where it may take a list of values.
+    pub(crate) fn field_fits(&self, here: usize, reads: bool, many: bool, ty: &Type) -> Mem<bool>
+        ensures { IfOk result (λ fits. fits ≡ spec.field_fits (H.says self.now.host.now) self.now.program.now here reads many ty.now) }
+    {
+        if !many {
+            return self.type_fits(here, reads, ty);
+        }
+        match element_among(&self.program.decls.as_slice(), ty) {
+            Some(element) => self.type_fits(here, reads, element),
+            None => Ok(false),
+        }
+    }
+
+    /// Whether the type of one value fits its place in the declaration of the number `here`. Where items are read at it,
+    /// declarations that it names must be such as items are read as.
+    pub(crate) fn type_fits(&self, here: usize, reads: bool, ty: &Type) -> Mem<bool>
+        ensures { IfOk result (λ fits. fits ≡ spec.type_fits (H.says self.now.host.now) self.now.program.now here reads ty.now) }
+    {
+        let row = self.row(ty)?;
+        Ok(self.row_fits(here, reads, &row))
+    }
+
+    /// The row that a type is.
+    fn row(&self, ty: &Type) -> Mem<Row>
+        ensures { IfOk result (λ row. row ≡ spec.row_in self.now.program.now ty.now) }
+    {
+        row_among(self.alloc, &self.program.decls.as_slice(), ty)
+    }
+
+    fn row_fits(&self, here: usize, reads: bool, row: &Row) -> bool
+        ensures { result ≡ spec.row_fits (H.says self.now.host.now) self.now.program.now here reads row.now }
+    {
+        match row {
+            Row::Unit | Row::Leaf(_) => true,
+            Row::Option(inner) => self.row_fits(here, reads, inner.get()),
+            Row::Box(inner) => self.row_fits(here, reads, inner.get()),
+            Row::Result(inner) => self.row_fits(here, reads, inner.get()),
+            Row::ResultMeta(inner) => self.row_fits(here, reads, inner.get()),
+            Row::Override(inner) => self.row_fits(here, reads, inner.get()),
+            Row::SpannedValue(inner) => self.row_fits(here, reads, inner.get()),
+            Row::WithOriginal(inner) => self.row_fits(here, reads, inner.get()),
+            Row::HashMap(_, inner) => self.row_fits(here, reads, inner.get()),
+            Row::BTreeMap(_, inner) => self.row_fits(here, reads, inner.get()),
+            Row::Vec(_) => false,
+            Row::Declared(number) => self.may_name(here, reads, *number),
+            Row::Host(ty) => self.host.knows(ty),
+        }
+    }
+
+    /// Whether a type in the declaration of the number `here` may name the declaration of the other number.
+    fn may_name(&self, here: usize, reads: bool, number: usize) -> bool
+        ensures { result ≡ spec.may_name (H.says self.now.host.now) self.now.program.now here reads number }
+    {
+        number < here && (!reads || self.is_item(number))
+    }
+
+    /// Whether items are read as the declaration of the number.
+    fn is_item(&self, number: usize) -> bool
+        ensures { result ≡ item_at self.now.program.now number }
+    {
+        match self.items.get(number) {
+            Some(flag) => *flag,
+            None => false,
+        }
+    }
+
+    /// Whether the type has a default.
+    pub(crate) fn has_default(&self, ty: &Type) -> Mem<bool>
+        ensures { IfOk result (λ has. has ≡ spec.has_default (H.says self.now.host.now) self.now.program.now ty.now) }
+    {
+        let row = self.row(ty)?;
+        self.row_has_default(&row)
+    }
+
+    fn row_has_default(&self, row: &Row) -> Mem<bool>
+        ensures { IfOk result (λ has. has ≡ spec.row_has_default (H.says self.now.host.now) self.now.program.now row.now) }
+    {
+        match row {
+            Row::Unit => Ok(true),
+            Row::Leaf(leaf) => Ok(leaf_has_default(*leaf)),
+            Row::Option(_) => Ok(true),
+            Row::Box(inner) => self.row_has_default(inner.get()),
+            Row::Result(_) | Row::ResultMeta(_) | Row::WithOriginal(_) => Ok(false),
+            Row::Override(_) => Ok(true),
+            Row::SpannedValue(inner) => self.row_has_default(inner.get()),
+            Row::HashMap(_, _) | Row::BTreeMap(_, _) => Ok(true),
+            Row::Vec(_) => Ok(true),
+            Row::Declared(number) => self.declared_has_default(*number),
+            Row::Host(ty) => Ok(self.host_has_default(ty)),
+        }
+    }
+
+    /// Whether the declaration of the number has a default.
+    fn declared_has_default(&self, number: usize) -> Mem<bool>
+        ensures { IfOk result (λ has. has ≡ is_some (convert.declared_default (setting_of (H.says self.now.host.now) self.now.program.now) number)) }
+    {
+        match self.program.decls.get(number) {
+            Some(decl) => {
+                let ty = named_type(self.alloc, decl.ident.text.as_str())?;
+                Ok(self.host_has_default(&ty))
+            }
+            None => Ok(false),
+        }
+    }
+
+    /// Whether the host says that the type has a default.
+    fn host_has_default(&self, ty: &Type) -> bool
+        ensures { result ≡ is_some (convert.default_said (setting_of (H.says self.now.host.now) self.now.program.now) ty.now) }
+    {
+        self.host.has_default(self.program.decls.as_slice(), ty)
+    }
+}
+
+fn leaf_has_default(leaf: Leaf) -> bool
+    ensures { result ≡ is_some (leaf_default leaf) }
+{
+    match leaf {
+        Leaf::Bool
+        | Leaf::Char
+        | Leaf::String
+        | Leaf::PathBuf
+        | Leaf::Integer(_)
+        | Leaf::Flag
+        | Leaf::Vec(_)
+        | Leaf::HashSet(_)
+        | Leaf::PathList
+        | Leaf::Punctuated(_)
+        | Leaf::Ignored => true,
+        _ => false,
+    }
+}

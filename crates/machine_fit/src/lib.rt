@@ -1,0 +1,19 @@
+//! Whether a program can be run with a host.
+//!
+//! [`fit`] answers `Ok` where it can, and else the first place that stands against it: names that stand twice, forms that no
+//! run supports, types that don't fit their places, functions that the host doesn't offer, and the want of a receiver,
+//! in this order. Within one of them places stand in the order in which the program prints: each declaration, and then
+//! what its units ask.
+#![tactic(auto)]
+
+mod callables;
+mod checker;
+mod fits;
+mod fitting;
+mod slots;
+mod types;
+
+pub use codegen_program::Program;
+pub use fitting::fit;
+pub use machine_forms::{Form, Unfit};
+pub use machine_host::Host;

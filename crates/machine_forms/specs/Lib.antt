@@ -1,0 +1,5 @@
+pub mod Answer
+pub mod Asks
+pub mod Units
+pub mod Names
+pub mod Forms

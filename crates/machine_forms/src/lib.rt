@@ -1,0 +1,14 @@
+//! What a program asks, unit by unit, and the names and forms that no run takes, whatever the host.
+#![tactic(auto)]
+
+mod ask;
+mod forms;
+mod names;
+mod unfit;
+mod units;
+
+pub use ask::{Ask, Asked, push_unit};
+pub use forms::{check_forms, fallback_call};
+pub use names::{check_names, fields_of};
+pub use unfit::{Form, Unfit};
+pub use units::{asks_of, groups_of, is_receiver, item_flags};
