@@ -1,0 +1,43 @@
+-- The machine on an element of a unit's kind.
+use Rattle.std.specs.Prelude.{ℕ, ◌≡◌, Option, Some, None, option_and_then, slice_get, if◌then◌else◌}
+use Rattle.node_core.specs.declared.derive.DeriveInput.{DeriveInput}
+use Rattle.meta_nested.specs.declared.nested.NestedMeta.{NestedMeta}
+use Rattle.meta_cells.specs.Cells.{Cells, no_cells}
+use Rattle.meta_cells.specs.Dispatch.{by_nested_meta}
+use Rattle.error_fault.specs.Outcome.{Outcome}
+use Rattle.machine_host.specs.HostSays.{HostSays}
+use Rattle.machine_value.specs.declared.value.Value.{Value as Datum}
+use Rattle.codegen_program.specs.declared.program.Program.{Program}
+use Rattle.codegen_program.specs.declared.program.«Unit».{«Unit» as Unit'}
+use Rattle.machine_steps.specs.Machine.{earlier_units, is_from_meta, machine, read_list, setting_of}
+use Rattle.machine_execute.specs.declared.element.Element.{Element}
+use Rattle.machine_execute.specs.declared.element.Element.TheVariants as element
+
+-- what a unit is run on
+pub data On : Type 0 where
+  OnNested : NestedMeta → On
+  OnInput : DeriveInput → On
+
+abbrev pub element_of : Element → On
+element_of (element.Nested item) = OnNested item.now
+element_of (element.Input input) = OnInput input.now
+
+-- what a unit reads: a list by its function, and no other format
+abbrev pub unit_cells : HostSays → Program → Unit' → Cells Datum
+unit_cells host program unit =
+    record no_cells {
+      list = λ items. Some (read_list (setting_of host program) (earlier_units (setting_of host program) program.units unit.decl) (Some unit) items);
+    }
+
+-- an item of a list is for a unit of `FromMeta`, an item of a text for one of `FromDeriveInput`
+abbrev pub unit_on : HostSays → Program → Unit' → On → Option (Outcome Datum)
+unit_on host program unit (OnNested item) = if is_from_meta unit.derive then Some (by_nested_meta (unit_cells host program unit) item) else None
+unit_on host program unit (OnInput input) = machine host program unit input
+
+-- the unit of the number, on an element
+abbrev pub machine_on : HostSays → Program → ℕ → On → Option (Outcome Datum)
+machine_on host program number on = option_and_then (λ unit. unit_on host program unit on) (slice_get program.units number)
+
+-- the unit has an outcome on the element
+abbrev pub HasOutcome : HostSays → Program → ℕ → On → Type 0
+HasOutcome host program number on = (outcome : Outcome Datum) × (machine_on host program number on ≡ Some outcome)

@@ -1,0 +1,4 @@
+pub mod Seen
+pub mod Outcome
+pub mod Units
+pub mod Elements

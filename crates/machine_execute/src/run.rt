@@ -1,0 +1,196 @@
+//! A run of the statements of a function.
+
+ghost use Rattle.std.specs.Prelude.{◌≡◌, [], IfOk, fold, map};
+ghost use Rattle.machine_host.specs.Made.{named_type};
+ghost use Rattle.machine_read.specs.Scopes.{seen_setting};
+ghost use Rattle.machine_steps.specs.Progress.{Items as ListGiven};
+ghost use Rattle.machine_steps.specs.Statements as spec;
+ghost use Rattle.machine_execute.specs.Seen.{given_of, progress_of, state_of};
+
+use crate::attributes::{is_named, name_value_fault};
+use crate::flat::{check_errors, declare, declare_buffer, declare_errors, refuse, refuse_list};
+use crate::given::Given;
+use crate::progress::Progress;
+use crate::slot::Slot;
+use crate::state::State;
+use base_core::{Items, Mem, Text};
+use codegen_program::Stmt;
+use machine_host::Host;
+use machine_read::{Declared, Scope, Setting};
+use meta_cells::items_of;
+use meta_nested::NestedMeta;
+use node_core::{Attribute, Meta};
+use node_expr::Type;
+use std::alloc::AllocError;
+
+/// What a run of a function is under.
+pub(crate) struct Run<'p, H, D> {
+    pub scope: Scope<'p, H, D>,
+    /// How many levels deep types are read; what is deeper is want of memory.
+    pub room: usize,
+    /// The type that is read.
+    pub ty: &'p Type,
+    /// The type of a slot that is not there.
+    pub nameless: &'p Type,
+    ghost is_nameless: { nameless.now ≡ named_type [] },
+}
+
+impl<'p, H: Host, D: Declared> Run<'p, H, D> {
+    /// Runs the statements one after another. Statements in statements stand no deeper than `nesting` levels; what is
+    /// deeper is want of memory.
+    #[cycle(stmts)]
+    pub(crate) fn run_from(
+        &self,
+        given: Given<'_>,
+        stmts: &'p [Stmt],
+        nesting: usize,
+        state: &mut State<'p>,
+        progress: Progress,
+    ) -> Mem<Progress>
+        requires { D.reads_within self.now.scope.declared.now self.now.room }
+        ensures { IfOk result (λ it. progress_of (state_of state.new) it ≡ spec.run_from (seen_setting (H.says self.now.scope.setting.host.now) self.now.scope.setting.decls.now) (D.earlier self.now.scope.declared.now) self.now.ty.now stmts.now (given_of given.entry) (progress_of (state_of state.old) progress)) }
+    {
+        let mut progress = progress;
+        for stmt in stmts {
+            progress = self.act(given, stmt, nesting, state, progress)?;
+        }
+        Ok(progress)
+    }
+
+    /// Runs a statement.
+    #[cycle(stmts)]
+    fn act(
+        &self,
+        given: Given<'_>,
+        stmt: &'p Stmt,
+        nesting: usize,
+        state: &mut State<'p>,
+        progress: Progress,
+    ) -> Mem<Progress>
+        requires { D.reads_within self.now.scope.declared.now self.now.room }
+        ensures { IfOk result (λ it. progress_of (state_of state.new) it ≡ spec.does (seen_setting (H.says self.now.scope.setting.host.now) self.now.scope.setting.decls.now) (D.earlier self.now.scope.declared.now) self.now.ty.now stmt.now (given_of given.entry) (progress_of (state_of state.old) progress)) }
+    {
+        match stmt {
+            Stmt::DeclareErrors => Ok(declare_errors(state, progress)),
+            Stmt::DeclareOne { ty, .. } => declare(Slot::One(ty, false, None), state, progress),
+            Stmt::DeclareMany { ty, .. } => {
+                declare(
+                    Slot::Several(ty, Items::new(self.scope.alloc)),
+                    state,
+                    progress,
+                )
+            }
+            Stmt::DeclareBuffer => Ok(declare_buffer(state, progress)),
+            Stmt::ForAttributes { names, items, .. } => self.for_attributes(
+                given.attributes(),
+                names.as_slice(),
+                items.as_slice(),
+                nesting,
+                state,
+                progress,
+            ),
+            Stmt::ForItems { arms, rest } => {
+                self.for_items(given.items(), arms.as_slice(), rest, state, progress)
+            }
+            Stmt::ReadFlatten { slot, names } => {
+                self.read_flatten(*slot as usize, names.as_slice(), state, progress)
+            }
+            Stmt::CheckMissing { slot, ty, name } => {
+                self.check_missing(*slot as usize, ty, name, state, progress)
+            }
+            Stmt::CheckErrors { location } => {
+                check_errors(self.scope.alloc, location.as_ref(), state, progress)
+            }
+            Stmt::SetDefault { from } => self.set_default(given, from, state, progress),
+            Stmt::Build { name, inits } => self.build(name, inits.as_slice(), state, progress),
+            Stmt::Transform { post } => self.transform(post, progress),
+            Stmt::CheckShape => Ok(progress),
+            Stmt::ReadBody => Ok(progress),
+        }
+    }
+
+    /// Reads the items of each attribute of these names, and runs the statements on them.
+    #[cycle(stmts)]
+    fn for_attributes(
+        &self,
+        attributes: &[Attribute],
+        names: &[Text],
+        stmts: &'p [Stmt],
+        nesting: usize,
+        state: &mut State<'p>,
+        progress: Progress,
+    ) -> Mem<Progress>
+        requires { D.reads_within self.now.scope.declared.now self.now.room }
+        ensures { IfOk result (λ it. progress_of (state_of state.new) it ≡ fold (spec.on_attribute (λ list. spec.all_do (map (spec.does (seen_setting (H.says self.now.scope.setting.host.now) self.now.scope.setting.decls.now) (D.earlier self.now.scope.declared.now) self.now.ty.now) stmts.now) (ListGiven list)) names.now) (progress_of (state_of state.old) progress) attributes.now) }
+    {
+        let mut progress = progress;
+        for attribute in attributes {
+            if is_named(self.scope.alloc, names, &attribute.meta)? {
+                progress = self.on_meta(&attribute.meta, stmts, nesting, state, progress)?;
+            }
+        }
+        Ok(progress)
+    }
+
+    /// Reads the items of an attribute, and runs the statements on them. A word gives nothing.
+    #[cycle(stmts)]
+    fn on_meta(
+        &self,
+        meta: &Meta,
+        stmts: &'p [Stmt],
+        nesting: usize,
+        state: &mut State<'p>,
+        progress: Progress,
+    ) -> Mem<Progress>
+        requires { D.reads_within self.now.scope.declared.now self.now.room }
+        ensures { IfOk result (λ it. progress_of (state_of state.new) it ≡ spec.on_meta (λ list. spec.all_do (map (spec.does (seen_setting (H.says self.now.scope.setting.host.now) self.now.scope.setting.decls.now) (D.earlier self.now.scope.declared.now) self.now.ty.now) stmts.now) (ListGiven list)) meta.now (progress_of (state_of state.old) progress)) }
+    {
+        match meta {
+            Meta::Path(_) => Ok(progress),
+            Meta::List(list) => match items_of(self.scope.alloc, &list.tokens) {
+                Ok(items) => self.inside(items.as_slice(), stmts, nesting, state, progress),
+                Err(fail) => refuse_list(self.scope.alloc, fail, state, progress),
+            },
+            Meta::NameValue(_) => {
+                let fault = name_value_fault(self.scope.alloc, meta)?;
+                refuse(Items::of(self.scope.alloc, fault)?, state, progress)
+            }
+        }
+    }
+
+    /// Runs the statements that stand in a statement on the items of a list.
+    #[cycle(stmts)]
+    fn inside(
+        &self,
+        items: &[NestedMeta],
+        stmts: &'p [Stmt],
+        nesting: usize,
+        state: &mut State<'p>,
+        progress: Progress,
+    ) -> Mem<Progress>
+        requires { D.reads_within self.now.scope.declared.now self.now.room }
+        ensures { IfOk result (λ it. progress_of (state_of state.new) it ≡ spec.run_from (seen_setting (H.says self.now.scope.setting.host.now) self.now.scope.setting.decls.now) (D.earlier self.now.scope.declared.now) self.now.ty.now stmts.now (ListGiven items.now) (progress_of (state_of state.old) progress)) }
+    {
+        if nesting == 0 {
+            return Err(AllocError);
+        }
+        self.run_from(Given::Items(items), stmts, nesting - 1, state, progress)
+    }
+}
+
+impl<H, D> Drop for Run<'_, H, D> {
+    fn drop(self) {
+        let Self {
+            scope,
+            room: _,
+            ty: _,
+            nameless: _,
+        } = self;
+        let Scope {
+            alloc: _,
+            setting,
+            declared: _,
+        } = scope;
+        let Setting { host: _, decls: _ } = setting;
+    }
+}

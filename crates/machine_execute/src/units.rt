@@ -1,0 +1,251 @@
+//! Units of a program: each declaration is read by the unit of its number, and its types name those of lower numbers.
+
+ghost use Rattle.std.specs.Prelude.{◌≡◌, [], IfOk, Some, option_map};
+ghost use Rattle.std.specs.Option.{option_copied};
+ghost use Rattle.error_core.specs.Answers.{Answers};
+ghost use Rattle.machine_host.specs.Made.{named_type as type_named};
+ghost use Rattle.machine_steps.specs.Below.{unread as unread_outcome};
+ghost use Rattle.machine_steps.specs.Machine as spec;
+ghost use Rattle.machine_steps.specs.Progress.{outcome};
+ghost use Rattle.machine_steps.specs.Statements.{run as run_of};
+ghost use Rattle.machine_execute.specs.Seen.{answered, given_of};
+ghost use Rattle.machine_execute.specs.Units.{is_such};
+
+use crate::given::Given;
+use crate::progress::Progress;
+use crate::run::Run;
+use crate::state::State;
+use base_core::Mem;
+use codegen_program::{Derive, Func, FuncName, Program, Stmt, Unit};
+use error_core::{Error, Fail, Result};
+use machine_host::{Host, named_type};
+use machine_read::{Declared, Scope, Setting};
+use machine_value::Value;
+use meta_nested::NestedMeta;
+use node_expr::Type;
+use std::alloc::Global;
+use std::result;
+
+/// How deep statements may stand in statements.
+const MAX_NESTING: usize = 64;
+
+/// A program and its host.
+pub(crate) struct Context<'p, H> {
+    pub alloc: Global,
+    pub host: &'p H,
+    pub program: &'p Program,
+    /// The type of a slot that is not there.
+    pub nameless: &'p Type,
+    ghost is_nameless: { nameless.now ≡ type_named [] },
+}
+
+/// What the declarations below a number read, each by its unit.
+pub(crate) struct Earlier<'p, H, F> {
+    pub context: &'p Context<'p, H>,
+    pub bound: usize,
+    pub read: F,
+}
+
+impl<H: Host, F> Declared for Earlier<'_, H, F>
+where
+    F: Fn(&Context<'_, H>, usize, usize, &[NestedMeta]) -> Result<Value>,
+{
+    ghost use Rattle.std.specs.Prelude.{ℕ, ◌≤◌};
+    ghost use Rattle.machine_steps.specs.Convert.{Earlier as EarlierSeen};
+    ghost use Rattle.machine_steps.specs.Machine.{earlier_units, setting_of};
+    ghost use Rattle.machine_execute.specs.Units.{ReadsUnits, reads-less};
+
+    ghost earlier = { λ it. earlier_units (setting_of (H.says it.context.now.host.now) it.context.now.program.now) it.context.now.program.now.units it.bound };
+
+    ghost reads_within = { λ it room. ReadsUnits (setting_of (H.says it.context.now.host.now) it.context.now.program.now) it.context.now.program.now.units it.bound room (λ less number items. F.pre it.read it.context less number items) (λ less number items answer. F.post it.read it.context less number items answer) };
+
+    ghost reads_less = { λ it less room small within. reads-less small within };
+
+    fn list(
+        &self,
+        alloc: Global,
+        room: usize,
+        number: usize,
+        items: &[NestedMeta],
+    ) -> Result<Value> {
+        if number < self.bound {
+            (self.read)(self.context, room, number, items)
+        } else {
+            unread(alloc)
+        }
+    }
+}
+
+/// What the declaration of the number reads from the items of a list, no deeper than `room` levels. What would be deeper is
+/// want of memory.
+#[cycle(units)]
+pub(crate) fn read_declared<H: Host>(
+    context: &Context<'_, H>,
+    room: usize,
+    number: usize,
+    items: &[NestedMeta],
+) -> Result<Value>
+    ensures { Answers (λ it. it) result (spec.read_list (spec.setting_of (H.says context.now.host.now) context.now.program.now) (spec.earlier_units (spec.setting_of (H.says context.now.host.now) context.now.program.now) context.now.program.now.units number) (spec.meta_unit context.now.program.now.units number) items.now) }
+{
+    if room == 0 {
+        return Err(Fail::NoMemory);
+    }
+    let Some(unit) = meta_unit(context.program.units.as_slice(), number) else {
+        return unread(context.alloc);
+    };
+    let earlier = Earlier {
+        context: &*context,
+        bound: number,
+        read: read_declared::<H>,
+    };
+    read_list(&*context, &earlier, room - 1, unit, &*items)
+}
+
+/// What a unit reads from the items of a list.
+pub(crate) fn read_list<H: Host, D: Declared>(
+    context: &Context<'_, H>,
+    earlier: &D,
+    room: usize,
+    unit: &Unit,
+    items: &[NestedMeta],
+) -> Result<Value>
+    requires { D.reads_within earlier.now room }
+    ensures { Answers (λ it. it) result (spec.read_list (spec.setting_of (H.says context.now.host.now) context.now.program.now) (D.earlier earlier.now) (Some unit.now) items.now) }
+{
+    match run_func(
+        context,
+        earlier,
+        room,
+        FuncName::FromList,
+        unit,
+        Given::Items(items),
+    )? {
+        Some(Ok(value)) => Ok(value),
+        Some(Err(error)) => Err(Fail::Faults(error)),
+        None => unread(context.alloc),
+    }
+}
+
+/// The fault of a number that no unit reads from items.
+pub(crate) fn unread(alloc: Global) -> Result<Value>
+    ensures { Answers (λ it. it) result unread_outcome }
+{
+    Err(Fail::Faults(Error::custom(alloc, "no declaration")?))
+}
+
+/// The first unit by which items are read as the declaration of the number.
+pub(crate) fn meta_unit(units: &[Unit], number: usize) -> Option<&Unit>
+    ensures { option_copied result ≡ spec.meta_unit units.now number }
+{
+    for unit in units {
+        if unit.decl as usize == number && is_from_meta(unit.derive) {
+            return Some(unit);
+        }
+    }
+    None
+}
+
+/// Whether items are read by it.
+pub(crate) fn is_from_meta(derive: Derive) -> bool
+    ensures { result ≡ spec.is_from_meta derive }
+{
+    match derive {
+        Derive::FromMeta => true,
+        _ => false,
+    }
+}
+
+/// The outcome of a unit's function, which may read the declarations of lower numbers. None where it has none.
+pub(crate) fn run_func<H: Host, D: Declared>(
+    context: &Context<'_, H>,
+    earlier: &D,
+    room: usize,
+    name: FuncName,
+    unit: &Unit,
+    given: Given<'_>,
+) -> Mem<Option<result::Result<Value, Error>>>
+    requires { D.reads_within earlier.now room }
+    ensures { IfOk result (λ it. option_map answered it ≡ spec.run_func (spec.setting_of (H.says context.now.host.now) context.now.program.now) (D.earlier earlier.now) (is_such name) unit.now (given_of given.entry)) }
+{
+    match stmts_named(unit.funcs.as_slice(), name) {
+        Some(stmts) => {
+            let ty = named_type(context.alloc, unit.ident.text.as_str())?;
+            run_stmts(context, earlier, room, &ty, stmts, given)
+        }
+        None => Ok(None),
+    }
+}
+
+/// The outcome of statements that make this type. None where they have none.
+fn run_stmts<H: Host, D: Declared>(
+    context: &Context<'_, H>,
+    earlier: &D,
+    room: usize,
+    ty: &Type,
+    stmts: &[Stmt],
+    given: Given<'_>,
+) -> Mem<Option<result::Result<Value, Error>>>
+    requires { D.reads_within earlier.now room }
+    ensures { IfOk result (λ it. option_map answered it ≡ outcome (run_of (spec.setting_of (H.says context.now.host.now) context.now.program.now) (D.earlier earlier.now) ty.now stmts.now (given_of given.entry))) }
+{
+    let run = Run {
+        scope: Scope {
+            alloc: context.alloc,
+            setting: Setting {
+                host: context.host,
+                decls: context.program.decls.as_slice(),
+            },
+            declared: earlier,
+        },
+        room,
+        ty,
+        nameless: context.nameless,
+    };
+    let mut state = State::new(context.alloc);
+    let progress = run.run_from(given, stmts, MAX_NESTING, &mut state, Progress::Going)?;
+    Ok(progress.outcome())
+}
+
+/// The statements of the first function of the name.
+fn stmts_named(funcs: &[Func], name: FuncName) -> Option<&[Stmt]>
+    ensures { option_map (λ stmts. stmts.now) result ≡ spec.stmts_named (is_such name) funcs.now }
+{
+    for func in funcs {
+        if is_such(name, func.name) {
+            return Some(func.stmts.as_slice());
+        }
+    }
+    None
+}
+
+/// Whether a function is the one that a run asks for.
+fn is_such(name: FuncName, other: FuncName) -> bool
+    ensures { result ≡ is_such name other }
+{
+    match (name, other) {
+        (FuncName::FromList, FuncName::FromList) => true,
+        (FuncName::FromDeriveInput, FuncName::FromDeriveInput) => true,
+        _ => false,
+    }
+}
+
+impl<H> Drop for Context<'_, H> {
+    fn drop(self) {
+        let Self {
+            alloc: _,
+            host: _,
+            program: _,
+            nameless: _,
+        } = self;
+    }
+}
+
+impl<H, F: Drop> Drop for Earlier<'_, H, F> {
+    fn drop(self) {
+        let Self {
+            context: _,
+            bound: _,
+            read: _read,
+        } = self;
+    }
+}
