@@ -1,17 +1,15 @@
 -- The names, the arms and the rest of what options leave are those of the declaration.
 use Rattle.std.proofs.Common.{◌≡◌, ℕ, ◌+◌, zero, suc, Bool, true, false, ◌||◌, cond, List, [], ◌∷◌, ◌++◌, Option, Some, None, refl, ap, ap₂, ◌∙◌, arith, if◌then◌else◌}
-use Rattle.std.specs.List.{AllZip, cons_option, filter_map, list_any}
+use Rattle.std.specs.List.{AllZip, cons_option, list_any}
 use Rattle.std.specs.Option.{option_copied}
 use Rattle.base_core.specs.declared.text.Text.{Text}
 use Rattle.util_core.specs.declared.callable.Callable.{Callable}
 use Rattle.codegen_program.specs.declared.arm.Arm.{Arm}
 use Rattle.codegen_program.specs.declared.arm.PostfixTransform.{PostfixTransform}
-use Rattle.codegen_program.specs.declared.arm.Rest.{Rest}
 use Rattle.codegen_program.specs.declared.arm.Rest.TheVariants as rests
-use Rattle.codegen_program.specs.declared.stmt.Stmt.{Stmt}
 use Rattle.codegen_program.specs.declared.stmt.Stmt.TheVariants as stmt
 use Rattle.codegen_core.specs.Compiled.{fields_of, for_items}
-use Rattle.codegen_core.specs.Fields.{at_slots, name_of, named_arm, arm as left_arm, arms as left_arms, names as left_names, rest as left_rest}
+use Rattle.codegen_core.specs.Fields.{at_slots, name_of, named_arm, arm as left_arm, names as left_names}
 use Rattle.codegen_core.specs.declared.field.Field.{Field}
 use Rattle.codegen_core.specs.declared.trait_impl.TraitImpl.{TraitImpl}
 use Rattle.meaning_core.specs.Decl.{Decl, FieldDecl, Shape, Single, Many, Flat, has_flat, is_flat, is_many, is_named, is_named_by, names}

@@ -1,10 +1,8 @@
 -- What is built from the slots, where no fault was collected.
-use Rattle.std.proofs.Common.{◌≡◌, ℕ, ◌+◌, zero, suc, Bool, true, false, List, [], ◌∷◌, ◌++◌, length, map, Option, Some, None, option_map, refl, ap, ap₂, ◌∙◌, sym, append_assoc}
+use Rattle.std.proofs.Common.{◌≡◌, ℕ, ◌+◌, zero, suc, true, List, [], ◌∷◌, ◌++◌, length, map, Option, Some, None, option_map, refl, ap, ap₂, ◌∙◌, sym, append_assoc}
 use Rattle.std.specs.List.{AllZip}
 use Rattle.std.specs.Option.{option_copied}
 use Rattle.std.specs.Prelude.{option_and_then}
-use Rattle.base_core.specs.declared.text.Text.{Text}
-use Rattle.tok_types.specs.Ident.{ident_text}
 use Rattle.node_expr.specs.declared.ty.«Type».{«Type» as Type'}
 use Rattle.meta_nested.specs.declared.nested.NestedMeta.{NestedMeta}
 use Rattle.error_fault.specs.declared.fault.Fault.{Fault}
@@ -19,7 +17,6 @@ use Rattle.codegen_program.specs.declared.init.Fallback.{Fallback as Falls}
 use Rattle.codegen_program.specs.declared.init.Fallback.TheVariants as fallbacks
 use Rattle.codegen_program.specs.declared.init.Init.{Init}
 use Rattle.codegen_program.specs.declared.stmt.Stmt.{Stmt}
-use Rattle.codegen_program.specs.declared.stmt.Stmt.TheVariants as stmt
 use Rattle.codegen_core.specs.Compiled.{build, fields_of, set_default, transform}
 use Rattle.codegen_core.specs.Defaults.{source}
 use Rattle.codegen_core.specs.Fields.{at_slots, fallback_of, init, inits}
@@ -27,7 +24,7 @@ use Rattle.codegen_core.specs.declared.default_expression.DefaultExpression.{Def
 use Rattle.codegen_core.specs.declared.default_expression.DefaultExpression.TheVariants as defaults
 use Rattle.codegen_core.specs.declared.field.Field.{Field}
 use Rattle.codegen_core.specs.declared.trait_impl.TraitImpl.{TraitImpl}
-use Rattle.meaning_core.specs.Decl.{Decl, FieldDecl, Shape, Single, Many, Flat, Fallback, OfType, OfCall, OfContainer, Default, ByType, ByCall, fallback}
+use Rattle.meaning_core.specs.Decl.{Decl, FieldDecl, Shape, Single, Many, Flat, Fallback, Default, ByType, ByCall, fallback}
 use Rattle.machine_steps.specs.Setting.{Setting}
 use Rattle.machine_steps.specs.Convert.{Earlier, none}
 use Rattle.meaning_core.specs.Owners.{each, field_at, own}

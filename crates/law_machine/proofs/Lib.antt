@@ -3,3 +3,5 @@ pub mod Passes
 pub mod Building
 pub mod Units
 pub mod Programs
+pub mod Left
+pub mod Runs

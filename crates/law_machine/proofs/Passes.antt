@@ -1,5 +1,5 @@
 -- A pass of statements over the fields changes each field's slot and adds faults.
-use Rattle.std.proofs.Common.{◌≡◌, ℕ, ◌+◌, zero, suc, Bool, true, false, cond, List, [], ◌∷◌, ◌++◌, length, map, Option, Some, None, option_map, refl, ap, ap₂, ◌∙◌, sym, arith, append_assoc, append-nil, set, length-append, true≢false, if◌then◌else◌}
+use Rattle.std.proofs.Common.{◌≡◌, ℕ, ◌+◌, zero, suc, Bool, true, false, List, [], ◌∷◌, ◌++◌, length, Option, Some, None, option_map, refl, ap, ap₂, ◌∙◌, sym, arith, append_assoc, append-nil, set, length-append, if◌then◌else◌}
 use Rattle.std.specs.List.{AllZip}
 use Rattle.base_core.specs.declared.text.Text.{Text}
 use Rattle.tok_types.specs.declared.ident.Ident.{Ident}
@@ -12,24 +12,23 @@ use Rattle.machine_value.specs.Members.{no_value}
 use Rattle.codegen_program.specs.declared.stmt.Stmt.{Stmt}
 use Rattle.codegen_program.specs.declared.stmt.Stmt.TheVariants as stmt
 use Rattle.codegen_core.specs.Defaults.{fallback as left_fallback}
-use Rattle.codegen_core.specs.Fields.{at_slots, declaration, flatten, check, check_without, fallback_of}
+use Rattle.codegen_core.specs.Fields.{at_slots, declaration, flatten, check, check_without}
 use Rattle.codegen_core.specs.declared.default_expression.DefaultExpression.{DefaultExpression}
 use Rattle.codegen_core.specs.declared.field.Field.{Field}
-use Rattle.meaning_core.specs.Decl.{Decl, FieldDecl, Shape, Single, Many, Flat, Fallback, fallback, has_flat, is_flat, is_many, names}
+use Rattle.meaning_core.specs.Decl.{Decl, FieldDecl, Shape, Single, Many, Flat, Fallback, fallback, is_flat, is_many, names}
 use Rattle.machine_steps.specs.Setting.{Setting}
 use Rattle.machine_steps.specs.Convert.{Earlier, none}
 use Rattle.meaning_core.specs.Owners.{unclaimed, each}
-use Rattle.meaning_core.specs.EntryFaults.{read, values}
+use Rattle.meaning_core.specs.EntryFaults.{read}
 use Rattle.meaning_core.specs.FieldValue.{flat_outcome, flat_faults, missing, missing_by}
 use Rattle.meaning_core.specs.Meaning.{joined}
-use Rattle.machine_steps.specs.State.{Slot, One, Several, State, put, slot_at}
-use Rattle.meaning_core.specs.Walk.{slot_by, field_slot, kept_by}
+use Rattle.machine_steps.specs.State.{Slot, One, State, put, slot_at}
+use Rattle.meaning_core.specs.Walk.{slot_by, field_slot}
 use Rattle.machine_steps.specs.Progress.{Given, Progress, Going}
 use Rattle.machine_steps.specs.Slots.{absent, check_missing, read_flat, read_slot}
-use Rattle.machine_steps.specs.Statements.{does, run_from}
+use Rattle.machine_steps.specs.Statements.{run_from}
 use Rattle.machine_steps.proofs.Statements as statement
 use Rattle.law_machine.specs.Compiles.{IsField, meant_fallback}
-use Rattle.law_machine.proofs.Arms.{next}
 
 -- the slot behind those that are done
 pub at_here : (done todo : List Slot) (x : Slot) → slot_at (done ++ x ∷ todo) (length done) ≡ x

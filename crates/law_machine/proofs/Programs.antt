@@ -1,22 +1,21 @@
 -- The units of a program read what their declarations mean.
-use Rattle.std.proofs.Common.{◌≡◌, ℕ, zero, suc, ◌==◌, List, cond, Option, Some, None, refl, ap, ◌∙◌, sym, subst}
+use Rattle.std.proofs.Common.{◌≡◌, ℕ, zero, suc, ◌==◌, List, cond, Option, Some, None, refl, ap, ◌∙◌, sym}
 use mathlib.Core.Path.{fun_ext}
-use Rattle.node_core.specs.declared.derive.DeriveInput.{DeriveInput}
 use Rattle.meta_nested.specs.declared.nested.NestedMeta.{NestedMeta}
 use Rattle.error_fault.specs.Outcome.{Outcome}
 use Rattle.machine_value.specs.declared.value.Value.{Value as Datum}
 use Rattle.codegen_program.specs.declared.program.«Unit».{«Unit» as Unit'}
-use Rattle.codegen_core.specs.Compiled.{compiled_derive_input, compiled_meta, input_stmts, list_stmts}
+use Rattle.codegen_core.specs.Compiled.{compiled_derive_input, input_stmts, list_stmts}
 use Rattle.machine_steps.specs.Below.{below}
 use Rattle.machine_steps.specs.Convert.{Earlier}
 use Rattle.machine_steps.specs.Setting.{Setting}
 use Rattle.machine_steps.specs.Machine.{earlier_units, is_from_derive_input, is_from_list, meta_unit, or_unread, read_list, run_func, setting_of, unit_type}
-use Rattle.machine_steps.specs.Progress.{Given, Items, Input, outcome}
+use Rattle.machine_steps.specs.Progress.{Items, Input, outcome}
 use Rattle.machine_steps.specs.Statements.{run}
 use Rattle.meaning_core.specs.Decl.{Decl}
-use Rattle.meaning_core.specs.Declarations.{declared_meaning, earlier_decls, list_meaning, meta_decl}
+use Rattle.meaning_core.specs.Declarations.{earlier_decls, list_meaning, meta_decl}
 use Rattle.law_machine.specs.Claims.{ProgramIsMeaning}
-use Rattle.law_machine.specs.Compiles.{AreMetaUnits, IsMetaUnit, IsInputUnit}
+use Rattle.law_machine.specs.Compiles.{AreMetaUnits, IsMetaUnit}
 use Rattle.law_machine.proofs.Units.{input_is_meaning, list_is_meaning}
 
 -- two ways to read a number agree where they do over the same earlier readings

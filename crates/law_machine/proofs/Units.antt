@@ -1,9 +1,7 @@
 -- The outcome of a unit is what its declaration means.
-use Rattle.std.proofs.Common.{◌≡◌, ℕ, zero, Bool, true, false, List, [], ◌∷◌, ◌++◌, map, fold, Option, Some, None, refl, ap, ap₂, ◌∙◌, sym, append_assoc, append-nil, true≢false, if◌then◌else◌}
-use Rattle.std.specs.Prelude.{option_and_then, flat_map}
+use Rattle.std.proofs.Common.{◌≡◌, zero, Bool, true, false, List, [], ◌∷◌, ◌++◌, map, fold, Some, None, refl, ap, ◌∙◌, sym, append_assoc, append-nil, true≢false, if◌then◌else◌}
 use Rattle.std.proofs.lemmas.List.Sums.{fold-append}
 use Rattle.base_core.specs.declared.text.Text.{Text}
-use Rattle.node_expr.specs.declared.ty.«Type».{«Type» as Type'}
 use Rattle.node_make.specs.PathText.{path_text}
 use Rattle.node_core.specs.declared.attr.Attribute.{Attribute}
 use Rattle.node_core.specs.declared.attr.Meta.{Meta}
@@ -17,11 +15,10 @@ use Rattle.machine_value.specs.Members.{no_value}
 use Rattle.codegen_program.specs.declared.forward.Forward.TheVariants as forward
 use Rattle.codegen_program.specs.declared.stmt.Stmt.{Stmt}
 use Rattle.codegen_program.specs.declared.stmt.Stmt.TheVariants as stmt
-use Rattle.codegen_core.specs.Compiled.{closing, default_of, fields_of, for_items, list_stmts, input_stmts, over_attributes, set_default}
-use Rattle.codegen_core.specs.Defaults.{source}
-use Rattle.codegen_core.specs.Fields.{at_slots, check, checks, declaration, declarations, flatten, flattens}
+use Rattle.codegen_core.specs.Compiled.{closing, default_of, fields_of, for_items, over_attributes, set_default}
+use Rattle.codegen_core.specs.Fields.{at_slots, checks, declarations, flatten, flattens}
 use Rattle.codegen_core.specs.declared.trait_impl.TraitImpl.{TraitImpl}
-use Rattle.meaning_core.specs.Decl.{Decl, FieldDecl, has_flat, is_flat, names}
+use Rattle.meaning_core.specs.Decl.{Decl, FieldDecl, has_flat, is_flat}
 use Rattle.machine_steps.specs.Names.{meta_name}
 use Rattle.machine_steps.specs.Setting.{Setting}
 use Rattle.machine_steps.specs.Convert.{Earlier}
@@ -30,21 +27,20 @@ use Rattle.machine_steps.specs.Attributes.{has_name}
 use Rattle.meaning_core.specs.Owners.{each, own, unclaimed}
 use Rattle.meaning_core.specs.EntryFaults.{all_entry_faults}
 use Rattle.machine_steps.specs.Reading.{transformed}
-use Rattle.meaning_core.specs.FieldValue.{flat_faults, missing}
-use Rattle.meaning_core.specs.Meaning.{collected, joined, struct_meaning, whole_default}
+use Rattle.meaning_core.specs.Meaning.{joined, struct_meaning, whole_default}
 use Rattle.machine_steps.specs.State.{Slot, State, step, with_faults}
 use Rattle.meaning_core.specs.EntrySteps.{arms, entry_step, rest}
 use Rattle.meaning_core.specs.Walk.{field_slot, kept_by, state_behind}
 use Rattle.meaning_core.proofs.Clean.{clean_all, nil_left, nil_right}
 use Rattle.meaning_core.proofs.Filters.{walk}
 use Rattle.machine_steps.specs.Progress.{Given, Items, Input, Progress, Going, Ended, attributes_given, items_given, outcome, unless_faults}
-use Rattle.machine_steps.specs.Statements.{all_do, does, on_attribute, on_items, on_meta, run, run_from}
+use Rattle.machine_steps.specs.Statements.{all_do, does, on_attribute, on_items, on_meta, run_from}
 use Rattle.machine_steps.proofs.Statements as statement
 use Rattle.law_machine.specs.Claims.{InputIsMeaning, ListIsMeaning}
-use Rattle.law_machine.specs.Compiles.{IsDecl, IsInputDecl}
+use Rattle.law_machine.specs.Compiles.{IsDecl}
 use Rattle.law_machine.proofs.Arms.{for_items_is, names_are}
 use Rattle.law_machine.proofs.Building.{AreGood, are_good, behind_default, ended_default, full_state, last, made}
-use Rattle.law_machine.proofs.Passes.{AreKept, IsKept, at_slots_with, flat_added, flat_slot, full_slot, go, missing_added, run_checks, run_declarations, run_flattens, with_slots_kept}
+use Rattle.law_machine.proofs.Passes.{AreKept, at_slots_with, flat_added, flat_slot, full_slot, missing_added, run_checks, run_declarations, run_flattens, with_slots_kept}
 
 no_events : (attributes : List Attribute) → events [] attributes ≡ []
 no_events [] = refl

@@ -1,5 +1,5 @@
 -- What is claimed of programs.
-use Rattle.std.specs.Prelude.{◌≡◌, List, map, Some}
+use Rattle.std.specs.Prelude.{◌≡◌, ℕ, List, map, Some, slice_get}
 use Rattle.node_core.specs.declared.derive.DeriveInput.{DeriveInput}
 use Rattle.meta_nested.specs.declared.nested.NestedMeta.{NestedMeta}
 use Rattle.machine_host.specs.HostSays.{HostSays}
@@ -16,7 +16,12 @@ use Rattle.meaning_core.specs.Declarations.{declared_meaning}
 use Rattle.meaning_core.specs.Meaning.{struct_meaning}
 use Rattle.machine_steps.specs.Progress.{Items, Input, outcome}
 use Rattle.machine_steps.specs.Statements.{run}
-use Rattle.machine_steps.specs.Machine.{machine, setting_of}
+use Rattle.machine_steps.specs.Machine.{is_from_derive_input, is_from_list, machine, run_func, setting_of}
+use Rattle.error_fault.specs.Outcome.{Outcome}
+use Rattle.machine_value.specs.declared.value.Value.{Value as Datum}
+use Rattle.machine_execute.specs.Elements.{HasOutcome, On}
+use Rattle.law_machine.specs.Left.{IsLeftInput, IsLeftMeta, IsLeftUnit}
+use Rattle.law_machine.specs.Kinds.{IsOfKind}
 use Rattle.law_machine.specs.Compiles.{AreMetaUnits, IsDecl, IsInputDecl, IsInputUnit}
 
 -- the function that reads a list has an outcome, and it is what the items mean
@@ -38,3 +43,21 @@ ProgramIsMeaning =
     (host : HostSays) (program : Program) (unit : Unit') (decls : List Decl) (decl : Decl) (input : DeriveInput)
     → AreMetaUnits program.units decls → IsInputUnit unit decl
     → machine host program unit input ≡ Some (declared_meaning (setting_of host program) decls decl input)
+
+-- the function that reads a list has an outcome in a unit that options leave, whatever the declarations before it read
+abbrev pub ListsHaveOutcomes : Type 0
+ListsHaveOutcomes =
+    (setting : Setting) (earlier : Earlier) (unit : Unit') (items : List NestedMeta) → IsLeftMeta unit
+    → (found : Outcome Datum) × (run_func setting earlier is_from_list unit (Items items) ≡ Some found)
+
+-- so has the function that reads an item of a text
+abbrev pub InputsHaveOutcomes : Type 0
+InputsHaveOutcomes =
+    (setting : Setting) (earlier : Earlier) (unit : Unit') (input : DeriveInput) → IsLeftInput unit
+    → (found : Outcome Datum) × (run_func setting earlier is_from_derive_input unit (Input input) ≡ Some found)
+
+-- a unit that options leave can be run on each element of its kind
+abbrev pub UnitsCanBeRun : Type 0
+UnitsCanBeRun =
+    (host : HostSays) (program : Program) (number : ℕ) (unit : Unit') (element : On)
+    → slice_get program.units number ≡ Some unit → IsLeftUnit unit → IsOfKind unit.derive element → HasOutcome host program number element

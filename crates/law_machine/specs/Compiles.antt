@@ -4,7 +4,6 @@ use Rattle.std.specs.List.{AllZip}
 use Rattle.std.specs.Option.{option_copied}
 use Rattle.tok_types.specs.Ident.{ident_text}
 use Rattle.node_make.specs.PathText.{path_text}
-use Rattle.machine_host.specs.Made.{named_type}
 use Rattle.codegen_program.specs.declared.init.DefaultSource.{DefaultSource}
 use Rattle.codegen_program.specs.declared.init.DefaultSource.TheVariants as sources
 use Rattle.codegen_program.specs.declared.init.Fallback.{Fallback as Falls}

@@ -1,2 +1,4 @@
 pub mod Compiles
 pub mod Claims
+pub mod Left
+pub mod Kinds

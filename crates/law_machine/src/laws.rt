@@ -1,6 +1,6 @@
 //! The laws. These functions do nothing: their clauses are the laws.
 
-ghost use Rattle.law_machine.specs.Claims.{InputIsMeaning, ListIsMeaning, ProgramIsMeaning};
+ghost use Rattle.law_machine.specs.Claims.{InputIsMeaning, InputsHaveOutcomes, ListIsMeaning, ListsHaveOutcomes, ProgramIsMeaning, UnitsCanBeRun};
 
 /// `from_list` of a struct gives what the items mean under the declaration, for every host and whatever the
 /// declarations before it read; it never looks for a value that is not there.
@@ -17,4 +17,19 @@ pub fn an_input_is_read_as_meant()
 /// fields may have the types of declarations below it.
 pub fn a_program_reads_what_is_meant()
     ensures { ProgramIsMeaning }
+{}
+
+/// `from_list` of a unit that options leave has an outcome on any list, whatever the declarations before it read.
+pub fn a_list_has_an_outcome()
+    ensures { ListsHaveOutcomes }
+{}
+
+/// So has `from_derive_input` on any item of a text.
+pub fn an_input_has_an_outcome()
+    ensures { InputsHaveOutcomes }
+{}
+
+/// A unit that options leave has an outcome on each element of its kind, under any host: `execute` may be called.
+pub fn a_unit_can_be_run()
+    ensures { UnitsCanBeRun }
 {}
