@@ -1,0 +1,22 @@
+//! The machine: what a host makes of the programs that receivers' declarations compile to.
+//!
+//! [`fit`] says whether a [`Program`] can be run with a [`Host`], or the first place that stands against it. [`execute`] runs a
+//! unit of it on an [`Element`] and answers its [`Outcome`]: a [`Value`], or all faults with their places. [`StdHost`] offers the
+//! functions of the tool, and [`RefusingHost`] none.
+#![tactic(auto)]
+
+pub use codegen_program::{
+    Arm, DefaultSource, Derive, Fallback, Forward, Func, FuncName, Init, PostfixTransform, Program,
+    Rest, Stmt, Unit,
+};
+pub use machine_execute::{Element, MAX_DEPTH, Outcome, execute, try_execute};
+pub use machine_fit::{Form, Unfit, fit};
+pub use machine_host::{
+    Arg, Callable, Host, HostItem, Place, RefusingHost, Said, Use, what_fits_a_type,
+};
+pub use machine_std::StdHost;
+pub use machine_value::{
+    Boxed, Fault, Items, Mem, Span, Style, Text, TokenStream, TryClone, Value,
+};
+pub use meta_nested::NestedMeta;
+pub use node_core::{DeriveInput, Type};
