@@ -1,6 +1,6 @@
 #!/bin/sh
 # Applies each case of must-not-compile/ to a copy of its crate, and looks for the error that the
-# quick check, which proves nothing, has to give. A case has the crate, the file, the error and a name
+# front end, which proves nothing, has to give. A case has the crate, the file, the error and a name
 # in its message; the code behind `---` goes to the file's end.
 set -u
 top=$(cd "$(dirname "$0")/.." && pwd)
@@ -32,7 +32,7 @@ for case in "$top"/checks/must-not-compile/*.txt; do
     file=$copy/crates/$crate/$(value file "$case")
     cp "$file" "$copy/kept"
     sed '1,/^---$/d' "$case" >>"$file"
-    said=$(cd "$copy/crates/$crate" && rt check --only= 2>&1)
+    said=$(cd "$copy" && python3 "$top/checks/front-end.py" "$crate")
     cp "$copy/kept" "$file"
     if printf '%s\n' "$said" | grep -F "$(value error "$case")" | grep -qF "$(value names "$case")"; then
         passed=$((passed + 1))
