@@ -3,10 +3,9 @@
 ghost use Rattle.std.specs.Prelude.{◌≡◌, IfOk};
 ghost use Rattle.codegen_core.specs.Defaults as spec;
 
-use codegen_program::{DefaultSource, Fallback};
+use codegen_program::{Callable, DefaultSource, Fallback};
 use node_core::{Ident, Mem, Span, TryClone};
 use std::alloc::Global;
-use util_core::Callable;
 
 /// The value of a field, or of a whole receiver, where no item gives one.
 pub enum DefaultExpression<'a> {

@@ -4,8 +4,7 @@ ghost use Rattle.std.specs.Prelude.{◌≡◌, ◌++◌, ◌<◌, ◌^◌, lengt
 ghost use Rattle.codegen_core.specs.Compiled as spec;
 
 use crate::trait_impl::TraitImpl;
-use codegen_program::{Derive, Forward, FuncName, Stmt, Unit};
-use meta_core::PathList;
+use codegen_program::{Derive, Forward, FuncName, PathList, Stmt, Unit};
 use node_core::{Items, Mem};
 use std::alloc::Global;
 

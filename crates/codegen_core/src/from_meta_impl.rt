@@ -4,10 +4,9 @@ ghost use Rattle.std.specs.Prelude.{◌≡◌, ◌<◌, ◌^◌, length, IfOk};
 ghost use Rattle.codegen_core.specs.Compiled as spec;
 
 use crate::trait_impl::TraitImpl;
-use codegen_program::{Derive, FuncName, Stmt, Unit};
+use codegen_program::{Callable, Derive, FuncName, Stmt, Unit};
 use node_core::{Items, Mem};
 use std::alloc::Global;
-use util_core::Callable;
 
 /// A receiver that derives `FromMeta`.
 pub struct FromMetaImpl<'a> {

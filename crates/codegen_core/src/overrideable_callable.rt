@@ -3,9 +3,9 @@
 ghost use Rattle.std.specs.Prelude.{◌≡◌, IfOk};
 ghost use Rattle.codegen_core.specs.Defaults as spec;
 
+use codegen_program::Callable;
 use node_core::{Mem, Span, TryClone};
 use std::alloc::Global;
-use util_core::Callable;
 
 /// What converts an item: a callable that the options name, or the field's type.
 pub enum OverrideableCallable<'a> {

@@ -15,3 +15,4 @@ pub use forward::Forward;
 pub use init::{DefaultSource, Fallback, Init};
 pub use program::{Derive, Func, FuncName, Program, Unit};
 pub use stmt::Stmt;
+pub use util_core::{Callable, PathList};

@@ -7,7 +7,7 @@ use Rattle.tok_core.proofs.OneReading.{EndsAt-same, Spells-same}
 use Rattle.tok_core.proofs.Outcomes.{only}
 use Rattle.tok_core.specs.declared.error.LexError.{LexError}
 use Rattle.tok_core.specs.declared.error.LexError.TheVariants as lex
-use Rattle.syn_items.specs.Trees.{IsItemFront}
+use Rattle.meaning_core.specs.Trees.{IsItemFront}
 use Rattle.darling_run.specs.declared.part.Part.{Part}
 use Rattle.darling_run.specs.declared.part.Part.TheVariants as part
 use Rattle.darling_run.specs.Parts.{HasTokens, HasTokensOf, IsOf, IsPart, StopsAt, start_at}

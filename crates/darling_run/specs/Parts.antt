@@ -7,7 +7,7 @@ use Rattle.tok_types.specs.declared.tree.TokenTree.{TokenTree}
 use Rattle.tok_core.specs.Spells.{Spells}
 use Rattle.tok_core.specs.Endings.{EndsAt, IsWithin, deep, wrong}
 use Rattle.syn_grammar.specs.Input.{first_span}
-use Rattle.syn_items.specs.Trees.{IsItemFront, items_of}
+use Rattle.meaning_core.specs.Trees.{IsItemFront, items_of}
 use Rattle.darling_run.specs.declared.part.Part.{Part}
 use Rattle.darling_run.specs.declared.part.Part.TheVariants as part
 

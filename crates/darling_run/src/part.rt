@@ -3,9 +3,9 @@
 ghost use Rattle.std.specs.Prelude.{◌≡◌, ◌≤◌, length, IfOk};
 ghost use Rattle.darling_run.specs.Parts as spec;
 
+use meaning_core::{ParseFail, item_front, parse_items};
 use node_core::DeriveInput;
 use std::alloc::{AllocError, Global};
-use syn_core::{ParseFail, item_front, parse_items};
 use syn_grammar::Cursor;
 use tok_core::{LexError, MAX_LEN, lex};
 use tok_types::{Items, Mem, Span, TokenStream, TokenTree};

@@ -6,3 +6,4 @@ pub mod Fields
 pub mod Items
 pub mod Rows
 pub mod Wholes
+pub use Rattle.law_places.proofs.Steps

@@ -1,1 +1,2 @@
 pub mod Showing
+pub use Rattle.util_core.proofs.MapLemmas

@@ -11,13 +11,13 @@ use Rattle.node_expr.specs.declared.lit.Lit.{Lit}
 use Rattle.node_expr.specs.declared.lit.Lit.TheVariants as lit
 use Rattle.node_span.specs.Spanned.{expr_span, lit_span, meta_span}
 use Rattle.error_fault.specs.Outcome.{Outcome, Value, Faults, bind, on_value, with_span}
-use Rattle.meta_nested.specs.Nodes.{nested_span}
-use Rattle.meta_nested.specs.declared.nested.MetaNameValueInvalidExpr.{MetaNameValueInvalidExpr}
-use Rattle.meta_nested.specs.declared.nested.NestedMeta.{NestedMeta}
-use Rattle.meta_nested.specs.declared.nested.NestedMeta.TheVariants as nested
-use Rattle.meta_cells.specs.Cells.{Cells}
-use Rattle.meta_cells.specs.Dispatch as read
-use Rattle.meta_cells.specs.Groups.{without_groups}
+use Rattle.util_core.specs.Nodes.{nested_span}
+use Rattle.util_core.specs.MetaNameValueInvalidExpr.{MetaNameValueInvalidExpr}
+use Rattle.util_core.specs.NestedMeta.{NestedMeta}
+use Rattle.util_core.specs.NestedMeta.TheVariants as nested
+use Rattle.util_core.specs.Cells.{Cells}
+use Rattle.util_core.specs.Dispatch as read
+use Rattle.util_core.specs.Groups.{without_groups}
 use Rattle.machine_cells.specs.Shown.{shown, shown_cells}
 use Rattle.machine_cells.specs.Laws.{Shows}
 

@@ -6,10 +6,10 @@ use Rattle.node_core.specs.declared.attr.Meta.{Meta}
 use Rattle.node_expr.specs.declared.expr.Expr.{Expr}
 use Rattle.node_expr.specs.declared.lit.Lit.{Lit}
 use Rattle.error_fault.specs.Outcome.{on_value}
-use Rattle.meta_nested.specs.declared.nested.MetaNameValueInvalidExpr.{MetaNameValueInvalidExpr}
-use Rattle.meta_nested.specs.declared.nested.NestedMeta.{NestedMeta}
-use Rattle.meta_cells.specs.Cells.{Cells}
-use Rattle.meta_cells.specs.Dispatch as read
+use Rattle.util_core.specs.MetaNameValueInvalidExpr.{MetaNameValueInvalidExpr}
+use Rattle.util_core.specs.NestedMeta.{NestedMeta}
+use Rattle.util_core.specs.Cells.{Cells}
+use Rattle.util_core.specs.Dispatch as read
 use Rattle.machine_cells.specs.Shown.{shown_cells}
 
 -- at each of the calls

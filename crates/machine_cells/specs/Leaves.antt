@@ -15,14 +15,14 @@ use Rattle.print_core.specs.Nodes.{expr_tokens, expr_path_tokens, path_tokens, t
 use Rattle.print_core.specs.Types.{never_rule, type_infer_rule}
 use Rattle.print_core.specs.declared.path.PathStyle.TheVariants.{Plain}
 use Rattle.error_fault.specs.Outcome.{Value}
-use Rattle.meta_cells.specs.Cells.{Cells, no_cells}
-use Rattle.meta_kinds.specs.Exprs.{ident_cells, path_cells, expr_cells, type_path_cells}
-use Rattle.meta_kinds.specs.Syntax.{where_predicates_cells}
-use Rattle.meta_core.specs.Keys.{ident_same, path_same}
-use Rattle.meta_core.specs.Lists.{ident_item, integers_cells, literals_cells, path_item}
-use Rattle.meta_core.specs.Lists as lists
-use Rattle.meta_core.specs.PathLists.{path_list_cells}
-use Rattle.meta_core.specs.Rows as row
+use Rattle.util_core.specs.Cells.{Cells, no_cells}
+use Rattle.util_core.specs.KindsExprs.{ident_cells, path_cells, expr_cells, type_path_cells}
+use Rattle.util_core.specs.Syntax.{where_predicates_cells}
+use Rattle.util_core.specs.Keys.{ident_same, path_same}
+use Rattle.util_core.specs.Lists.{ident_item, integers_cells, literals_cells, path_item}
+use Rattle.util_core.specs.Lists as lists
+use Rattle.util_core.specs.PathLists.{path_list_cells}
+use Rattle.util_core.specs.Rows as row
 use Rattle.util_core.specs.Callable.{callable_cells}
 use Rattle.util_core.specs.Exprs.{preserved_cells}
 use Rattle.util_core.specs.Flag.{flag_cells}

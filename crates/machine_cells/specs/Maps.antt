@@ -6,10 +6,10 @@ use Rattle.tok_types.specs.declared.span.Span.{Span}
 use Rattle.tok_types.specs.declared.tree.TokenTree.{TokenTree}
 use Rattle.node_expr.specs.declared.path.Path.{Path}
 use Rattle.error_fault.specs.Outcome.{Outcome, Value, on_value, settle, value_of}
-use Rattle.meta_nested.specs.declared.nested.NestedMeta.{NestedMeta}
-use Rattle.meta_cells.specs.Cells.{Cells, no_cells}
-use Rattle.meta_core.specs.Maps.{read_entries}
-use Rattle.meta_core.specs.Sets.{set_faults}
+use Rattle.util_core.specs.NestedMeta.{NestedMeta}
+use Rattle.util_core.specs.Cells.{Cells, no_cells}
+use Rattle.util_core.specs.Maps.{read_entries}
+use Rattle.util_core.specs.Sets.{set_faults}
 use Rattle.machine_value.specs.declared.value.Value.{Value as Datum}
 use Rattle.machine_value.specs.declared.value.Value.TheVariants as value
 use Rattle.machine_cells.specs.Texts.{by_text}

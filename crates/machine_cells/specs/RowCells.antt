@@ -1,9 +1,9 @@
 -- The cells of a type, by its row.
 use Rattle.std.specs.Prelude.{ℕ}
 use Rattle.node_expr.specs.declared.ty.«Type».{«Type» as Type'}
-use Rattle.meta_cells.specs.Cells.{Cells, no_cells}
-use Rattle.meta_core.specs.Rows.{unit_cells}
-use Rattle.meta_core.specs.Wrappers.{box_cells}
+use Rattle.util_core.specs.Cells.{Cells, no_cells}
+use Rattle.util_core.specs.Rows.{unit_cells}
+use Rattle.util_core.specs.Wrappers.{box_cells}
 use Rattle.machine_rows.specs.declared.row.Row.{Row}
 use Rattle.machine_rows.specs.declared.row.Row.TheFolds.{fold-Row}
 use Rattle.machine_rows.specs.declared.row.Row.TheOpen.{Row-F}

@@ -1,7 +1,7 @@
 -- The cells of a type, where each value is shown as another.
 use Rattle.std.specs.Prelude.{Option, option_map}
 use Rattle.error_fault.specs.Outcome.{Outcome, on_value}
-use Rattle.meta_cells.specs.Cells.{Cells}
+use Rattle.util_core.specs.Cells.{Cells}
 
 module _ {A B : Type 0} (show : A → B) where
   -- a cell

@@ -4,7 +4,7 @@ use Rattle.std.specs.List.{fold}
 use Rattle.std.specs.declared.cmp.Ordering.{Ordering}
 use Rattle.std.specs.declared.cmp.Ordering.TheVariants.{Less, Equal, Greater}
 use Rattle.base_core.specs.declared.text.Text.{Text}
-use Rattle.meta_core.specs.Maps.{text_order}
+use Rattle.util_core.specs.Maps.{text_order}
 
 module _ {A : Type 0} where
   -- an entry in front of another, where its text is less, or else behind it

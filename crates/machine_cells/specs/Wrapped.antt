@@ -7,11 +7,11 @@ use Rattle.node_core.specs.declared.attr.Meta.{Meta}
 use Rattle.node_core.specs.declared.attr.Meta.TheVariants as meta
 use Rattle.node_span.specs.Spanned.{expr_span, lit_span, path_span, stream_span}
 use Rattle.error_fault.specs.Outcome.{Outcome, Value, on_value}
-use Rattle.meta_nested.specs.Nodes.{nested_span}
-use Rattle.meta_cells.specs.Cells.{Cells, no_cells}
-use Rattle.meta_cells.specs.Dispatch.{from_expr, from_meta, from_nested_meta, from_value}
-use Rattle.meta_core.specs.Keys.{ident_key, ident_same, path_same, text_key}
-use Rattle.meta_core.specs.Wrappers.{option_cells, result_cells, result_meta_cells}
+use Rattle.util_core.specs.Nodes.{nested_span}
+use Rattle.util_core.specs.Cells.{Cells, no_cells}
+use Rattle.util_core.specs.Dispatch.{from_expr, from_meta, from_nested_meta, from_value}
+use Rattle.util_core.specs.Keys.{ident_key, ident_same, path_same, text_key}
+use Rattle.util_core.specs.Wrappers.{option_cells, result_cells, result_meta_cells}
 use Rattle.util_core.specs.Override.{override_cells}
 use Rattle.std.specs.Str.{bytes_eq}
 use Rattle.machine_rows.specs.declared.wrapper.HashKey.{HashKey}

@@ -3,7 +3,7 @@
 ghost use Rattle.machine_cells.specs.Laws.{Shows};
 ghost use Rattle.machine_value.specs.declared.value.Value.{Value as Datum};
 
-use meta_core::FromMeta;
+use util_core::FromMeta;
 
 /// By cells whose values are shown each call reads what it reads by the type's own, shown.
 pub fn shown_values_are_read_alike<T: FromMeta>()

@@ -4,24 +4,24 @@ pub use Rattle.machine_fit.specs.Callables
 pub use Rattle.machine_fit.specs.Fits
 pub use Rattle.machine_fit.specs.Types
 pub use Rattle.machine_fit.specs.Unfitness
-pub use Rattle.machine_forms.specs.Answer
-pub use Rattle.machine_forms.specs.Asks
-pub use Rattle.machine_forms.specs.Forms
-pub use Rattle.machine_forms.specs.Names
-pub use Rattle.machine_forms.specs.Units
-pub use Rattle.machine_host.specs.HostSays
-pub use Rattle.machine_host.specs.Lawful
-pub use Rattle.machine_host.specs.Seen
+pub use Rattle.machine_fit.specs.Answer
+pub use Rattle.machine_fit.specs.Asks
+pub use Rattle.machine_fit.specs.Forms
+pub use Rattle.machine_fit.specs.Names
+pub use Rattle.machine_fit.specs.Units
+pub use Rattle.machine_std.specs.HostSays
+pub use Rattle.machine_std.specs.Lawful
+pub use Rattle.machine_std.specs.Seen
 pub use Rattle.machine_std.specs.StdLaws
 pub use Rattle.machine_std.specs.StdSays
-pub use Rattle.machine_steps.specs.Attributes
-pub use Rattle.machine_steps.specs.Below
-pub use Rattle.machine_steps.specs.Convert
-pub use Rattle.machine_steps.specs.Machine
-pub use Rattle.machine_steps.specs.Names as ItemNames
-pub use Rattle.machine_steps.specs.Progress
-pub use Rattle.machine_steps.specs.Reading
-pub use Rattle.machine_steps.specs.Setting
-pub use Rattle.machine_steps.specs.Slots
-pub use Rattle.machine_steps.specs.State
-pub use Rattle.machine_steps.specs.Statements
+pub use Rattle.machine_fit.specs.Attributes
+pub use Rattle.machine_fit.specs.Below
+pub use Rattle.machine_fit.specs.Convert
+pub use Rattle.machine_fit.specs.Machine
+pub use Rattle.machine_fit.specs.StepsNames as ItemNames
+pub use Rattle.machine_fit.specs.Progress
+pub use Rattle.machine_fit.specs.Reading
+pub use Rattle.machine_fit.specs.Setting
+pub use Rattle.machine_fit.specs.StepsSlots as Slots
+pub use Rattle.machine_fit.specs.State
+pub use Rattle.machine_fit.specs.Statements

@@ -11,12 +11,11 @@ pub use codegen_program::{
 };
 pub use machine_execute::{Element, MAX_DEPTH, Outcome, execute, try_execute};
 pub use machine_fit::{Form, Unfit, fit};
-pub use machine_host::{
-    Arg, Callable, Host, HostItem, Place, RefusingHost, Said, Use, what_fits_a_type,
+pub use machine_std::{
+    Arg, Callable, Host, HostItem, NestedMeta, Place, RefusingHost, Said, StdHost, Use,
+    what_fits_a_type,
 };
-pub use machine_std::StdHost;
 pub use machine_value::{
     Boxed, Fault, Items, Mem, Span, Style, Text, TokenStream, TryClone, Value,
 };
-pub use meta_nested::NestedMeta;
 pub use node_core::{DeriveInput, Type};

@@ -5,9 +5,9 @@ use Rattle.error_fault.specs.Outcome.{Outcome, on_value}
 use Rattle.machine_value.specs.declared.value.Value.{Value as Datum}
 use Rattle.machine_value.specs.Members.{labelled}
 use Rattle.codegen_program.specs.declared.init.Init.{Init}
-use Rattle.machine_steps.specs.Setting.{Setting}
-use Rattle.machine_steps.specs.Slots.{init_values}
-use Rattle.machine_steps.specs.State.{Slot}
+use Rattle.machine_read.specs.Setting.{Setting}
+use Rattle.machine_read.specs.Slots.{init_values}
+use Rattle.machine_read.specs.State.{Slot}
 
 -- the members, and then those of the values behind
 abbrev pub behind : Setting → Datum → List Slot → List (Text × Datum) → List Init → Option (Outcome (List (Text × Datum)))

@@ -4,11 +4,11 @@ use Rattle.std.specs.Prelude.{slice_get}
 use Rattle.std.specs.Result.{OnOk}
 use Rattle.std.proofs.lemmas.List.{map-set}
 use Rattle.std.proofs.lemmas.Result.{on_ok_weaker}
-use Rattle.meta_nested.specs.declared.nested.NestedMeta.{NestedMeta}
+use Rattle.machine_read.specs.NestedMeta.{NestedMeta}
 use Rattle.error_fault.specs.declared.fault.Fault.{Fault}
-use Rattle.machine_host.specs.Made.{named_type}
+use Rattle.machine_read.specs.Made.{named_type}
 use Rattle.machine_value.specs.declared.value.Value.{Value as Datum}
-use Rattle.machine_steps.specs.State.{Slot, Several, State, put, slot_at}
+use Rattle.machine_read.specs.State.{Slot, Several, State, put, slot_at}
 use Rattle.machine_execute.specs.declared.slot.Slot.{Slot as Held}
 use Rattle.machine_execute.specs.Seen.{Change, slot_of}
 

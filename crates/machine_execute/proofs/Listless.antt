@@ -6,9 +6,9 @@ use Rattle.error_core.specs.declared.fail.Fail.TheVariants as fails
 use Rattle.error_fault.specs.declared.fault.Fault.{Fault}
 use Rattle.error_fault.specs.declared.kind.FaultKind.TheVariants.{Custom}
 use Rattle.error_fault.specs.Outcome.{Outcome, Value, faults_of, refused}
-use Rattle.meta_nested.specs.declared.nested.NestedMeta.{NestedMeta}
-use Rattle.machine_steps.specs.Progress.{Progress}
-use Rattle.machine_steps.specs.Statements.{on_items, refuse}
+use Rattle.machine_read.specs.NestedMeta.{NestedMeta}
+use Rattle.machine_read.specs.Progress.{Progress}
+use Rattle.machine_read.specs.Statements.{on_items, refuse}
 
 not_both : {B : Type 0} (faults : List Fault) (fault : Fault) → faults ≡ [] → faults ≡ fault ∷ [] → B
 not_both faults fault none one = cc

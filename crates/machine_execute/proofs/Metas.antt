@@ -5,16 +5,16 @@ use Rattle.error_core.specs.Answers.{Answers, Fails}
 use Rattle.error_core.specs.declared.fail.Fail.{Fail}
 use Rattle.error_fault.specs.declared.fault.Fault.{Fault}
 use Rattle.error_fault.specs.Outcome.{Outcome, Value}
-use Rattle.meta_cells.specs.Dispatch.{items_of}
-use Rattle.meta_nested.specs.declared.nested.NestedMeta.{NestedMeta}
+use Rattle.machine_read.specs.Dispatch.{items_of}
+use Rattle.machine_read.specs.NestedMeta.{NestedMeta}
 use Rattle.node_core.specs.declared.attr.Meta.{Meta}
 use Rattle.node_core.specs.declared.attr.Meta.TheVariants as meta
 use Rattle.node_core.specs.declared.attr.MetaList.{MetaList}
 use Rattle.node_core.specs.declared.attr.MetaNameValue.{MetaNameValue}
-use Rattle.machine_steps.specs.Attributes.{name_value_fault}
-use Rattle.machine_steps.specs.Progress.{Progress}
-use Rattle.machine_steps.specs.State.{State}
-use Rattle.machine_steps.specs.Statements.{on_items, on_meta, refuse}
+use Rattle.machine_read.specs.Attributes.{name_value_fault}
+use Rattle.machine_read.specs.Progress.{Progress}
+use Rattle.machine_read.specs.State.{State}
+use Rattle.machine_read.specs.Statements.{on_items, on_meta, refuse}
 use Rattle.machine_execute.specs.declared.progress.Progress.{Progress as Come}
 use Rattle.machine_execute.specs.Seen.{progress_of}
 use Rattle.machine_execute.proofs.Steps.{ok_same}

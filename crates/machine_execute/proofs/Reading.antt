@@ -9,19 +9,19 @@ use Rattle.error_core.specs.Answers.{Answers}
 use Rattle.error_core.specs.ErrorView.{ErrorView}
 use Rattle.error_core.specs.declared.fail.Fail.{Fail}
 use Rattle.error_fault.specs.Outcome.{Outcome, with_siblings}
-use Rattle.meta_nested.specs.declared.nested.NestedMeta.{NestedMeta}
+use Rattle.machine_read.specs.NestedMeta.{NestedMeta}
 use Rattle.machine_value.specs.declared.value.Value.{Value as Datum}
 use Rattle.codegen_program.specs.declared.program.FuncName.{FuncName}
 use Rattle.codegen_program.specs.declared.program.«Unit».{«Unit» as Unit'}
 use Rattle.codegen_program.specs.declared.stmt.Stmt.{Stmt}
-use Rattle.machine_steps.specs.Setting.{Setting}
-use Rattle.machine_steps.specs.Convert.{Earlier, list}
-use Rattle.machine_steps.specs.Machine.{run_func, stmts_named, unit_type}
-use Rattle.machine_steps.specs.Progress.{Given, outcome}
-use Rattle.machine_steps.specs.Slots.{read_flat, read_slot}
-use Rattle.machine_steps.specs.State.{Slot, State, put}
-use Rattle.machine_steps.specs.Slots.{slot_type}
-use Rattle.machine_steps.specs.Statements.{run}
+use Rattle.machine_read.specs.Setting.{Setting}
+use Rattle.machine_read.specs.Convert.{Earlier, list}
+use Rattle.machine_read.specs.Machine.{run_func, stmts_named, unit_type}
+use Rattle.machine_read.specs.Progress.{Given, outcome}
+use Rattle.machine_read.specs.Slots.{read_flat, read_slot}
+use Rattle.machine_read.specs.State.{Slot, State, put}
+use Rattle.machine_read.specs.Slots.{slot_type}
+use Rattle.machine_read.specs.Statements.{run}
 use Rattle.machine_execute.specs.Seen.{Change, answered}
 use Rattle.machine_execute.proofs.Steps.{ok_same}
 

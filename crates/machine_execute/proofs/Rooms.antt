@@ -4,13 +4,13 @@ use Rattle.std.proofs.lemmas.Bool.{eqb-false}
 use Rattle.error_core.specs.Answers.{Answers}
 use Rattle.error_core.specs.declared.fail.Fail.{Fail}
 use Rattle.error_fault.specs.Outcome.{Outcome}
-use Rattle.meta_nested.specs.declared.nested.NestedMeta.{NestedMeta}
+use Rattle.machine_read.specs.NestedMeta.{NestedMeta}
 use Rattle.machine_value.specs.declared.value.Value.{Value as Datum}
 use Rattle.codegen_program.specs.declared.program.«Unit».{«Unit» as Unit'}
-use Rattle.machine_steps.specs.Setting.{Setting}
-use Rattle.machine_steps.specs.Convert.{Earlier}
-use Rattle.machine_steps.specs.Below.{below, unread}
-use Rattle.machine_steps.specs.Machine.{earlier_units, meta_unit, read_list}
+use Rattle.machine_read.specs.Setting.{Setting}
+use Rattle.machine_read.specs.Convert.{Earlier}
+use Rattle.machine_read.specs.Below.{below, unread}
+use Rattle.machine_read.specs.Machine.{earlier_units, meta_unit, read_list}
 
 module _ (body : Earlier → ℕ → List NestedMeta → Outcome Datum) (items : List NestedMeta) where
   at_bound : (bound number : ℕ) (b : Bool) → nat_eq number bound ≡ b → below body (suc bound) number items ≡ cond b (body (below body bound) bound items) (below body bound number items)

@@ -3,11 +3,11 @@ use Rattle.std.proofs.Common.{◌≡◌, Result, Ok, Err, IfOk, ap, sym, ◌∙�
 use Rattle.std.specs.declared.alloc.AllocError.{AllocError}
 use Rattle.node_expr.specs.declared.ty.«Type».{«Type» as Type'}
 use Rattle.codegen_program.specs.declared.stmt.Stmt.{Stmt}
-use Rattle.machine_steps.specs.Setting.{Setting}
-use Rattle.machine_steps.specs.Convert.{Earlier}
-use Rattle.machine_steps.specs.Progress.{Given, Progress}
-use Rattle.machine_steps.specs.State.{State}
-use Rattle.machine_steps.specs.Statements.{Doing, does}
+use Rattle.machine_read.specs.Setting.{Setting}
+use Rattle.machine_read.specs.Convert.{Earlier}
+use Rattle.machine_read.specs.Progress.{Given, Progress}
+use Rattle.machine_read.specs.State.{State}
+use Rattle.machine_read.specs.Statements.{Doing, does}
 use Rattle.machine_execute.specs.declared.progress.Progress.{Progress as Come}
 use Rattle.machine_execute.specs.Seen.{progress_of}
 

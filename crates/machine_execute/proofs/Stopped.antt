@@ -1,7 +1,7 @@
 -- What a run that is over becomes.
 use Rattle.std.proofs.Common.{◌≡◌, ap}
-use Rattle.machine_steps.specs.Progress.{Progress, going}
-use Rattle.machine_steps.specs.State.{State}
+use Rattle.machine_read.specs.Progress.{Progress, going}
+use Rattle.machine_read.specs.State.{State}
 use Rattle.machine_execute.specs.declared.progress.Progress.{Progress as Come}
 use Rattle.machine_execute.specs.declared.progress.Progress.TheVariants as come
 use Rattle.machine_execute.specs.Seen.{IsStopped, progress_of}

@@ -1,15 +1,15 @@
 -- The machine on an element of a unit's kind.
 use Rattle.std.specs.Prelude.{ℕ, ◌≡◌, Option, Some, None, option_and_then, slice_get, if◌then◌else◌}
 use Rattle.node_core.specs.declared.derive.DeriveInput.{DeriveInput}
-use Rattle.meta_nested.specs.declared.nested.NestedMeta.{NestedMeta}
-use Rattle.meta_cells.specs.Cells.{Cells, no_cells}
-use Rattle.meta_cells.specs.Dispatch.{by_nested_meta}
+use Rattle.machine_read.specs.NestedMeta.{NestedMeta}
+use Rattle.machine_read.specs.Cells.{Cells, no_cells}
+use Rattle.machine_read.specs.Dispatch.{by_nested_meta}
 use Rattle.error_fault.specs.Outcome.{Outcome}
-use Rattle.machine_host.specs.HostSays.{HostSays}
+use Rattle.machine_read.specs.HostSays.{HostSays}
 use Rattle.machine_value.specs.declared.value.Value.{Value as Datum}
 use Rattle.codegen_program.specs.declared.program.Program.{Program}
 use Rattle.codegen_program.specs.declared.program.«Unit».{«Unit» as Unit'}
-use Rattle.machine_steps.specs.Machine.{earlier_units, is_from_meta, machine, read_list, setting_of}
+use Rattle.machine_read.specs.Machine.{earlier_units, is_from_meta, machine, read_list, setting_of}
 use Rattle.machine_execute.specs.declared.element.Element.{Element}
 use Rattle.machine_execute.specs.declared.element.Element.TheVariants as element
 

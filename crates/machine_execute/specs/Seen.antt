@@ -14,8 +14,8 @@ use Rattle.machine_execute.specs.declared.given.Given.{Given as On}
 use Rattle.machine_execute.specs.declared.given.Given.TheVariants as on
 use Rattle.machine_execute.specs.declared.progress.Progress.{Progress as Come}
 use Rattle.machine_execute.specs.declared.progress.Progress.TheVariants as come
-use Rattle.machine_steps.specs.State.{Slot, One, Several, State}
-use Rattle.machine_steps.specs.Progress.{Given, Items, Input, Progress, Going, Built, Ended, Stuck}
+use Rattle.machine_read.specs.State.{Slot, One, Several, State}
+use Rattle.machine_read.specs.Progress.{Given, Items, Input, Progress, Going, Built, Ended, Stuck}
 
 abbrev pub slot_of : Held → Slot
 slot_of (held.One ty seen value) = One ty.now seen value

@@ -4,13 +4,13 @@ use Rattle.std.proofs.Math.Nat.{le_trans}
 use denote.Ref.{Bor}
 use Rattle.error_core.specs.Answers.{Answers}
 use Rattle.error_core.specs.declared.fail.Fail.{Fail}
-use Rattle.meta_nested.specs.declared.nested.NestedMeta.{NestedMeta}
+use Rattle.machine_read.specs.NestedMeta.{NestedMeta}
 use Rattle.machine_value.specs.declared.value.Value.{Value as Datum}
 use Rattle.codegen_program.specs.declared.program.FuncName.{FuncName}
 use Rattle.codegen_program.specs.declared.program.FuncName.TheVariants as func
 use Rattle.codegen_program.specs.declared.program.«Unit».{«Unit» as Unit'}
-use Rattle.machine_steps.specs.Setting.{Setting}
-use Rattle.machine_steps.specs.Machine.{earlier_units, is_from_derive_input, is_from_list, meta_unit, read_list}
+use Rattle.machine_read.specs.Setting.{Setting}
+use Rattle.machine_read.specs.Machine.{earlier_units, is_from_derive_input, is_from_list, meta_unit, read_list}
 
 -- the reader may be asked for each number below the bound, no deeper than `room`, and reads it as its unit says
 pub record ReadsUnits (setting : Setting) (units : List Unit') (bound room : ℕ)

@@ -1,8 +1,8 @@
 //! The attributes that are read.
 
 ghost use Rattle.std.specs.Prelude.{◌≡◌, IfOk};
-ghost use Rattle.machine_steps.specs.Attributes as spec;
-ghost use Rattle.machine_steps.specs.Names.{meta_name};
+ghost use Rattle.machine_read.specs.Attributes as spec;
+ghost use Rattle.machine_read.specs.Names.{meta_name};
 
 use base_core::{Mem, Text};
 use error_fault::Fault;

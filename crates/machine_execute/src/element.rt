@@ -1,6 +1,6 @@
 //! What a unit is run on.
 
-use meta_nested::NestedMeta;
+use machine_read::NestedMeta;
 use node_core::DeriveInput;
 
 /// What a unit is run on: an element of its derive's kind.

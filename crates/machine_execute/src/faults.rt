@@ -6,9 +6,9 @@ ghost use Rattle.error_core.specs.Answers.{Answers, Fails};
 ghost use Rattle.error_core.specs.ErrorView.{leaves};
 ghost use Rattle.error_fault.specs.Faults.{at};
 ghost use Rattle.error_fault.specs.Outcome.{Outcome, faults_of};
-ghost use Rattle.machine_steps.specs.Statements.{placed};
+ghost use Rattle.machine_read.specs.Statements.{placed};
 ghost use Rattle.machine_value.specs.declared.value.Value.{Value as Datum};
-ghost use Rattle.meta_nested.specs.declared.nested.NestedMeta.{NestedMeta as NestedSeen};
+ghost use Rattle.machine_read.specs.NestedMeta.{NestedMeta as NestedSeen};
 ghost use Rattle.machine_execute.specs.Seen.{answered};
 
 use base_core::{Items, Mem, Text};

@@ -4,9 +4,9 @@ ghost use Rattle.std.specs.Prelude.{◌≡◌, [], IfOk, List};
 ghost use Rattle.std.specs.Option.{option_copied};
 ghost use Rattle.error_core.specs.Answers.{Fails};
 ghost use Rattle.error_fault.specs.Outcome.{Outcome};
-ghost use Rattle.meta_nested.specs.declared.nested.NestedMeta.{NestedMeta as NestedSeen};
-ghost use Rattle.machine_steps.specs.Progress.{Going, Progress as Come, going, unless_faults};
-ghost use Rattle.machine_steps.specs.Statements.{on_items, placed, refuse as refused, with_slot};
+ghost use Rattle.machine_read.specs.NestedMeta.{NestedMeta as NestedSeen};
+ghost use Rattle.machine_read.specs.Progress.{Going, Progress as Come, going, unless_faults};
+ghost use Rattle.machine_read.specs.Statements.{on_items, placed, refuse as refused, with_slot};
 ghost use Rattle.machine_execute.specs.Seen.{progress_of, slot_of, state_of};
 
 use crate::faults::{error_of, faults_in};

@@ -1,10 +1,10 @@
 //! What a function of a unit is run on.
 
 ghost use Rattle.std.specs.Prelude.{◌≡◌};
-ghost use Rattle.machine_steps.specs.Progress.{attributes_given, items_given};
+ghost use Rattle.machine_read.specs.Progress.{attributes_given, items_given};
 ghost use Rattle.machine_execute.specs.Seen.{given_of};
 
-use meta_nested::NestedMeta;
+use machine_read::NestedMeta;
 use node_core::{Attribute, DeriveInput};
 
 /// What a function of a unit is run on.

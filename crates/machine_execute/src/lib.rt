@@ -24,6 +24,6 @@ mod units;
 pub use codegen_program::{Program, Stmt, Unit};
 pub use element::Element;
 pub use machine::{MAX_DEPTH, execute, try_execute};
-pub use machine_host::Host;
+pub use machine_read::Host;
 pub use machine_value::Value;
 pub use outcome::Outcome;

@@ -4,8 +4,8 @@ ghost use Rattle.std.specs.Prelude.{◌≡◌, IfOk, Some};
 ghost use Rattle.error_core.specs.Answers.{Answers};
 ghost use Rattle.error_fault.specs.Outcome.{Outcome as OutcomeSeen};
 ghost use Rattle.machine_value.specs.declared.value.Value.{Value as Datum};
-ghost use Rattle.machine_steps.specs.Machine as spec;
-ghost use Rattle.meta_cells.specs.Dispatch.{by_nested_meta};
+ghost use Rattle.machine_read.specs.Machine as spec;
+ghost use Rattle.machine_read.specs.Dispatch.{by_nested_meta};
 ghost use Rattle.machine_execute.specs.Elements.{HasOutcome, OnNested, element_of, machine_on, unit_cells, unit_on};
 
 use crate::element::Element;
@@ -16,11 +16,8 @@ use crate::units::{Context, Earlier, is_from_meta, read_declared, read_list, run
 use base_core::Mem;
 use codegen_program::{FuncName, Program, Unit};
 use error_core::Result;
-use machine_host::{Host, named_type};
-use machine_read::{Declared, Reader};
+use machine_read::{Call, Declared, Host, NestedMeta, Reader, named_type};
 use machine_value::Value;
-use meta_cells::Call;
-use meta_nested::NestedMeta;
 use node_core::DeriveInput;
 use std::alloc::{AllocError, Global};
 
@@ -164,8 +161,8 @@ struct UnitReader<'c, H, D> {
 
 impl<H: Host, D: Declared> Reader for UnitReader<'_, H, D> {
     ghost use Rattle.std.specs.Prelude.{Some};
-    ghost use Rattle.meta_cells.specs.Cells.{no_cells};
-    ghost use Rattle.machine_steps.specs.Machine.{read_list, setting_of};
+    ghost use Rattle.machine_read.specs.Cells.{no_cells};
+    ghost use Rattle.machine_read.specs.Machine.{read_list, setting_of};
 
     ghost cells = { λ it. record no_cells { list = λ items. Some (read_list (setting_of (H.says it.context.now.host.now) it.context.now.program.now) (D.earlier it.earlier.now) (Some it.unit.now) items) } };
 

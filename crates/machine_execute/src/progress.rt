@@ -1,7 +1,7 @@
 //! How far a run has come.
 
 ghost use Rattle.std.specs.Prelude.{◌≡◌, MatchOption, option_map};
-ghost use Rattle.machine_steps.specs.Progress.{outcome};
+ghost use Rattle.machine_read.specs.Progress.{outcome};
 ghost use Rattle.machine_execute.specs.Seen.{IsBuilt, IsStopped, StateSeen, answered, progress_of};
 
 use error_core::Error;

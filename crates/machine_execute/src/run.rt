@@ -1,10 +1,10 @@
 //! A run of the statements of a function.
 
 ghost use Rattle.std.specs.Prelude.{◌≡◌, [], IfOk, fold, map};
-ghost use Rattle.machine_host.specs.Made.{named_type};
+ghost use Rattle.machine_read.specs.Made.{named_type};
 ghost use Rattle.machine_read.specs.Scopes.{seen_setting};
-ghost use Rattle.machine_steps.specs.Progress.{Items as ListGiven};
-ghost use Rattle.machine_steps.specs.Statements as spec;
+ghost use Rattle.machine_read.specs.Progress.{Items as ListGiven};
+ghost use Rattle.machine_read.specs.Statements as spec;
 ghost use Rattle.machine_execute.specs.Seen.{given_of, progress_of, state_of};
 
 use crate::attributes::{is_named, name_value_fault};
@@ -15,10 +15,7 @@ use crate::slot::Slot;
 use crate::state::State;
 use base_core::{Items, Mem, Text};
 use codegen_program::Stmt;
-use machine_host::Host;
-use machine_read::{Declared, Scope, Setting};
-use meta_cells::items_of;
-use meta_nested::NestedMeta;
+use machine_read::{Declared, Host, NestedMeta, Scope, Setting, items_of};
 use node_core::{Attribute, Meta};
 use node_expr::Type;
 use std::alloc::AllocError;

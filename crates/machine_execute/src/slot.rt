@@ -1,7 +1,7 @@
 //! Slots: what items have given a field.
 
 ghost use Rattle.std.specs.Prelude.{◌≡◌};
-ghost use Rattle.machine_steps.specs.Slots.{slot_type};
+ghost use Rattle.machine_read.specs.Slots.{slot_type};
 ghost use Rattle.machine_execute.specs.Seen.{slot_by, slot_of};
 
 use base_core::Items;

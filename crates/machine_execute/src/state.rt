@@ -1,16 +1,16 @@
 //! The state of a run.
 
 ghost use Rattle.std.specs.Prelude.{◌≡◌, [], OnOk, map, slice_set};
-ghost use Rattle.machine_host.specs.Made.{named_type};
-ghost use Rattle.machine_steps.specs.Progress.{start};
-ghost use Rattle.machine_steps.specs.State.{put, slot_at};
+ghost use Rattle.machine_read.specs.Made.{named_type};
+ghost use Rattle.machine_read.specs.Progress.{start};
+ghost use Rattle.machine_read.specs.State.{put, slot_at};
 ghost use Rattle.machine_execute.specs.Seen.{Change, slot_of, state_of};
 
 use crate::slot::Slot;
 use base_core::{Items, Mem, Text};
 use error_fault::Fault;
+use machine_read::NestedMeta;
 use machine_value::Value;
-use meta_nested::NestedMeta;
 use node_expr::Type;
 use std::alloc::Global;
 

@@ -3,11 +3,11 @@
 ghost use Rattle.std.specs.Prelude.{◌≡◌, [], IfOk, Some, option_map};
 ghost use Rattle.std.specs.Option.{option_copied};
 ghost use Rattle.error_core.specs.Answers.{Answers};
-ghost use Rattle.machine_host.specs.Made.{named_type as type_named};
-ghost use Rattle.machine_steps.specs.Below.{unread as unread_outcome};
-ghost use Rattle.machine_steps.specs.Machine as spec;
-ghost use Rattle.machine_steps.specs.Progress.{outcome};
-ghost use Rattle.machine_steps.specs.Statements.{run as run_of};
+ghost use Rattle.machine_read.specs.Made.{named_type as type_named};
+ghost use Rattle.machine_read.specs.Below.{unread as unread_outcome};
+ghost use Rattle.machine_read.specs.Machine as spec;
+ghost use Rattle.machine_read.specs.Progress.{outcome};
+ghost use Rattle.machine_read.specs.Statements.{run as run_of};
 ghost use Rattle.machine_execute.specs.Seen.{answered, given_of};
 ghost use Rattle.machine_execute.specs.Units.{is_such};
 
@@ -18,10 +18,8 @@ use crate::state::State;
 use base_core::Mem;
 use codegen_program::{Derive, Func, FuncName, Program, Stmt, Unit};
 use error_core::{Error, Fail, Result};
-use machine_host::{Host, named_type};
-use machine_read::{Declared, Scope, Setting};
+use machine_read::{Declared, Host, NestedMeta, Scope, Setting, named_type};
 use machine_value::Value;
-use meta_nested::NestedMeta;
 use node_expr::Type;
 use std::alloc::Global;
 use std::result;
@@ -51,8 +49,8 @@ where
     F: Fn(&Context<'_, H>, usize, usize, &[NestedMeta]) -> Result<Value>,
 {
     ghost use Rattle.std.specs.Prelude.{ℕ, ◌≤◌};
-    ghost use Rattle.machine_steps.specs.Convert.{Earlier as EarlierSeen};
-    ghost use Rattle.machine_steps.specs.Machine.{earlier_units, setting_of};
+    ghost use Rattle.machine_read.specs.Convert.{Earlier as EarlierSeen};
+    ghost use Rattle.machine_read.specs.Machine.{earlier_units, setting_of};
     ghost use Rattle.machine_execute.specs.Units.{ReadsUnits, reads-less};
 
     ghost earlier = { λ it. earlier_units (setting_of (H.says it.context.now.host.now) it.context.now.program.now) it.context.now.program.now.units it.bound };

@@ -5,21 +5,21 @@ use Rattle.node_expr.specs.declared.ty.«Type».{«Type» as Type'}
 use Rattle.node_span.specs.Spanned.{expr_span, path_span}
 use Rattle.node_core.specs.declared.data.Field.{Field}
 use Rattle.node_core.specs.declared.derive.DeriveInput.{DeriveInput}
-use Rattle.law_spans.specs.Erased.{erased_path}
-use Rattle.util_core.specs.declared.callable.Callable.{Callable}
+use Rattle.machine_forms.specs.Erased.{erased_path}
+use Rattle.codegen_program.specs.Callable.{Callable}
 use Rattle.codegen_program.specs.declared.arm.Arm.{Arm}
 use Rattle.codegen_program.specs.declared.arm.PostfixTransform.{PostfixTransform}
 use Rattle.codegen_program.specs.declared.init.DefaultSource.TheVariants as sources
 use Rattle.codegen_program.specs.declared.init.Init.{Init}
 use Rattle.codegen_program.specs.declared.program.Program.{Program}
 use Rattle.codegen_program.specs.declared.program.«Unit».{«Unit» as Unit'}
-use Rattle.machine_host.specs.HostSays.{HostSays, erased_decls, erased_place}
-use Rattle.machine_host.specs.declared.place.Use.{Use}
-use Rattle.machine_host.specs.declared.place.Use.TheVariants as use_at
-use Rattle.machine_steps.specs.Convert.{element}
-use Rattle.machine_steps.specs.Machine.{setting_of}
-use Rattle.machine_steps.specs.Reading.{transform_use}
-use Rattle.machine_steps.specs.Setting.{called, without_places}
+use Rattle.machine_forms.specs.HostSays.{HostSays, erased_decls, erased_place}
+use Rattle.machine_forms.specs.Use.{Use}
+use Rattle.machine_forms.specs.Use.TheVariants as use_at
+use Rattle.machine_forms.specs.Convert.{element}
+use Rattle.machine_forms.specs.Machine.{setting_of}
+use Rattle.machine_forms.specs.Reading.{transform_use}
+use Rattle.machine_forms.specs.Setting.{called, without_places}
 use Rattle.machine_forms.specs.declared.unfit.Unfit.{Unfit}
 use Rattle.machine_forms.specs.declared.unfit.Unfit.TheVariants as unfit
 use Rattle.machine_forms.specs.Answer.{or, first_in, first_from, refused_if, refused_unless}

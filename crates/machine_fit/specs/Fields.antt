@@ -3,7 +3,7 @@ use Rattle.std.specs.Prelude.{List, []}
 use Rattle.node_core.specs.declared.data.Field.{Field}
 use Rattle.node_core.specs.declared.data.«Data».{«Data»}
 use Rattle.node_core.specs.declared.data.«Data».TheVariants as body
-use Rattle.machine_host.specs.Decls.{list_of}
+use Rattle.machine_forms.specs.Decls.{list_of}
 
 -- the fields of a struct, which have the slots of these numbers
 abbrev pub struct_fields : «Data» → List Field

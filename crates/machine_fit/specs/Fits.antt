@@ -1,17 +1,17 @@
 -- Which types fit their places.
 use Rattle.std.specs.Prelude.{ℕ, Bool, true, false, ◌&&◌, ◌||◌, not, if◌then◌else◌, nat_lt, Option, Some, None, is_some}
 use Rattle.node_expr.specs.declared.ty.«Type».{«Type» as Type'}
-use Rattle.law_spans.specs.Erased.{erased_type}
+use Rattle.machine_forms.specs.Erased.{erased_type}
 use Rattle.codegen_program.specs.declared.program.Program.{Program}
 use Rattle.machine_rows.specs.Rows.{element_of, row_of}
 use Rattle.machine_rows.specs.declared.row.Row.{Row}
 use Rattle.machine_rows.specs.declared.row.Row.TheFolds.{fold-Row}
 use Rattle.machine_rows.specs.declared.row.Row.TheOpen.{Row-F}
-use Rattle.machine_cells.specs.Defaults.{row_default}
-use Rattle.machine_host.specs.Decls.{decl_names}
-use Rattle.machine_host.specs.HostSays.{HostSays}
-use Rattle.machine_steps.specs.Convert.{declared_default, default_said}
-use Rattle.machine_steps.specs.Machine.{setting_of}
+use Rattle.machine_forms.specs.Defaults.{row_default}
+use Rattle.machine_forms.specs.Decls.{decl_names}
+use Rattle.machine_forms.specs.HostSays.{HostSays}
+use Rattle.machine_forms.specs.Convert.{declared_default, default_said}
+use Rattle.machine_forms.specs.Machine.{setting_of}
 use Rattle.machine_forms.specs.Units.{is_item}
 
 -- the row that a type is

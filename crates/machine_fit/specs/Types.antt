@@ -8,13 +8,13 @@ use Rattle.node_core.specs.declared.data.Variant.{Variant}
 use Rattle.node_core.specs.declared.data.«Data».{«Data»}
 use Rattle.node_core.specs.declared.data.«Data».TheVariants as body
 use Rattle.node_core.specs.declared.derive.DeriveInput.{DeriveInput}
-use Rattle.law_spans.specs.Erased.{erased_path}
+use Rattle.machine_forms.specs.Erased.{erased_path}
 use Rattle.codegen_program.specs.declared.arm.PostfixTransform.{PostfixTransform}
 use Rattle.codegen_program.specs.declared.program.Program.{Program}
 use Rattle.codegen_program.specs.declared.program.«Unit».{«Unit» as Unit'}
-use Rattle.machine_host.specs.Decls.{list_of}
-use Rattle.machine_host.specs.HostSays.{HostSays}
-use Rattle.machine_host.specs.Made.{named_type}
+use Rattle.machine_forms.specs.Decls.{list_of}
+use Rattle.machine_forms.specs.HostSays.{HostSays}
+use Rattle.machine_forms.specs.Made.{named_type}
 use Rattle.machine_forms.specs.declared.unfit.Unfit.{Unfit}
 use Rattle.machine_forms.specs.declared.unfit.Unfit.TheVariants as unfit
 use Rattle.machine_forms.specs.Answer.{or, first_in, first_from, refused_if, refused_unless}

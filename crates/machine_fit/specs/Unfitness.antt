@@ -1,7 +1,7 @@
 -- Why a program can't be run with a host: the first row that refuses a place, at its first place.
 use Rattle.std.specs.Prelude.{◌-◌, ◌&&◌, Bool, length, nat_lt, Option}
 use Rattle.codegen_program.specs.declared.program.Program.{Program}
-use Rattle.machine_host.specs.HostSays.{HostSays}
+use Rattle.machine_forms.specs.HostSays.{HostSays}
 use Rattle.machine_forms.specs.declared.unfit.Unfit.{Unfit}
 use Rattle.machine_forms.specs.declared.unfit.Unfit.TheVariants as unfit
 use Rattle.machine_forms.specs.Answer.{or, refused_unless}

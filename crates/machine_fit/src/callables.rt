@@ -9,14 +9,15 @@ ghost use Rattle.machine_fit.specs.Callables as spec;
 ghost use Rattle.machine_fit.specs.Fields.{struct_fields};
 ghost use Rattle.machine_fit.specs.Types.{decl_type};
 ghost use Rattle.machine_forms.specs.Units.{AreGroups};
-ghost use Rattle.machine_steps.specs.Reading.{transform_use as use_of};
-ghost use Rattle.machine_steps.specs.Setting.{called as called_by};
+ghost use Rattle.machine_forms.specs.Reading.{transform_use as use_of};
+ghost use Rattle.machine_forms.specs.Setting.{called as called_by};
 
 use crate::checker::Checker;
 use base_core::{Items, Mem, TryClone};
 use codegen_program::{Arm, DefaultSource, Init, PostfixTransform, Unit};
-use machine_forms::{Ask, Unfit, asks_of, fallback_call, fields_of};
-use machine_host::{Callable, Host, Place, Use, named_type};
+use machine_forms::{
+    Ask, Callable, Host, Place, Unfit, Use, asks_of, fallback_call, fields_of, named_type,
+};
 use machine_rows::element_among;
 use node_core::{Data, DeriveInput, Field, Type};
 use node_span::Spanned;

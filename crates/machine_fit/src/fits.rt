@@ -1,15 +1,15 @@
 //! Which types fit their places.
 
 ghost use Rattle.std.specs.Prelude.{◌≡◌, IfOk, is_some};
-ghost use Rattle.machine_cells.specs.Defaults.{leaf_default};
-ghost use Rattle.machine_steps.specs.Convert as convert;
-ghost use Rattle.machine_steps.specs.Machine.{setting_of};
+ghost use Rattle.machine_forms.specs.Defaults.{leaf_default};
+ghost use Rattle.machine_forms.specs.Convert as convert;
+ghost use Rattle.machine_forms.specs.Machine.{setting_of};
 ghost use Rattle.machine_fit.specs.Fits as spec;
 ghost use Rattle.machine_forms.specs.Units.{is_item as item_at};
 
 use crate::checker::Checker;
 use base_core::Mem;
-use machine_host::{Host, named_type};
+use machine_forms::{Host, named_type};
 use machine_rows::{Leaf, Row, element_among, row_among};
 use node_core::Type;
 

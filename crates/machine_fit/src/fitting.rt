@@ -6,8 +6,7 @@ ghost use Rattle.machine_fit.specs.Unfitness as spec;
 
 use crate::checker::Checker;
 use codegen_program::Program;
-use machine_forms::{Unfit, check_forms, check_names, groups_of, is_receiver, item_flags};
-use machine_host::Host;
+use machine_forms::{Host, Unfit, check_forms, check_names, groups_of, is_receiver, item_flags};
 use std::alloc::Global;
 
 /// Whether the program can be run with the host, and else the first place that stands against it.

@@ -15,5 +15,4 @@ mod types;
 
 pub use codegen_program::Program;
 pub use fitting::fit;
-pub use machine_forms::{Form, Unfit};
-pub use machine_host::Host;
+pub use machine_forms::{Form, Host, Unfit};

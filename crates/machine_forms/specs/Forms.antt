@@ -22,8 +22,8 @@ use Rattle.codegen_program.specs.declared.init.Fallback.{Fallback}
 use Rattle.codegen_program.specs.declared.init.Fallback.TheVariants as fallbacks
 use Rattle.codegen_program.specs.declared.program.Program.{Program}
 use Rattle.codegen_program.specs.declared.program.«Unit».{«Unit» as Unit'}
-use Rattle.util_core.specs.declared.callable.Callable.{Callable}
-use Rattle.machine_host.specs.Decls.{list_of}
+use Rattle.codegen_program.specs.Callable.{Callable}
+use Rattle.machine_steps.specs.Decls.{list_of}
 use Rattle.machine_rows.specs.Heads.{null}
 use Rattle.machine_forms.specs.declared.unfit.Form.TheVariants as form
 use Rattle.machine_forms.specs.declared.unfit.Unfit.{Unfit}

@@ -3,3 +3,20 @@ pub mod Asks
 pub mod Units
 pub mod Names
 pub mod Forms
+pub use Rattle.machine_steps.specs.Attributes
+pub use Rattle.machine_steps.specs.Below
+pub use Rattle.machine_steps.specs.Convert
+pub use Rattle.machine_steps.specs.Decls
+pub use Rattle.machine_steps.specs.Defaults
+pub use Rattle.machine_steps.specs.Erased
+pub use Rattle.machine_steps.specs.HostSays
+pub use Rattle.machine_steps.specs.Machine
+pub use Rattle.machine_steps.specs.Made
+pub use Rattle.machine_steps.specs.Names as StepsNames
+pub use Rattle.machine_steps.specs.Progress
+pub use Rattle.machine_steps.specs.Reading
+pub use Rattle.machine_steps.specs.Setting
+pub use Rattle.machine_steps.specs.Slots
+pub use Rattle.machine_steps.specs.State
+pub use Rattle.machine_steps.specs.Statements
+pub use Rattle.machine_steps.specs.Use

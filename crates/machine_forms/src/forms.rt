@@ -15,9 +15,9 @@ use crate::unfit::{Form, Unfit};
 use crate::units::asks_of;
 use base_core::Items;
 use codegen_program::{DefaultSource, Fallback, PostfixTransform, Program, Unit};
+use machine_steps::Callable;
 use node_core::{Data, DeriveInput, Expr, Field, Generics, Ident, Path, Variant};
 use std::alloc::Global;
-use util_core::Callable;
 
 /// The names that generated code has for itself.
 const GENERATED: [&str; 26] = [

@@ -9,6 +9,7 @@ mod units;
 
 pub use ask::{Ask, Asked, push_unit};
 pub use forms::{check_forms, fallback_call};
+pub use machine_steps::{Callable, Host, Place, Use, named_type};
 pub use names::{check_names, fields_of};
 pub use unfit::{Form, Unfit};
 pub use units::{asks_of, groups_of, is_receiver, item_flags};

@@ -2,7 +2,7 @@
 
 ghost use Rattle.std.specs.Prelude.{◌≡◌, OnOk, length, map};
 ghost use Rattle.std.specs.Option.{option_copied};
-ghost use Rattle.machine_host.specs.Decls.{list_of};
+ghost use Rattle.machine_steps.specs.Decls.{list_of};
 ghost use Rattle.machine_forms.specs.Answer.{Says};
 ghost use Rattle.machine_forms.specs.Names as spec;
 ghost use Rattle.machine_forms.specs.Units.{AreGroups};

@@ -10,15 +10,15 @@ use Rattle.print_core.specs.Literals.{lit_tokens}
 use Rattle.print_core.specs.Marks.{Trees, ident}
 use Rattle.print_core.specs.Nodes.{expr_tokens, path_tokens, type_tokens}
 use Rattle.print_core.specs.declared.path.PathStyle.TheVariants.{Plain}
-use Rattle.meta_nested.specs.Nested.{nested_of}
-use Rattle.meta_nested.specs.declared.nested.NestedMeta.{NestedMeta}
-use Rattle.meta_cells.specs.Cells.{Cells}
-use Rattle.meta_cells.specs.Dispatch.{from_nested_meta}
-use Rattle.meta_kinds.specs.Exprs.{expr_cells, ident_cells, path_cells, type_path_cells}
-use Rattle.meta_kinds.specs.Syntax.{where_predicates_cells}
-use Rattle.meta_core.specs.Lists.{ident_item, path_item}
-use Rattle.meta_core.specs.PathLists.{path_word}
-use Rattle.meta_core.specs.Rows as rows
+use Rattle.util_core.specs.Nested.{nested_of}
+use Rattle.util_core.specs.NestedMeta.{NestedMeta}
+use Rattle.util_core.specs.Cells.{Cells}
+use Rattle.util_core.specs.Dispatch.{from_nested_meta}
+use Rattle.util_core.specs.KindsExprs.{expr_cells, ident_cells, path_cells, type_path_cells}
+use Rattle.util_core.specs.Syntax.{where_predicates_cells}
+use Rattle.util_core.specs.Lists.{ident_item, path_item}
+use Rattle.util_core.specs.PathLists.{path_word}
+use Rattle.util_core.specs.Rows as rows
 use Rattle.util_core.specs.Callable.{callable_cells}
 use Rattle.util_core.specs.Exprs.{preserved_cells}
 use Rattle.util_core.specs.IdentString.{ident_string_cells}

@@ -8,8 +8,8 @@ use Rattle.node_core.specs.declared.attr.Meta.{Meta}
 use Rattle.node_core.specs.declared.data.Fields.{Fields}
 use Rattle.node_core.specs.declared.data.«Data».{«Data»}
 use Rattle.node_core.specs.declared.generics.Generics.{Generics}
-use Rattle.meta_nested.specs.declared.nested.MetaNameValueInvalidExpr.{MetaNameValueInvalidExpr}
-use Rattle.meta_nested.specs.declared.nested.NestedMeta.{NestedMeta}
+use Rattle.util_core.specs.MetaNameValueInvalidExpr.{MetaNameValueInvalidExpr}
+use Rattle.util_core.specs.NestedMeta.{NestedMeta}
 use Rattle.machine_value.specs.declared.value.Value.{Value}
 use Rattle.machine_host.specs.declared.arg.Arg.{Arg}
 use Rattle.machine_host.specs.declared.arg.Arg.TheVariants as arg

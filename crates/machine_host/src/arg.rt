@@ -1,9 +1,9 @@
 //! What a host is asked about.
 
 use machine_value::Value;
-use meta_nested::{MetaNameValueInvalidExpr, NestedMeta};
 use node_core::{Attribute, Data, Fields, Generics, Meta};
 use node_expr::{Expr, Ident};
+use util_core::{MetaNameValueInvalidExpr, NestedMeta};
 
 /// What a function that an option names is handed.
 #[derive(Clone, Copy)]

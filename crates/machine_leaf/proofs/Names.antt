@@ -8,13 +8,13 @@ use Rattle.error_fault.specs.Outcome.{Outcome, Value, Faults, faults_of, on_valu
 use Rattle.error_fault.specs.declared.fault.Fault.{Fault}
 use Rattle.error_core.specs.declared.fail.Fail.{Fail}
 use Rattle.error_core.specs.declared.fail.Fail.TheVariants as fails
-use Rattle.meta_nested.specs.declared.nested.NestedMeta.{NestedMeta}
-use Rattle.meta_cells.specs.Cells.{FailsCell, cell_at}
-use Rattle.meta_cells.specs.declared.call.Call.{Call}
-use Rattle.meta_cells.specs.declared.call.Call.TheVariants as call
-use Rattle.meta_core.specs.Lists as lists
-use Rattle.meta_core.specs.Maps.{with_key}
-use Rattle.meta_core.specs.Sets.{is_item, name_faults, set_cells, set_faults}
+use Rattle.machine_cells.specs.NestedMeta.{NestedMeta}
+use Rattle.machine_cells.specs.Cells.{FailsCell, cell_at}
+use Rattle.machine_cells.specs.Call.{Call}
+use Rattle.machine_cells.specs.Call.TheVariants as call
+use Rattle.machine_cells.specs.Lists as lists
+use Rattle.machine_cells.specs.CoreMaps.{with_key}
+use Rattle.machine_cells.specs.Sets.{is_item, name_faults, set_cells, set_faults}
 use Rattle.machine_cells.specs.Maps.{names_cells, names_value}
 use Rattle.machine_cells.specs.Shown.{shown}
 

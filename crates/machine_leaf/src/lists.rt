@@ -1,16 +1,16 @@
 //! Lists as values.
 
 ghost use Rattle.std.specs.Prelude.{◌≡◌, IfOk, map};
-ghost use Rattle.meta_cells.specs.Cells.{AnswersCell, cell_at};
+ghost use Rattle.machine_cells.specs.Cells.{AnswersCell, cell_at};
 ghost use Rattle.machine_value.specs.declared.value.Value.TheVariants as value;
 ghost use Rattle.machine_cells.specs.Leaves.{punctuated_cells, unsigned_list_cells, vec_cells};
 
 use crate::literals::lit_list_cell;
 use crate::shown::{Shown, shown_cell};
 use base_core::{Items, Mem};
+use machine_cells::{Call, PathList, Result};
 use machine_rows::{PunctuatedItem, Unsigned, VecItem};
 use machine_value::Value;
-use meta_core::{Call, PathList, Result};
 use node_core::{Comma, Expr, FnArg, Ident, Path, Punctuated, WherePredicate};
 use std::alloc::Global;
 

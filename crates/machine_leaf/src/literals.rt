@@ -1,12 +1,12 @@
 //! Literals of one kind as values.
 
-ghost use Rattle.meta_cells.specs.Cells.{AnswersCell, cell_at};
+ghost use Rattle.machine_cells.specs.Cells.{AnswersCell, cell_at};
 ghost use Rattle.machine_cells.specs.Leaves.{lit_kind_cells, lit_list_cells};
 
 use crate::shown::{Syntax, shown_cell};
+use machine_cells::{Call, Result};
 use machine_rows::LitKind;
 use machine_value::Value;
-use meta_core::{Call, Result};
 use node_core::{Lit, LitBool, LitByte, LitByteStr, LitChar, LitFloat, LitInt, LitStr};
 use std::alloc::Global;
 

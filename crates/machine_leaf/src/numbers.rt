@@ -1,18 +1,19 @@
 //! Integers as values.
 
 ghost use Rattle.std.specs.Prelude.{◌≡◌, ◌≤◌, ◌^◌};
-ghost use Rattle.meta_cells.specs.Cells.{AnswersCell, cell_at};
-ghost use Rattle.meta_reads.specs.Integers as row;
+ghost use Rattle.machine_cells.specs.Cells.{AnswersCell, cell_at};
+ghost use Rattle.machine_cells.specs.Integers as row;
 ghost use Rattle.machine_cells.specs.Leaves.{integer_cells, non_zero_cells};
 ghost use Rattle.machine_cells.specs.Shown.{shown_cells};
 ghost use Rattle.machine_cells.specs.Values.{integer, natural};
 
 use crate::shown::{Shown, shown_answer};
 use base_core::Mem;
+use machine_cells::{
+    Call, Result, read_non_zero_signed, read_non_zero_unsigned, read_signed, read_unsigned,
+};
 use machine_rows::Integer;
 use machine_value::Value;
-use meta_core::{Call, Result};
-use meta_reads::{read_non_zero_signed, read_non_zero_unsigned, read_signed, read_unsigned};
 use std::alloc::Global;
 
 impl Shown for u8 {

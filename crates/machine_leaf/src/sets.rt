@@ -2,7 +2,7 @@
 
 ghost use Rattle.std.specs.Prelude.{◌≡◌, IfOk, List, Option, map};
 ghost use Rattle.error_fault.specs.Outcome.{Outcome};
-ghost use Rattle.meta_cells.specs.Cells.{AnswersCell, cell_at};
+ghost use Rattle.machine_cells.specs.Cells.{AnswersCell, cell_at};
 ghost use Rattle.machine_cells.specs.Leaves.{set_cells};
 ghost use Rattle.machine_cells.specs.Maps as spec;
 ghost use Rattle.machine_cells.specs.Shown.{shown};
@@ -11,9 +11,9 @@ ghost use Rattle.machine_cells.specs.Values.{syntax};
 use crate::order::in_order;
 use crate::shown::syntax_value;
 use base_core::{Items, Mem, Text};
+use machine_cells::{Call, FromMeta, KeyFromPath, Result};
 use machine_rows::SetItem;
 use machine_value::Value;
-use meta_core::{Call, FromMeta, KeyFromPath, Result};
 use node_core::{Ident, Path};
 use print_core::ToTokens;
 use std::alloc::Global;

@@ -1,15 +1,15 @@
 //! How what is read is shown as a value.
 
 ghost use Rattle.std.specs.Prelude.{◌≡◌, IfOk};
-ghost use Rattle.meta_cells.specs.Cells.{AnswersCell, Cells, cell_at};
-ghost use Rattle.meta_cells.specs.declared.call.Call.{Call as Asked};
+ghost use Rattle.machine_cells.specs.Cells.{AnswersCell, Cells, cell_at};
+ghost use Rattle.machine_cells.specs.Call.{Call as Asked};
 ghost use Rattle.machine_value.specs.declared.value.Value.{Value as Datum};
 ghost use Rattle.machine_cells.specs.Shown.{shown_cells};
 ghost use Rattle.machine_cells.specs.Values.{syntax};
 ghost use Rattle.machine_leaf.specs.Seen.{ShowsSeen};
 
+use machine_cells::{Call, Fail, FromMeta, Mem, Result};
 use machine_value::Value;
-use meta_core::{Call, Fail, FromMeta, Mem, Result};
 use print_core::ToTokens;
 use std::alloc::Global;
 

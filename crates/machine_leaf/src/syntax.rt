@@ -1,19 +1,18 @@
 //! Pieces of syntax as values.
 
-ghost use Rattle.meta_cells.specs.Cells.{AnswersCell, cell_at};
+ghost use Rattle.machine_cells.specs.Cells.{AnswersCell, cell_at};
 ghost use Rattle.machine_cells.specs.Leaves.{parsed_cells};
 
 use crate::shown::{Syntax, shown_cell};
+use machine_cells::{Call, Callable, IdentString, PreservedStrExpr, Result};
 use machine_rows::Parsed;
 use machine_value::Value;
-use meta_core::{Call, Result};
 use node_core::{
     Expr, ExprArray, ExprPath, ExprRange, FnArg, Ident, Meta, Path, Type, TypeArray, TypeFnPtr,
     TypeGroup, TypeImplTrait, TypeInfer, TypeNever, TypeParam, TypeParen, TypePath, TypePtr,
     TypeReference, TypeSlice, TypeTraitObject, TypeTuple, Visibility, WhereClause, WherePredicate,
 };
 use std::alloc::Global;
-use util_core::{Callable, IdentString, PreservedStrExpr};
 
 impl Syntax for Ident {}
 

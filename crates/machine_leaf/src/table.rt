@@ -1,7 +1,7 @@
 //! The table: what each of its types answers.
 
-ghost use Rattle.meta_cells.specs.Cells.{AnswersCell, cell_at};
-ghost use Rattle.meta_core.specs.Rows.{unit_cells};
+ghost use Rattle.machine_cells.specs.Cells.{AnswersCell, cell_at};
+ghost use Rattle.machine_cells.specs.Rows.{unit_cells};
 ghost use Rattle.machine_cells.specs.Leaves.{leaf_cells};
 ghost use Rattle.machine_cells.specs.Shown.{shown_cells};
 ghost use Rattle.machine_cells.specs.Values.{unit};
@@ -13,12 +13,11 @@ use crate::sets::set_cell;
 use crate::shown::shown_cell;
 use crate::syntax::parsed_cell;
 use crate::words::{ignored_cell, text_cell};
+use machine_cells::{Call, Callable, Flag, IdentString, PathList, PreservedStrExpr, Result};
 use machine_rows::Leaf;
 use machine_value::Value;
-use meta_core::{Call, PathList, Result};
 use node_core::{Expr, ExprArray, ExprPath, ExprRange, Ident, Lit, Meta, Path, TypePath};
 use std::alloc::Global;
-use util_core::{Callable, Flag, IdentString, PreservedStrExpr};
 
 /// What a type of the table answers to a call itself, as a value. `None` where it has no cell for it.
 pub fn leaf_cell(alloc: Global, leaf: &Leaf, call: Call<'_>) -> Result<Option<Value>>

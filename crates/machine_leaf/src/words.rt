@@ -1,8 +1,8 @@
 //! Words, characters, strings and flags as values.
 
 ghost use Rattle.std.specs.Prelude.{◌≡◌, IfOk};
-ghost use Rattle.meta_cells.specs.Cells.{AnswersCell, cell_at};
-ghost use Rattle.meta_core.specs.Rows.{text_cells};
+ghost use Rattle.machine_cells.specs.Cells.{AnswersCell, cell_at};
+ghost use Rattle.machine_cells.specs.Rows.{text_cells};
 ghost use Rattle.machine_value.specs.declared.value.Value.TheVariants as value;
 ghost use Rattle.machine_cells.specs.Leaves.{ignored_cells};
 ghost use Rattle.machine_cells.specs.Shown.{shown_cells};
@@ -10,10 +10,9 @@ ghost use Rattle.machine_cells.specs.Values.{ignored as ignored_value};
 
 use crate::shown::Shown;
 use base_core::{Boxed, Items, Mem, Text};
+use machine_cells::{Call, Flag, Result};
 use machine_value::{Style, Value};
-use meta_core::{Call, Result};
 use std::alloc::Global;
-use util_core::Flag;
 
 impl Shown for () {
     ghost use Rattle.machine_cells.specs.Values.{unit};

@@ -5,7 +5,7 @@ use Rattle.error_core.specs.declared.fail.Fail.{Fail}
 use Rattle.meta_cells.specs.Cells.{Cells, AnswersCell, cell_at}
 use Rattle.meta_cells.specs.declared.call.Call.{Call}
 use Rattle.machine_value.specs.declared.value.Value.{Value as Datum}
-use Rattle.machine_cells.specs.RowCells.{row_cells}
+use Rattle.machine_steps.specs.RowCells.{row_cells}
 use Rattle.machine_rows.specs.declared.row.Row.{Row}
 use Rattle.machine_read.specs.declared.layer.Layer.{Layer}
 use Rattle.machine_read.specs.Layers.{layer_reads}

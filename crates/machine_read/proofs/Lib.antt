@@ -1,3 +1,4 @@
 mod Entries
 mod Faults
 mod Layers
+pub use Rattle.machine_steps.proofs.Statements

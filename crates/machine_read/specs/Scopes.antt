@@ -3,8 +3,8 @@ use Rattle.std.specs.Prelude.{List}
 use Rattle.node_core.specs.declared.derive.DeriveInput.{DeriveInput}
 use Rattle.meta_cells.specs.Cells.{Cells}
 use Rattle.machine_value.specs.declared.value.Value.{Value as Datum}
-use Rattle.machine_cells.specs.RowCells.{row_cells}
-use Rattle.machine_host.specs.HostSays.{HostSays}
+use Rattle.machine_steps.specs.RowCells.{row_cells}
+use Rattle.machine_steps.specs.HostSays.{HostSays}
 use Rattle.machine_rows.specs.declared.row.Row.{Row}
 use Rattle.machine_steps.specs.Setting.{Setting}
 use Rattle.machine_steps.specs.Convert.{Earlier, declared_cells, host_cells}

@@ -4,11 +4,11 @@ ghost use Rattle.error_core.specs.Answers.{Answers};
 ghost use Rattle.error_fault.specs.Outcome as outcomes;
 ghost use Rattle.error_fault.specs.Outcome.{Outcome, on_value};
 ghost use Rattle.meta_cells.specs.Cells.{AnswersCell};
-ghost use Rattle.meta_core.specs.Wrappers.{value_or_meta};
-ghost use Rattle.util_core.specs.declared.over_ride.Override.TheVariants.{Explicit};
+ghost use Rattle.machine_leaf.specs.Wrappers.{value_or_meta};
+ghost use Rattle.machine_leaf.specs.Override.TheVariants.{Explicit};
 ghost use Rattle.machine_value.specs.declared.value.Value.{Value as Datum};
-ghost use Rattle.machine_cells.specs.Values as shown;
-ghost use Rattle.machine_cells.specs.Wrapped as spec;
+ghost use Rattle.machine_leaf.specs.Values as shown;
+ghost use Rattle.machine_leaf.specs.Wrapped as spec;
 ghost use Rattle.std.specs.Prelude.{Some};
 
 use crate::values;

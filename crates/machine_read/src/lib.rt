@@ -16,6 +16,8 @@ mod values;
 mod wrapped;
 
 pub use declared::Declared;
+pub use machine_steps::{Arg, Host, Use, named_type};
+pub use meta_cells::{Call, NestedMeta, items_of};
 pub use reader::Reader;
 pub use scope::Scope;
 pub use setting::Setting;

@@ -8,8 +8,7 @@ ghost use Rattle.machine_read.specs.Asked.{answer};
 
 use error_core::{Error, Expr, Fail, Lit, Mem, Result, Span, Spanned, TryClone};
 use machine_value::Value;
-use meta_cells::{Call, items_of, spanned, without_groups};
-use meta_nested::{MetaNameValueInvalidExpr, NestedMeta};
+use meta_cells::{Call, MetaNameValueInvalidExpr, NestedMeta, items_of, spanned, without_groups};
 use node_core::Meta;
 use std::alloc::{AllocError, Global};
 

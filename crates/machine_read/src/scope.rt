@@ -19,10 +19,9 @@ use crate::reader::Reader;
 use crate::setting::Setting;
 use codegen_program::PostfixTransform;
 use error_core::{Fail, Result, Spanned};
-use machine_host::{Arg, Callable, Host, Use};
+use machine_steps::{Arg, Callable, Host, Use};
 use machine_value::{Mem, TryClone, Value};
-use meta_cells::spanned;
-use meta_nested::{MetaNameValueInvalidExpr, NestedMeta};
+use meta_cells::{MetaNameValueInvalidExpr, NestedMeta, spanned};
 use node_core::{Ident, Path, Type};
 use std::alloc::Global;
 

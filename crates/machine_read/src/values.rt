@@ -4,8 +4,8 @@ ghost use Rattle.std.specs.Prelude.{◌≡◌, ◌∷◌, ◌++◌, [], IfOk, On
 ghost use Rattle.print_core.specs.Items.{meta_tokens};
 ghost use Rattle.error_core.specs.ErrorView.{first_leaf, more_leaves};
 ghost use Rattle.error_fault.specs.Outcome as outcomes;
-ghost use Rattle.util_core.specs.declared.over_ride.Override.TheVariants.{Explicit, Inherit};
-ghost use Rattle.machine_cells.specs.Values as spec;
+ghost use Rattle.machine_leaf.specs.Override.TheVariants.{Explicit, Inherit};
+ghost use Rattle.machine_leaf.specs.Values as spec;
 
 use error_core::Error;
 use machine_leaf::syntax_value;

@@ -2,8 +2,8 @@
 
 ghost use Rattle.std.specs.Prelude.{◌≡◌};
 ghost use Rattle.meta_cells.specs.Cells.{AnswersCell, cell_at};
-ghost use Rattle.meta_core.specs.Wrappers.{box_cells as boxed_cells};
-ghost use Rattle.machine_cells.specs.Wrapped as spec;
+ghost use Rattle.machine_leaf.specs.Wrappers.{box_cells as boxed_cells};
+ghost use Rattle.machine_leaf.specs.Wrapped as spec;
 ghost use Rattle.machine_read.specs.Wrapped.{wrapper_cells};
 
 use crate::map::{hash_map_cell, tree_map_cell};

@@ -4,7 +4,7 @@ ghost use Rattle.std.specs.Prelude.{◌≡◌, IfOk, OnOk, ◌++◌, ◌∷◌, 
 ghost use Rattle.std.specs.Option.{option_copied};
 ghost use Rattle.machine_cells.specs.Defaults.{layer_default, leaf_default as default_of_leaf, row_default};
 ghost use Rattle.machine_cells.specs.Values.{given, ignored as ignored_value, spanned as spanned_value};
-ghost use Rattle.util_core.specs.declared.over_ride.Override.TheVariants.{Inherit};
+ghost use Rattle.machine_cells.specs.Override.TheVariants.{Inherit};
 ghost use Rattle.machine_host.specs.Decls.{decl_names, member_name};
 ghost use Rattle.machine_rows.specs.Heads.{seen_head};
 ghost use Rattle.machine_rows.specs.Rows.{row_at};

@@ -10,9 +10,9 @@ ghost use Rattle.machine_std.specs.StdSays as spec;
 
 use base_core::Text;
 use error_core::{Error, Result};
+use machine_cells::FromMeta;
 use machine_host::{HostItem, Said, Value};
 use machine_rows::is_named;
-use meta_core::FromMeta;
 use node_core::{Mem, Type};
 use std::alloc::{AllocError, Global};
 

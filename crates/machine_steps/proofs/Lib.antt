@@ -1,1 +1,2 @@
 pub mod Statements
+pub use Rattle.machine_cells.proofs.Showing

@@ -3,8 +3,8 @@ use Rattle.std.proofs.Common.{◌≡◌, ◌<◌, ◌+◌, ℕ, zero, suc, true,
 use Rattle.std.specs.List.{position_from}
 use Rattle.std.proofs.lemmas.Iterator.Adapters.{position_from-zero}
 use Rattle.base_core.specs.declared.text.Text.{Text}
-use Rattle.meta_nested.specs.Nodes.{nested_span}
-use Rattle.meta_nested.specs.declared.nested.NestedMeta.{NestedMeta}
+use Rattle.machine_steps.specs.Nodes.{nested_span}
+use Rattle.machine_steps.specs.NestedMeta.{NestedMeta}
 use Rattle.error_fault.specs.declared.fault.Fault.{Fault}
 use Rattle.error_fault.specs.declared.kind.FaultKind.TheVariants.{UnknownField}
 use Rattle.error_fault.specs.Kind.{set_of}

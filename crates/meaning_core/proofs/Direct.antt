@@ -1,7 +1,7 @@
 -- One walk and one look at each slot give what the entries mean.
 use Rattle.std.proofs.Common.{◌≡◌, ℕ, zero, suc, Bool, true, false, cond, List, [], ◌∷◌, ◌++◌, map, refl, ap, ap₂, ◌∙◌, sym, true≢false}
 use mathlib.Core.Path.{fun_ext}
-use Rattle.meta_nested.specs.declared.nested.NestedMeta.{NestedMeta}
+use Rattle.machine_steps.specs.NestedMeta.{NestedMeta}
 use Rattle.error_fault.specs.declared.fault.Fault.{Fault}
 use Rattle.error_fault.specs.Outcome.{Outcome, Value, Faults, bind, on_value, settle, value_of}
 use Rattle.machine_value.specs.declared.value.Value.{Value as Datum}

@@ -3,7 +3,7 @@ use Rattle.std.proofs.Common.{◌≡◌, ℕ, ◌+◌, ◌<◌, zero, suc, Bool,
 use mathlib.Core.Path.{fun_ext}
 use Rattle.std.proofs.lemmas.Bool.Decides.{eqb_tells}
 use Rattle.base_core.specs.declared.text.Text.{Text}
-use Rattle.meta_nested.specs.declared.nested.NestedMeta.{NestedMeta}
+use Rattle.machine_steps.specs.NestedMeta.{NestedMeta}
 use Rattle.error_fault.specs.declared.fault.Fault.{Fault}
 use Rattle.error_fault.specs.declared.kind.FaultKind.TheVariants.{UnknownField}
 use Rattle.error_fault.specs.Kind.{set_of}
@@ -12,7 +12,7 @@ use Rattle.error_fault.specs.Faults.{at}
 use Rattle.error_fault.specs.Outcome.{Outcome, Value, Faults, faults_of, value_of}
 use Rattle.machine_value.specs.declared.value.Value.{Value as Datum}
 use Rattle.machine_value.specs.Members.{no_value}
-use Rattle.meta_nested.specs.Nodes.{nested_span}
+use Rattle.machine_steps.specs.Nodes.{nested_span}
 use Rattle.node_expr.specs.declared.ty.«Type».{«Type» as Type'}
 use Rattle.codegen_program.specs.declared.arm.Arm.{Arm}
 use Rattle.meaning_core.specs.Decl.{Shape, Single, Many, Flat, FieldDecl, Decl, is_named, is_named_by, has_flat, names}

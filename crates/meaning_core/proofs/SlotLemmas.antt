@@ -8,8 +8,8 @@ use Rattle.base_core.specs.declared.text.Text.{Text}
 use Rattle.error_core.specs.Answers.{Fails, fail_of, refusal}
 use Rattle.error_core.specs.declared.fail.Fail.{Fail}
 use Rattle.error_core.specs.ErrorView.{ErrorView, leaves}
-use Rattle.meta_nested.specs.Nodes.{nested_span}
-use Rattle.meta_nested.specs.declared.nested.NestedMeta.{NestedMeta}
+use Rattle.machine_steps.specs.Nodes.{nested_span}
+use Rattle.machine_steps.specs.NestedMeta.{NestedMeta}
 use Rattle.error_fault.specs.declared.fault.Fault.{Fault}
 use Rattle.error_fault.specs.declared.kind.FaultKind.TheVariants.{DuplicateField}
 use Rattle.error_fault.specs.Fault.{at_span}

@@ -11,11 +11,11 @@ use Rattle.error_fault.specs.Outcome.{Outcome, on_value, with_span}
 use Rattle.error_core.specs.Answers.{Answers}
 use Rattle.error_core.specs.declared.fail.Fail.{Fail}
 use Rattle.error_core.specs.declared.fail.Fail.TheVariants as fails
-use Rattle.meta_nested.specs.Nodes.{nested_span}
-use Rattle.meta_nested.specs.declared.nested.NestedMeta.{NestedMeta}
-use Rattle.meta_cells.specs.Cells.{Cells}
-use Rattle.meta_cells.specs.Dispatch.{by_nested_meta, from_nested_meta, from_none}
-use Rattle.meta_core.specs.Rows.{text_cells}
+use Rattle.machine_steps.specs.Nodes.{nested_span}
+use Rattle.machine_steps.specs.NestedMeta.{NestedMeta}
+use Rattle.machine_steps.specs.Cells.{Cells}
+use Rattle.machine_steps.specs.Dispatch.{by_nested_meta, from_nested_meta, from_none}
+use Rattle.machine_steps.specs.Rows.{text_cells}
 use Rattle.machine_rows.specs.Arguments.{last_arguments}
 use Rattle.machine_rows.specs.Heads.{head_of, is_unit}
 use Rattle.machine_rows.specs.Paths.{meant_by, segments_in}
@@ -33,11 +33,11 @@ use Rattle.machine_rows.specs.declared.row.Row.TheFolds.{fold-roll-Row}
 use Rattle.machine_rows.specs.declared.row.Row.TheOpen.{Row-F}
 use Rattle.machine_value.specs.declared.value.Value.{Value as Datum}
 use Rattle.machine_value.specs.declared.value.Value.TheVariants as value
-use Rattle.machine_cells.specs.Leaves.{leaf_cells}
-use Rattle.machine_cells.specs.RowCells.{layer_cells, row_cells}
-use Rattle.machine_cells.specs.Shown.{shown_cells}
-use Rattle.machine_cells.proofs.Showing.{shows}
-use Rattle.machine_host.specs.Made.{name_of}
+use Rattle.machine_steps.specs.Leaves.{leaf_cells}
+use Rattle.machine_steps.specs.RowCells.{layer_cells, row_cells}
+use Rattle.machine_steps.specs.Shown.{shown_cells}
+use Rattle.machine_steps.proofs.Showing.{shows}
+use Rattle.machine_steps.specs.Made.{name_of}
 use Rattle.machine_steps.specs.Convert.{cells, declared_cells, host_cells, none}
 use Rattle.meaning_core.specs.Receiver.{no_earlier, no_setting, text_outcome, text_type}
 use Rattle.machine_steps.specs.Setting.{row as row_in}

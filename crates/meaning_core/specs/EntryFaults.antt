@@ -2,7 +2,7 @@
 use Rattle.std.specs.Prelude.{ℕ, cond, List, [], ◌∷◌, ◌++◌, length, flat_map, Option, Some, None, codes}
 use Rattle.base_core.specs.declared.text.Text.{Text}
 use Rattle.tok_types.specs.declared.span.Span.{Span}
-use Rattle.meta_nested.specs.declared.nested.NestedMeta.{NestedMeta}
+use Rattle.machine_steps.specs.NestedMeta.{NestedMeta}
 use Rattle.error_fault.specs.declared.fault.Fault.{Fault}
 use Rattle.error_fault.specs.declared.kind.FaultKind.TheVariants.{DuplicateField, UnexpectedFormat, UnknownField}
 use Rattle.error_fault.specs.Kind.{set_of}
@@ -10,7 +10,7 @@ use Rattle.error_fault.specs.Fault.{at_span}
 use Rattle.error_fault.specs.Faults.{at}
 use Rattle.error_fault.specs.Outcome.{Outcome, Value, Faults, faults_of}
 use Rattle.machine_value.specs.declared.value.Value.{Value as Datum}
-use Rattle.meta_nested.specs.Nodes.{nested_span}
+use Rattle.machine_steps.specs.Nodes.{nested_span}
 use Rattle.node_expr.specs.declared.ty.«Type».{«Type» as Type'}
 use Rattle.meaning_core.specs.Decl.{Shape, Single, Many, Flat, FieldDecl, Decl, has_flat, names}
 use Rattle.machine_steps.specs.Names.{item_name}

@@ -1,6 +1,6 @@
 -- The value of a field, and where a field is missing.
 use Rattle.std.specs.Prelude.{List, [], ◌∷◌, Option, Some, None}
-use Rattle.meta_nested.specs.declared.nested.NestedMeta.{NestedMeta}
+use Rattle.machine_steps.specs.NestedMeta.{NestedMeta}
 use Rattle.error_fault.specs.declared.fault.Fault.{Fault}
 use Rattle.error_fault.specs.declared.kind.FaultKind.TheVariants.{MissingField}
 use Rattle.error_fault.specs.Fault.{plain}
@@ -8,8 +8,8 @@ use Rattle.error_fault.specs.Outcome.{Outcome, Value, Faults, faults_of, with_si
 use Rattle.machine_value.specs.declared.value.Value.{Value as Datum}
 use Rattle.machine_value.specs.declared.value.Value.TheVariants as value
 use Rattle.machine_value.specs.Members.{member}
-use Rattle.machine_host.specs.Seen.{NothingSeen}
-use Rattle.machine_host.specs.declared.place.Use.TheVariants as use_at
+use Rattle.machine_steps.specs.Seen.{NothingSeen}
+use Rattle.machine_steps.specs.Use.TheVariants as use_at
 use Rattle.node_expr.specs.declared.ty.«Type».{«Type» as Type'}
 use Rattle.meaning_core.specs.Decl.{Shape, Single, Many, Flat, FieldDecl, Decl, Fallback, OfType, OfCall, OfContainer, fallback, names}
 use Rattle.machine_steps.specs.Setting.{Setting, ask}

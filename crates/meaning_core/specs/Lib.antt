@@ -11,3 +11,4 @@ pub mod Receiver
 pub mod Outcome
 pub mod Slots
 pub mod Places
+pub use Rattle.machine_steps.specs.Trees

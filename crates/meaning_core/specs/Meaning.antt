@@ -4,8 +4,8 @@ use Rattle.error_fault.specs.declared.fault.Fault.{Fault}
 use Rattle.error_fault.specs.Outcome.{Outcome, Value, bind, on_value, settle}
 use Rattle.machine_value.specs.declared.value.Value.{Value as Datum}
 use Rattle.machine_value.specs.Members.{no_value, struct_of, labelled}
-use Rattle.machine_host.specs.Seen.{NothingSeen}
-use Rattle.machine_host.specs.declared.place.Use.TheVariants as use_at
+use Rattle.machine_steps.specs.Seen.{NothingSeen}
+use Rattle.machine_steps.specs.Use.TheVariants as use_at
 use Rattle.node_expr.specs.declared.ty.«Type».{«Type» as Type'}
 use Rattle.meaning_core.specs.Decl.{Default, ByType, ByCall, Decl}
 use Rattle.machine_steps.specs.Setting.{Setting, ask}

@@ -2,8 +2,8 @@
 use Rattle.std.specs.Prelude.{ℕ, ◌==◌, zero, suc, Bool, true, false, cond, List, [], ◌∷◌, filter, Option, Some, None, option_and_then, option_map, is_none}
 use Rattle.std.specs.Str.{bytes_eq}
 use Rattle.base_core.specs.declared.text.Text.{Text}
-use Rattle.meta_nested.specs.declared.nested.NestedMeta.{NestedMeta}
-use Rattle.machine_host.specs.Made.{named_type}
+use Rattle.machine_steps.specs.NestedMeta.{NestedMeta}
+use Rattle.machine_steps.specs.Made.{named_type}
 use Rattle.machine_steps.specs.Names.{item_name}
 use Rattle.meaning_core.specs.Decl.{FieldDecl, Single, is_named}
 

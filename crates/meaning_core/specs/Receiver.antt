@@ -23,9 +23,9 @@ use Rattle.meaning_core.specs.declared.receiver.Receiver.{Receiver}
 use Rattle.machine_value.specs.declared.value.Value.{Value as Datum}
 use Rattle.codegen_program.specs.declared.program.Derive.TheVariants.{FromDeriveInput}
 use Rattle.node_expr.specs.declared.ty.«Type».{«Type» as Type'}
-use Rattle.meta_nested.specs.declared.nested.NestedMeta.{NestedMeta}
-use Rattle.machine_host.specs.Made.{named_type}
-use Rattle.machine_host.specs.Refusing.{refusing}
+use Rattle.machine_steps.specs.NestedMeta.{NestedMeta}
+use Rattle.machine_steps.specs.Made.{named_type}
+use Rattle.machine_steps.specs.Refusing.{refusing}
 use Rattle.machine_steps.specs.Names.{meta_name}
 use Rattle.meaning_core.specs.Decl.{Single, FieldDecl, Decl}
 use Rattle.machine_steps.specs.Setting.{Setting}

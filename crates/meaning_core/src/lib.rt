@@ -13,6 +13,7 @@ mod walk;
 
 pub use error_fault::{Fault, FaultKind, Items, Mem, Span, Text, TryClone};
 pub use laws::{direct_is_meaning, walk_is_filters};
+pub use machine_steps::{ParseFail, item_front, parse_items};
 pub use machine_value::{Style, Value};
 pub use names::Names;
 pub use outcome::Outcome;

@@ -3,7 +3,7 @@
 ghost use Rattle.std.specs.Prelude.{◌≡◌, ◌++◌, ◌∷◌, [], ◌<◌, IfOk, OnOk, length, map, fold, replicate};
 ghost use Rattle.error_core.specs.Answers.{Answers};
 ghost use Rattle.machine_value.specs.declared.value.Value.TheVariants as value;
-ghost use Rattle.meta_cells.specs.Dispatch as dispatch;
+ghost use Rattle.machine_steps.specs.Dispatch as dispatch;
 ghost use Rattle.meaning_core.specs.Entries.{ItemEntry, entries_of, events, list_entries};
 ghost use Rattle.machine_steps.specs.Attributes.{name_value_fault};
 ghost use Rattle.machine_steps.specs.Names.{item_name};
@@ -17,10 +17,8 @@ use crate::outcome::Outcome;
 use crate::receiver::Receiver;
 use error_core::Result;
 use error_fault::Fault;
+use machine_steps::{FromMeta, NestedMeta, items_of};
 use machine_value::{Style, Value};
-use meta_cells::items_of;
-use meta_core::FromMeta;
-use meta_nested::NestedMeta;
 use node_core::{
     Attribute, Items, Mem, Meta, Text, TokenStream, TryClone, path_to_string, push_full_path,
 };

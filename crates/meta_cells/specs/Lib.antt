@@ -2,3 +2,13 @@ pub mod Cells
 pub mod Groups
 pub mod Dispatch
 pub mod Places
+pub use Rattle.meta_nested.specs.Answers
+pub use Rattle.meta_nested.specs.CoreNodes
+pub use Rattle.meta_nested.specs.Nested
+pub use Rattle.meta_nested.specs.Nodes
+pub use Rattle.meta_nested.specs.Parses
+pub use Rattle.meta_nested.specs.Tokens
+pub use Rattle.meta_nested.specs.Trees
+pub use Rattle.meta_nested.specs.Values
+pub use Rattle.meta_nested.specs.declared.nested.MetaNameValueInvalidExpr
+pub use Rattle.meta_nested.specs.declared.nested.NestedMeta

@@ -6,9 +6,8 @@ ghost use Rattle.meta_cells.specs.Dispatch as spec;
 ghost use Rattle.meta_cells.specs.Places.{answer_at};
 
 use error_core::{Error, Fail, Items, Result, Span, TokenStream};
-use meta_nested::NestedMeta;
+use meta_nested::{NestedMeta, ParseFail};
 use std::alloc::Global;
-use syn_core::ParseFail;
 
 /// The nested items that the tokens of a list are. Of tokens that are none the parser's fault is answered.
 pub fn items_of(alloc: Global, tokens: &TokenStream) -> Result<Items<NestedMeta>>

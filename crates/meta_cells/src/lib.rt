@@ -13,3 +13,9 @@ mod groups;
 pub use answer::{items_of, spanned};
 pub use call::Call;
 pub use groups::without_groups;
+pub use meta_nested::{
+    MetaNameValueInvalidExpr, NestedMeta, Parse, ParseFail, item_front, parse_expr,
+    parse_expr_array, parse_expr_path, parse_expr_range, parse_exprs, parse_fn_args, parse_ident,
+    parse_idents, parse_items, parse_path, parse_paths, parse_type, parse_type_param,
+    parse_visibility, parse_where,
+};

@@ -17,8 +17,8 @@ use Rattle.error_fault.specs.Fault.{plain, at_span}
 use Rattle.error_fault.specs.Outcome.{Outcome, Value, Faults, faults_of, on_value, settle, under}
 use Rattle.error_fault.specs.declared.fault.Fault.{Fault}
 use Rattle.error_fault.specs.declared.kind.FaultKind.TheVariants.{DuplicateField, UnexpectedFormat}
-use Rattle.meta_nested.specs.declared.nested.NestedMeta.{NestedMeta}
-use Rattle.meta_nested.specs.declared.nested.NestedMeta.TheVariants as nested
+use Rattle.meta_cells.specs.NestedMeta.{NestedMeta}
+use Rattle.meta_cells.specs.NestedMeta.TheVariants as nested
 use Rattle.meta_cells.specs.Cells.{Cells, no_cells}
 use Rattle.meta_cells.specs.Dispatch.{from_meta, from_invalid_expr}
 

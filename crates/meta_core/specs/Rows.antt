@@ -40,7 +40,7 @@ use Rattle.node_core.specs.declared.generics.WhereClause.{WhereClause}
 use Rattle.node_core.specs.declared.punctuated.Comma.{Comma}
 use Rattle.node_core.specs.declared.punctuated.Punctuated.{Punctuated}
 use Rattle.syn_grammar.specs.Trees.{type_of, expr_array_of, expr_path_of, expr_range_of, exprs_of, idents_of, paths_of, fn_args_of}
-use Rattle.syn_items.specs.Trees.{type_param_of, visibility_of, where_of}
+use Rattle.meta_cells.specs.Trees.{type_param_of, visibility_of, where_of}
 use Rattle.meta_kinds.specs.Exprs.{expr_kind_cells}
 use Rattle.meta_kinds.specs.Kinds.{type_of_kind, array_type_in, fn_ptr_type_in, group_type_in, impl_trait_type_in, infer_type_in, never_type_in, paren_type_in, ptr_type_in, reference_type_in, slice_type_in, trait_object_type_in, tuple_type_in}
 use Rattle.meta_kinds.specs.Parsed.{punctuated}

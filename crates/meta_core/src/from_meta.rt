@@ -6,8 +6,7 @@ ghost use Rattle.meta_cells.specs.Cells.{AnswersCell, Cells, GivesNone, cell_at}
 ghost use Rattle.meta_cells.specs.Dispatch as spec;
 
 use error_core::{Error, Expr, Fail, Lit, Mem, Result, Span, Spanned, TryClone};
-use meta_cells::{Call, items_of, spanned, without_groups};
-use meta_nested::{MetaNameValueInvalidExpr, NestedMeta};
+use meta_cells::{Call, MetaNameValueInvalidExpr, NestedMeta, items_of, spanned, without_groups};
 use node_core::Meta;
 use std::alloc::{AllocError, Global};
 

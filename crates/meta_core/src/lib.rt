@@ -16,8 +16,11 @@ pub use from_meta::FromMeta;
 pub use from_meta_tag::{FromMetaTag, FromMetaTagAll};
 pub use key::KeyFromPath;
 pub use map_key::{KeySet, MapKey};
-pub use meta_cells::Call;
-pub use meta_nested::{MetaNameValueInvalidExpr, NestedMeta};
+pub use meta_cells::{
+    Call, MetaNameValueInvalidExpr, NestedMeta, Parse, ParseFail, item_front, items_of, parse_expr,
+    parse_items, parse_path, spanned, without_groups,
+};
+pub use meta_reads::{read_non_zero_signed, read_non_zero_unsigned, read_signed, read_unsigned};
 pub use node_core::{
     Boxed, Comma, Expr, ExprArray, ExprPath, ExprRange, FnArg, Ident, Items, Lit, LitBool, LitByte,
     LitByteStr, LitChar, LitFloat, LitInt, LitStr, Mem, Meta, MetaList, MetaNameValue, Path,
@@ -27,4 +30,3 @@ pub use node_core::{
 };
 pub use path_list::{Intersection, PathList};
 pub use rows::read_key;
-pub use syn_core::{Parse, ParseFail};

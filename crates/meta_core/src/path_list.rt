@@ -8,8 +8,7 @@ ghost use Rattle.meta_core.specs.PathLists.{common, path_word};
 
 use crate::from_meta::FromMeta;
 use error_core::{Error, Fail, Mem, Path, Result, Text, TryClone};
-use meta_cells::Call;
-use meta_nested::NestedMeta;
+use meta_cells::{Call, NestedMeta};
 use node_core::{Items, Meta, path_to_string};
 use std::alloc::Global;
 use std::iter::FusedIterator;

@@ -11,7 +11,7 @@ use Rattle.error_fault.specs.Outcome.{Outcome}
 use Rattle.law_lexed.specs.Lexed.{tokens_in}
 use Rattle.meta_cells.specs.Dispatch.{known, tree_or}
 use Rattle.print_core.specs.Nodes.{expr_tokens}
-use Rattle.syn_core.specs.Parses.{fault_over}
+use Rattle.meta_cells.specs.Parses.{fault_over}
 
 -- the tree of a text, whose tokens stand at the span; else the text is an unknown value
 abbrev pub parsed_text : {A : Type 0} → (TokenStream → Option A) → Text → Span → Outcome A

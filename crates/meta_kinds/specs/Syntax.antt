@@ -12,7 +12,7 @@ use Rattle.node_core.specs.declared.generics.WherePredicate.{WherePredicate}
 use Rattle.error_fault.specs.Outcome.{Outcome, on_value}
 use Rattle.meta_cells.specs.Cells.{Cells, no_cells}
 use Rattle.meta_cells.specs.Groups.{without_groups}
-use Rattle.syn_items.specs.Trees.{where_of}
+use Rattle.meta_cells.specs.Trees.{where_of}
 use Rattle.meta_kinds.specs.Parsed.{parsed_text, parsed_tokens, printed}
 
 -- whether an expression is a literal

@@ -2,24 +2,24 @@
 
 ghost use Rattle.std.specs.Prelude.{codes};
 ghost use Rattle.syn_grammar.specs.Trees as trees;
-ghost use Rattle.syn_items.specs.Trees as item_trees;
+ghost use Rattle.meta_cells.specs.Trees as item_trees;
 
+use meta_cells::{
+    Parse, parse_expr, parse_expr_array, parse_expr_path, parse_expr_range, parse_ident,
+    parse_path, parse_type, parse_type_param, parse_visibility, parse_where,
+};
 use node_core::{
     Expr, ExprArray, ExprPath, ExprRange, Ident, Path, TokenStream, Type, TypeParam, Visibility,
     WhereClause,
 };
 use std::alloc::Global;
-use syn_core::{
-    Parse, parse_expr, parse_expr_array, parse_expr_path, parse_expr_range, parse_ident,
-    parse_path, parse_type, parse_type_param, parse_visibility, parse_where,
-};
 
 /// A node that all of some tokens are.
 pub trait FromTokens: Sized {
     ghost use Rattle.std.specs.Prelude.{Option};
     ghost use Rattle.base_core.specs.declared.text.Text.{Text};
     ghost use Rattle.tok_types.specs.declared.tree.TokenStream.{TokenStream};
-    ghost use Rattle.syn_core.specs.Parses.{Parses};
+    ghost use Rattle.meta_cells.specs.Parses.{Parses};
 
     // The tree of the tokens, in the grammar of the node.
     ghost tree: { TokenStream → Option Self };

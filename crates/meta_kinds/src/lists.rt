@@ -5,10 +5,10 @@ ghost use Rattle.syn_grammar.specs.Trees as trees;
 ghost use Rattle.meta_kinds.specs.Parsed.{punctuated};
 
 use crate::from_tokens::FromTokens;
+use meta_cells::{Parse, parse_exprs, parse_fn_args, parse_idents, parse_paths};
 use node_core::{Comma, Expr, FnArg, Ident, Path, Punctuated, TokenStream};
 use std::alloc::Global;
 use std::marker::PhantomData;
-use syn_core::{Parse, parse_exprs, parse_fn_args, parse_idents, parse_paths};
 
 impl FromTokens for Punctuated<Expr, Comma> {
     ghost tree = { λ tokens. option_map punctuated (trees.exprs_of tokens) };

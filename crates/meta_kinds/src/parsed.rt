@@ -7,11 +7,11 @@ ghost use Rattle.meta_kinds.specs.Parsed as spec;
 
 use crate::from_tokens::FromTokens;
 use error_core::{Error, Fail, Mem, Result, Span, TokenStream};
+use meta_cells::ParseFail;
 use meta_text::tokens_of_text;
 use node_core::Expr;
 use print_core::ToTokens;
 use std::alloc::{AllocError, Global};
-use syn_core::ParseFail;
 
 /// The node that the text is, whose tokens stand at the span. Another text is an unknown value.
 pub fn parse_text<T: FromTokens + Drop>(alloc: Global, text: &str, span: Span) -> Result<T>

@@ -4,13 +4,13 @@ ghost use Rattle.std.specs.Prelude.{codes};
 ghost use Rattle.meta_kinds.specs.Kinds as kinds;
 
 use crate::from_tokens::FromTokens;
+use meta_cells::{Parse, ParseFail, parse_type};
 use node_core::{
     TokenStream, TryClone, Type, TypeArray, TypeFnPtr, TypeGroup, TypeImplTrait, TypeInfer,
     TypeNever, TypeParen, TypePath, TypePtr, TypeReference, TypeSlice, TypeTraitObject, TypeTuple,
 };
 use node_span::Spanned;
 use std::alloc::Global;
-use syn_core::{Parse, ParseFail, parse_type};
 
 /// A node that is one kind of type.
 pub trait OfType: Sized {

@@ -6,7 +6,7 @@ ghost use Rattle.error_core.specs.ErrorView.{One};
 ghost use Rattle.meta_reads.specs.Words as spec;
 
 use error_core::{Accumulator, Error, Fail, Mem, Result};
-use meta_nested::NestedMeta;
+use meta_cells::NestedMeta;
 use std::alloc::Global;
 
 /// The `bool` that the text is.

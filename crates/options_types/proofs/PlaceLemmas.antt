@@ -5,8 +5,8 @@ use Rattle.error_fault.specs.Outcome.{Outcome, on_value, with_span}
 use Rattle.error_core.specs.Answers.{Answers}
 use Rattle.error_core.specs.declared.fail.Fail.{Fail}
 use Rattle.error_core.specs.declared.fail.Fail.TheVariants as fails
-use Rattle.meta_cells.proofs.PlaceLemmas.{answers_at}
-use Rattle.meta_cells.specs.Places.{answer_at}
+use Rattle.util_core.proofs.PlaceLemmas.{answers_at}
+use Rattle.util_core.specs.Places.{answer_at}
 use Rattle.options_types.specs.SpannedValue.{placed, placed_answer, seen_spanned}
 
 placed_answers : {X A : Type 0} (seen : X → A) (answer : Result X Fail) (outcome : Outcome A) (span : Span)

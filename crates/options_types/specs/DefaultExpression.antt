@@ -6,8 +6,8 @@ use Rattle.node_core.specs.declared.attr.Meta.TheVariants as meta
 use Rattle.node_span.specs.Spanned.{path_span}
 use Rattle.error_fault.specs.Outcome.{Outcome, Value, on_value, refused}
 use Rattle.error_fault.specs.declared.kind.FaultKind.TheVariants.{UnexpectedFormat}
-use Rattle.meta_cells.specs.Cells.{Cells, no_cells}
-use Rattle.meta_cells.specs.Dispatch.{from_expr, from_value}
+use Rattle.util_core.specs.Cells.{Cells, no_cells}
+use Rattle.util_core.specs.Dispatch.{from_expr, from_value}
 use Rattle.util_core.specs.Callable.{callable, callable_cells}
 use Rattle.options_types.specs.declared.default_expression.DefaultExpression.{DefaultExpression}
 use Rattle.options_types.specs.declared.default_expression.DefaultExpression.TheVariants as defaults

@@ -1,9 +1,9 @@
 -- Which attributes are handed on, as an option says it.
 use Rattle.std.specs.Prelude.{◌≡◌, [], Some}
 use Rattle.error_fault.specs.Outcome.{Value, on_value}
-use Rattle.meta_cells.specs.Cells.{Cells, no_cells}
-use Rattle.meta_cells.specs.Dispatch.{from_list}
-use Rattle.meta_core.specs.PathLists.{path_list_cells}
+use Rattle.util_core.specs.Cells.{Cells, no_cells}
+use Rattle.util_core.specs.Dispatch.{from_list}
+use Rattle.util_core.specs.PathLists.{path_list_cells}
 use Rattle.options_types.specs.declared.forward_attrs.ForwardAttrsFilter.{ForwardAttrsFilter}
 use Rattle.options_types.specs.declared.forward_attrs.ForwardAttrsFilter.TheVariants.{All, Only}
 

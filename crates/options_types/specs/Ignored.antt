@@ -1,7 +1,7 @@
 -- What is read and not kept.
 use Rattle.std.specs.Prelude.{Some}
 use Rattle.error_fault.specs.Outcome.{Value}
-use Rattle.meta_cells.specs.Cells.{Cells, no_cells}
+use Rattle.util_core.specs.Cells.{Cells, no_cells}
 
 -- every meta
 abbrev pub ignored_cells : Cells (Unit {0})

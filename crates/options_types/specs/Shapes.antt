@@ -13,10 +13,10 @@ use Rattle.error_fault.specs.Kind.{set_of}
 use Rattle.error_fault.specs.Outcome.{Outcome, Value, Faults, on_value}
 use Rattle.error_fault.specs.declared.kind.FaultKind.TheVariants.{UnexpectedFormat, UnknownValue}
 use Rattle.error_core.specs.Each.{each}
-use Rattle.meta_nested.specs.Nodes.{nested_span}
-use Rattle.meta_nested.specs.declared.nested.NestedMeta.{NestedMeta}
-use Rattle.meta_nested.specs.declared.nested.NestedMeta.TheVariants as nested
-use Rattle.meta_cells.specs.Cells.{Cells, no_cells}
+use Rattle.util_core.specs.Nodes.{nested_span}
+use Rattle.util_core.specs.NestedMeta.{NestedMeta}
+use Rattle.util_core.specs.NestedMeta.TheVariants as nested
+use Rattle.util_core.specs.Cells.{Cells, no_cells}
 use Rattle.options_types.specs.declared.shapes.DataShape.{DataShape}
 use Rattle.options_types.specs.declared.shapes.DeriveInputShapeSet.{DeriveInputShapeSet}
 

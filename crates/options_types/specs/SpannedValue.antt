@@ -6,9 +6,9 @@ use Rattle.node_core.specs.declared.attr.Meta.TheVariants as meta
 use Rattle.node_span.specs.Spanned as stands
 use Rattle.error_fault.specs.Outcome.{Outcome, on_value, with_span}
 use Rattle.error_core.specs.declared.fail.Fail.{Fail}
-use Rattle.meta_nested.specs.Nodes.{nested_span}
-use Rattle.meta_cells.specs.Cells.{Cells, no_cells}
-use Rattle.meta_cells.specs.Dispatch.{from_expr, from_meta, from_nested_meta, from_value}
+use Rattle.util_core.specs.Nodes.{nested_span}
+use Rattle.util_core.specs.Cells.{Cells, no_cells}
+use Rattle.util_core.specs.Dispatch.{from_expr, from_meta, from_nested_meta, from_value}
 use Rattle.options_types.specs.declared.spanned_value.SpannedValue.{SpannedValue}
 
 -- the value at this place

@@ -2,8 +2,8 @@
 use Rattle.std.specs.Prelude.{Some}
 use Rattle.node_core.specs.declared.attr.Meta.{Meta}
 use Rattle.error_fault.specs.Outcome.{Outcome, on_value}
-use Rattle.meta_cells.specs.Cells.{Cells, no_cells}
-use Rattle.meta_cells.specs.Dispatch.{from_meta}
+use Rattle.util_core.specs.Cells.{Cells, no_cells}
+use Rattle.util_core.specs.Dispatch.{from_meta}
 use Rattle.options_types.specs.declared.with_original.WithOriginal.{WithOriginal}
 
 -- the value that was read from this

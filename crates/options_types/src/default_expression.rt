@@ -1,9 +1,8 @@
 //! What stands where no item gives a value, as an option says it.
 
 use error_core::{Error, Fail, Mem, Result, Span, Spanned, TryClone};
-use meta_core::{Call, Expr, FromMeta, Meta};
 use std::alloc::Global;
-use util_core::Callable;
+use util_core::{Call, Callable, Expr, FromMeta, Meta};
 
 /// The value of a field, or of a whole receiver, where no item gives one.
 pub enum DefaultExpression {

@@ -4,8 +4,8 @@ ghost use Rattle.std.specs.Prelude.{◌↔◌, IsTrue};
 ghost use Rattle.options_types.specs.ForwardAttrs.{ForwardsNone};
 
 use error_core::{Mem, Result, TryClone};
-use meta_core::{Call, FromMeta, PathList};
 use std::alloc::Global;
+use util_core::{Call, FromMeta, PathList};
 
 /// The attributes that are handed on: all, or those of these paths.
 #[derive(PartialEq, Eq)]

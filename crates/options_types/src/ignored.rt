@@ -4,9 +4,9 @@ use body_core::{
     FromDeriveInput, FromField, FromGenericParam, FromGenerics, FromTypeParam, FromVariant,
 };
 use error_core::{Mem, Result, TryClone};
-use meta_core::{Call, FromMeta};
 use node_core::{DeriveInput, Field, GenericParam, Generics, TypeParam, Variant};
 use std::alloc::Global;
+use util_core::{Call, FromMeta};
 
 /// Any meta, and any item or part of one, of which nothing is kept.
 #[derive(Clone, Copy, PartialEq, Eq, Hash)]

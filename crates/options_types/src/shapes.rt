@@ -6,9 +6,9 @@ ghost use Rattle.error_core.specs.Each.{each};
 ghost use Rattle.options_types.specs.Shapes as spec;
 
 use error_core::{Error, Fail, Mem, Result, Text, TryClone};
-use meta_core::{Call, FromMeta, Ident, Items, Meta, NestedMeta};
 use node_core::PathSegment;
 use std::alloc::Global;
+use util_core::{Call, FromMeta, Ident, Items, Meta, NestedMeta};
 
 /// The shapes of structs, or of an enum's variants, that a receiver takes.
 #[derive(Clone, Copy, Default, PartialEq, Eq)]

@@ -1,7 +1,7 @@
 //! Values that are read with their places.
 
 ghost use Rattle.std.specs.Prelude.{◌≡◌};
-ghost use Rattle.meta_cells.specs.Places.{answer_at};
+ghost use Rattle.util_core.specs.Places.{answer_at};
 ghost use Rattle.options_types.specs.SpannedValue as spec;
 
 use crate::spanned_value::SpannedValue;
@@ -9,10 +9,9 @@ use body_core::{
     FromDeriveInput, FromField, FromGenericParam, FromGenerics, FromTypeParam, FromVariant,
 };
 use error_core::{Result, Span, Spanned};
-use meta_cells::spanned;
-use meta_core::{Call, FromMeta, Meta};
 use node_core::{DeriveInput, Field, GenericParam, Generics, TypeParam, Variant};
 use std::alloc::Global;
+use util_core::{Call, FromMeta, Meta, spanned};
 
 /// What the type inside reads, and where it stands: the word, the tokens of the list, the value behind the `=`, or the
 /// whole item.

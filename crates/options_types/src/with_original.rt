@@ -7,9 +7,9 @@ use body_core::{
     FromDeriveInput, FromField, FromGenericParam, FromGenerics, FromTypeParam, FromVariant,
 };
 use error_core::{Mem, Result, TryClone};
-use meta_core::{Call, FromMeta, Meta};
 use node_core::{DeriveInput, Field, GenericParam, Generics, TypeParam, Variant};
 use std::alloc::Global;
+use util_core::{Call, FromMeta, Meta};
 
 /// A value, and the syntax that it was read from.
 #[derive(Drop)]

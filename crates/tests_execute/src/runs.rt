@@ -2,7 +2,8 @@
 
 use darling_run::value_text;
 use error_fault::fault_line;
-use machine_core::{Element, Outcome, Program, StdHost, try_execute};
+use machine_execute::{Element, Outcome, Program, try_execute};
+use machine_std::StdHost;
 use node_core::{Mem, Text};
 use std::alloc::Global;
 use std::test::Fail;

@@ -1,0 +1,2 @@
+pub use Rattle.util_table.proofs.MapLemmas
+pub use Rattle.util_table.proofs.PlaceLemmas

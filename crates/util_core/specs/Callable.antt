@@ -17,8 +17,8 @@ use Rattle.error_fault.specs.Fault.{at_span}
 use Rattle.error_fault.specs.Outcome.{Outcome, Value, Faults}
 use Rattle.error_fault.specs.declared.kind.FaultKind.TheVariants.{Custom}
 use Rattle.law_lexed.specs.Lexed.{tokens_in}
-use Rattle.meta_cells.specs.Cells.{Cells, no_cells}
-use Rattle.meta_cells.specs.Dispatch.{unexpected_expr}
+use Rattle.util_table.specs.Cells.{Cells, no_cells}
+use Rattle.util_table.specs.Dispatch.{unexpected_expr}
 use Rattle.util_core.specs.declared.callable.Callable.{Callable}
 
 -- what calls the expression

@@ -6,8 +6,27 @@ pub mod Flag
 pub mod IdentString
 pub mod Lending
 pub mod Override
-pub use Rattle.meta_core.specs.Answers
-pub use Rattle.meta_core.specs.Cells
-pub use Rattle.meta_core.specs.Dispatch
-pub use Rattle.meta_core.specs.Outcome
+pub use Rattle.util_table.specs.Answers
+pub use Rattle.util_table.specs.Call
+pub use Rattle.util_table.specs.Cells
+pub use Rattle.util_table.specs.CellsPlaces as Places
+pub use Rattle.util_table.specs.Dispatch
+pub use Rattle.util_table.specs.Exprs as KindsExprs
+pub use Rattle.util_table.specs.Groups
+pub use Rattle.util_table.specs.Integers
+pub use Rattle.util_table.specs.Keys
+pub use Rattle.util_table.specs.KnownKeys
+pub use Rattle.util_table.specs.Lists
+pub use Rattle.util_table.specs.Maps
+pub use Rattle.util_table.specs.MetaNameValueInvalidExpr
+pub use Rattle.util_table.specs.Nested
+pub use Rattle.util_table.specs.NestedMeta
+pub use Rattle.util_table.specs.Nodes
+pub use Rattle.util_table.specs.Outcome
+pub use Rattle.util_table.specs.PathLists
+pub use Rattle.util_table.specs.Rows
+pub use Rattle.util_table.specs.Sets
+pub use Rattle.util_table.specs.Syntax
 pub use Rattle.util_table.specs.Table
+pub use Rattle.util_table.specs.Trees
+pub use Rattle.util_table.specs.Wrappers

@@ -7,10 +7,10 @@ ghost use Rattle.error_core.specs.ErrorView.{One};
 ghost use Rattle.node_expr.specs.declared.path.PathArguments.{out-PathArguments};
 ghost use Rattle.util_core.specs.ExtractOption as spec;
 
-use meta_core::{Error, Fail, Ident, Mem, Result, Span, Spanned, Type, TypeNever, TypePath};
 use node_core::{GenericArgument, Items, Path, PathArguments};
 use std::alloc::Global;
 use std::mem;
+use util_table::{Error, Fail, Ident, Mem, Result, Span, Spanned, Type, TypeNever, TypePath};
 
 /// The `T` of `Option<T>`, also of `std::option::Option<T>` and of any other path that ends so. Of another type
 /// ``expected an `Option` ``, where it stands.

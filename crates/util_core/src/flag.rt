@@ -4,8 +4,8 @@ ghost use Rattle.std.specs.Prelude.{◌≡◌, Some, is_some};
 ghost use Rattle.std.specs.Option.{unwrap_or};
 ghost use Rattle.tok_types.specs.declared.span.Span.TheVariants.{CallSite};
 
-use meta_core::{Call, Error, Fail, FromMeta, Meta, Result, Span, Spanned};
 use std::alloc::Global;
+use util_table::{Call, Error, Fail, FromMeta, Meta, Result, Span, Spanned};
 
 /// Whether a word stands in a list, and where. Where no item is, it is absent.
 #[derive(Clone, Copy, Debug, PartialEq, Eq)]

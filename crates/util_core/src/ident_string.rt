@@ -10,7 +10,6 @@ ghost use Rattle.tok_types.specs.contracts.ident.IdentPartialOrd.TheImpl.Laws as
 ghost use Rattle.tok_types.specs.declared.ident.Ident.{Ident};
 ghost use Rattle.util_core.specs.IdentString.{IsTextOf, Gives};
 
-use meta_core::{Call, FromMeta, Ident, Items, Mem, Result, Span, TryClone};
 use print_core::{ToTokens, TokenTree};
 use std::alloc::Global;
 use std::cmp::Ordering;
@@ -19,6 +18,7 @@ use std::hash::{Hash, Hasher};
 use std::marker::Model;
 use std::result;
 use tok_types::IdentError;
+use util_table::{Call, FromMeta, Ident, Items, Mem, Result, Span, TryClone};
 
 /// An identifier that keeps its text, as it is written. Contracts see the identifier.
 pub struct IdentString {

@@ -2,14 +2,14 @@
 
 ghost use Rattle.std.specs.Prelude.{◌≡◌, IfOk};
 ghost use Rattle.error_core.specs.ErrorView.{One};
-ghost use Rattle.meta_core.specs.Answers.{Answers};
+ghost use Rattle.util_table.specs.Answers.{Answers};
 ghost use Rattle.util_core.specs.Attributes as spec;
 
-use meta_core::{
-    Error, Fail, Items, Mem, Meta, MetaList, MetaNameValue, Result, Text, TokenStream, TryClone,
-};
 use node_core::{Attribute, Delimiter, push_full_path};
 use std::alloc::Global;
+use util_table::{
+    Error, Fail, Items, Mem, Meta, MetaList, MetaNameValue, Result, Text, TokenStream, TryClone,
+};
 
 /// The list that the attribute holds. A word is an empty list, and a value is a fault.
 pub fn parse_attribute_to_meta_list(alloc: Global, attr: &Attribute) -> Result<MetaList>

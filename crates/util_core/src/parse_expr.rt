@@ -1,10 +1,10 @@
 //! The value of a meta as an expression, for `with` of a field.
 
-ghost use Rattle.meta_core.specs.Answers.{Answers};
+ghost use Rattle.util_table.specs.Answers.{Answers};
 ghost use Rattle.util_core.specs.Exprs as spec;
 
-use meta_core::{Error, Expr, Fail, FromMeta, Meta, Result, Spanned, TryClone};
 use std::alloc::Global;
+use util_table::{Error, Expr, Fail, FromMeta, Meta, Result, Spanned, TryClone};
 
 /// The value as it stands; a string stays a string. A word and a list have none.
 pub fn preserve_str_literal(alloc: Global, meta: &Meta) -> Result<Expr>

@@ -3,9 +3,9 @@
 ghost use Rattle.std.specs.Prelude.{◌≡◌};
 ghost use Rattle.print_core.specs.Nodes.{expr_tokens};
 
-use meta_core::{Call, Expr, FromMeta, Items, Mem, Result, TryClone};
 use print_core::{ToTokens, TokenTree};
 use std::alloc::Global;
+use util_table::{Call, Expr, FromMeta, Items, Mem, Result, TryClone};
 
 /// Any expression, as it stands: a string stays a string, and an invisible group stays around it.
 #[derive(PartialEq, Eq, Hash)]

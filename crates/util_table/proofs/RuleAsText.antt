@@ -11,10 +11,10 @@ use Rattle.node_core.specs.declared.attr.Meta.{Meta}
 use Rattle.node_core.specs.declared.attr.Meta.TheVariants as meta
 use Rattle.node_span.specs.Spanned.{expr_layer_span, expr_span, lit_span, meta_span}
 use Rattle.error_fault.specs.Outcome.{Outcome, Value, Faults, bind, with_span}
-use Rattle.meta_cells.specs.Dispatch.{by_expr, from_list, from_meta, from_value, items_of, known}
-use Rattle.meta_cells.specs.Groups.{without_groups}
+use Rattle.meta_core.specs.Dispatch.{by_expr, from_list, from_meta, from_value, items_of, known}
+use Rattle.meta_core.specs.Groups.{without_groups}
 use Rattle.meta_core.specs.Rows.{text_cells}
-use Rattle.meta_nested.specs.declared.nested.NestedMeta.{NestedMeta}
+use Rattle.meta_core.specs.NestedMeta.{NestedMeta}
 use Rattle.util_table.specs.Rule.{rule_cells, value_span}
 use Rattle.util_table.specs.Table.{rule_of}
 use Rattle.util_table.specs.declared.row.Row.{Row}

@@ -4,9 +4,9 @@ use Rattle.tok_types.specs.declared.span.Span.{Span}
 use Rattle.node_core.specs.declared.attr.Meta.{Meta}
 use Rattle.node_core.specs.declared.attr.Meta.TheVariants as meta
 use Rattle.node_span.specs.Spanned.{expr_span, meta_span}
-use Rattle.meta_cells.specs.Cells.{Cells, no_cells}
-use Rattle.meta_cells.specs.Dispatch.{known}
-use Rattle.meta_cells.specs.Groups.{without_groups}
+use Rattle.meta_core.specs.Cells.{Cells, no_cells}
+use Rattle.meta_core.specs.Dispatch.{known}
+use Rattle.meta_core.specs.Groups.{without_groups}
 use Rattle.util_table.specs.Table.{rule_of}
 use Rattle.util_table.specs.declared.row.Row.{Row}
 use Rattle.util_table.specs.declared.rule.RenameRule.{RenameRule}

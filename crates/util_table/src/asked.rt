@@ -2,13 +2,12 @@
 
 ghost use Rattle.std.specs.Prelude.{◌≡◌};
 ghost use Rattle.error_core.specs.Answers.{Answers};
-ghost use Rattle.meta_cells.specs.Dispatch.{from_meta};
+ghost use Rattle.meta_core.specs.Dispatch.{from_meta};
 ghost use Rattle.util_table.specs.Rule as spec;
 
 use crate::rule::RenameRule;
 use crate::table::RenameTable;
-use meta_cells::without_groups;
-use meta_core::{Error, Fail, FromMeta, Meta, Result, Span, Spanned, Text};
+use meta_core::{Error, Fail, FromMeta, Meta, Result, Span, Spanned, Text, without_groups};
 use std::alloc::Global;
 
 impl RenameTable {

@@ -16,7 +16,7 @@ use crate::from_meta::FromMeta;
 use crate::key::KeyFromPath;
 use crate::map_key::{KeySet, MapKey};
 use error_core::{Accumulator, Error, Fail, Mem, Path, Result, Span, Spanned};
-use meta_nested::NestedMeta;
+use meta_cells::NestedMeta;
 use std::alloc::Global;
 
 /// The entries of the items, or the faults of all of them.

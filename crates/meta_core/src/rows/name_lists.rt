@@ -10,8 +10,7 @@ ghost use Rattle.meta_core.specs.Lists as spec;
 
 use crate::from_meta::FromMeta;
 use error_core::{Accumulator, Error, Fail, Mem, Path, Result, TryClone};
-use meta_cells::Call;
-use meta_nested::NestedMeta;
+use meta_cells::{Call, NestedMeta};
 use node_core::{Ident, Meta};
 use std::alloc::Global;
 
@@ -59,7 +58,7 @@ impl FromMeta for Vec<Path> {
 pub(crate) trait Name: Sized {
     ghost use Rattle.error_fault.specs.Outcome.{Outcome};
     ghost use Rattle.error_core.specs.Answers.{Answers};
-    ghost use Rattle.meta_nested.specs.declared.nested.NestedMeta.{NestedMeta};
+    ghost use Rattle.meta_cells.specs.NestedMeta.{NestedMeta};
 
     ghost of_item: { NestedMeta → Outcome Self };
 

@@ -11,9 +11,8 @@ ghost use Rattle.meta_core.specs.Lists as spec;
 
 use crate::from_meta::FromMeta;
 use error_core::{Error, Expr, Fail, Lit, LitStr, Result};
-use meta_cells::{Call, without_groups};
+use meta_cells::{Call, NestedMeta, without_groups};
 use meta_kinds::parse_text;
-use meta_nested::NestedMeta;
 use node_core::{ExprArray, LitBool, LitByte, LitByteStr, LitChar, LitFloat, LitInt};
 use std::alloc::Global;
 

@@ -1,5 +1,5 @@
 use Rattle.std.proofs.Common.{◌≡◌, drop}
-use Rattle.machine_steps.specs.Attributes as spec
+use Rattle.machine_read.specs.Attributes as spec
 use Rattle.machine_execute.proofs.attributes.has_name.Given as goal
 
 abbrev pub invariant-loop-other : goal.invariant-loop-other

@@ -1,4 +1,4 @@
-use Rattle.machine_steps.specs.Statements.{on_items, refuse}
+use Rattle.machine_read.specs.Statements.{on_items, refuse}
 use Rattle.machine_execute.specs.Seen.{progress_of, state_of}
 use Rattle.machine_execute.proofs.Listless.{listless}
 use Rattle.machine_execute.proofs.Steps.{ok_same}

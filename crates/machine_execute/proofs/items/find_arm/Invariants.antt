@@ -1,5 +1,5 @@
 use Rattle.std.proofs.Common.{◌≡◌, drop}
-use Rattle.machine_steps.specs.State as spec
+use Rattle.machine_read.specs.State as spec
 use Rattle.machine_execute.proofs.items.find_arm.Given as goal
 
 abbrev pub invariant-loop-arm : goal.invariant-loop-arm

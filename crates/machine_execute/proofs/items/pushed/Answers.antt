@@ -1,8 +1,8 @@
 use Rattle.std.proofs.Common.{List, length, refl}
 use Rattle.error_fault.specs.declared.fault.Fault.{Fault}
-use Rattle.machine_steps.specs.Reading as reading
-use Rattle.machine_steps.specs.State as spec
-use Rattle.machine_steps.specs.State.{Several}
+use Rattle.machine_read.specs.Reading as reading
+use Rattle.machine_read.specs.State as spec
+use Rattle.machine_read.specs.State.{Several}
 use Rattle.machine_execute.specs.Seen.{Change}
 use Rattle.machine_execute.proofs.Faulty.{AreFaults, faulty}
 use Rattle.machine_execute.proofs.items.pushed.Goals as goal

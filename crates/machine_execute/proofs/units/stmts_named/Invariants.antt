@@ -1,5 +1,5 @@
 use Rattle.std.proofs.Common.{◌≡◌, drop}
-use Rattle.machine_steps.specs.Machine as spec
+use Rattle.machine_read.specs.Machine as spec
 use Rattle.machine_execute.specs.Units.{is_such}
 use Rattle.machine_execute.proofs.units.stmts_named.Given as goal
 

@@ -1,5 +1,5 @@
 use Rattle.std.proofs.Common.{refl}
-use Rattle.meta_reads.specs.Integers.{non_zero_signed_cells}
+use Rattle.machine_cells.specs.Integers.{non_zero_signed_cells}
 use Rattle.machine_cells.specs.Values.{integer}
 use Rattle.machine_leaf.proofs.numbers.non_zero_signed_cell.Goals as goal
 

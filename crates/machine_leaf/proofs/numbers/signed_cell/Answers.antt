@@ -1,5 +1,5 @@
 use Rattle.std.proofs.Common.{refl}
-use Rattle.meta_reads.specs.Integers.{signed_cells}
+use Rattle.machine_cells.specs.Integers.{signed_cells}
 use Rattle.machine_cells.specs.Values.{integer}
 use Rattle.machine_leaf.proofs.numbers.signed_cell.Goals as goal
 

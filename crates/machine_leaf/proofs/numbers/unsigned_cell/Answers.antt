@@ -1,5 +1,5 @@
 use Rattle.std.proofs.Common.{refl}
-use Rattle.meta_reads.specs.Integers.{unsigned_cells}
+use Rattle.machine_cells.specs.Integers.{unsigned_cells}
 use Rattle.machine_cells.specs.Values.{natural}
 use Rattle.machine_leaf.proofs.numbers.unsigned_cell.Goals as goal
 

@@ -1,8 +1,8 @@
 use Rattle.tok_types.specs.Ident.{ident_text}
 use Rattle.print_core.specs.Marks.{ident}
-use Rattle.meta_cells.specs.Cells.{cell_at}
-use Rattle.meta_core.specs.Keys.{ident_same}
-use Rattle.meta_core.specs.Lists.{ident_item, names_cells}
+use Rattle.machine_cells.specs.Cells.{cell_at}
+use Rattle.machine_cells.specs.Keys.{ident_same}
+use Rattle.machine_cells.specs.Lists.{ident_item, names_cells}
 use Rattle.machine_leaf.proofs.Names.{set_fails, set_found, set_none}
 use Rattle.machine_leaf.proofs.sets.ident_set_cell.Goals as goal
 

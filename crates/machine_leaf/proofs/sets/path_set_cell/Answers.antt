@@ -1,9 +1,9 @@
 use Rattle.node_make.specs.PathText.{path_text}
 use Rattle.node_span.specs.Spanned.{path_span}
 use Rattle.machine_cells.specs.Leaves.{plain}
-use Rattle.meta_cells.specs.Cells.{cell_at}
-use Rattle.meta_core.specs.Keys.{path_same}
-use Rattle.meta_core.specs.Lists.{path_item, names_cells}
+use Rattle.machine_cells.specs.Cells.{cell_at}
+use Rattle.machine_cells.specs.Keys.{path_same}
+use Rattle.machine_cells.specs.Lists.{path_item, names_cells}
 use Rattle.machine_leaf.proofs.Names.{set_fails, set_found, set_none}
 use Rattle.machine_leaf.proofs.sets.path_set_cell.Goals as goal
 

@@ -1,7 +1,7 @@
 use Rattle.std.proofs.Common.{rules, ◌≡◌, ◌++◌, ◌+◌, ◌∙◌, ap, sym, refl, [], drop, append_assoc}
 use Rattle.error_core.specs.ErrorView.{held}
-use Rattle.meta_core.specs.Maps.{entries_of, entry_of, item_faults, keys_with, map_faults, pair_in}
-use Rattle.meta_core.proofs.MapLemmas.{left_here}
+use Rattle.machine_leaf.specs.Maps.{entries_of, entry_of, item_faults, keys_with, map_faults, pair_in}
+use Rattle.machine_leaf.proofs.MapLemmas.{left_here}
 use Rattle.machine_read.specs.Entries.{texts}
 use Rattle.machine_read.proofs.Entries.{texts-append}
 use Rattle.machine_read.proofs.map.collect_entries.Goals as goal

@@ -1,7 +1,7 @@
 use Rattle.std.proofs.Common.{◌≡◌, List, [], ◌++◌, drop}
 use Rattle.error_core.specs.ErrorView.{held}
-use Rattle.meta_core.specs.KnownKeys.{Knows}
-use Rattle.meta_core.specs.Maps.{entries_of, map_faults}
+use Rattle.machine_leaf.specs.KnownKeys.{Knows}
+use Rattle.machine_leaf.specs.Maps.{entries_of, map_faults}
 use Rattle.machine_read.specs.Entries.{texts}
 use Rattle.machine_read.proofs.map.collect_entries.Given as goal
 

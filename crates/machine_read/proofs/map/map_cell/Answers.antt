@@ -1,8 +1,8 @@
 use Rattle.std.proofs.Common.{subst, Some}
 use Rattle.meta_cells.specs.Cells.{AnswersCell}
-use Rattle.meta_core.specs.Maps.{read_entries}
+use Rattle.machine_leaf.specs.Maps.{read_entries}
 use Rattle.error_fault.specs.Outcome.{on_value}
-use Rattle.machine_cells.specs.Texts.{by_text}
+use Rattle.machine_leaf.specs.Texts.{by_text}
 use Rattle.machine_value.specs.declared.value.Value.TheVariants as value
 use Rattle.machine_read.specs.Entries.{texts}
 use Rattle.machine_read.proofs.Entries.{on_value-twice}

@@ -3,8 +3,8 @@ use Rattle.error_fault.specs.Outcome.{Value, settle}
 use Rattle.error_core.specs.Answers.{Answers}
 use Rattle.error_core.specs.ErrorView.{held}
 use Rattle.error_core.proofs.AnswersLemmas.{on_value-settle}
-use Rattle.meta_core.specs.Maps.{entries_of, map_faults}
-use Rattle.meta_core.proofs.MapLemmas.{finished}
+use Rattle.machine_leaf.specs.Maps.{entries_of, map_faults}
+use Rattle.machine_leaf.proofs.MapLemmas.{finished}
 use Rattle.machine_read.specs.Entries.{texts}
 use Rattle.machine_read.proofs.map.read_entries.Goals as goal
 

@@ -1,8 +1,8 @@
 use Rattle.std.proofs.Common.{◌++◌, ◌∙◌, ap, append_assoc}
 use Rattle.error_fault.specs.Outcome.{faults_of}
 use Rattle.error_core.specs.ErrorView.{held}
-use Rattle.meta_core.specs.Maps.{key_faults}
-use Rattle.meta_core.proofs.MapLemmas.{on_ok_map}
+use Rattle.machine_leaf.specs.Maps.{key_faults}
+use Rattle.machine_leaf.proofs.MapLemmas.{on_ok_map}
 use Rattle.node_span.specs.Spanned.{path_span}
 use Rattle.error_core.proofs.AnswersLemmas.{handled}
 use Rattle.machine_read.proofs.map.read_pair.Goals as goal

@@ -4,12 +4,12 @@ use Rattle.base_core.specs.declared.text.Text.{Text}
 use Rattle.node_core.specs.declared.attr.Attribute.{Attribute}
 use Rattle.codegen_program.specs.declared.stmt.Stmt.{Stmt}
 use Rattle.machine_read.specs.Scopes.{seen_setting}
-use Rattle.machine_steps.proofs.Statements as steps
-use Rattle.meta_nested.specs.declared.nested.NestedMeta.{NestedMeta}
-use Rattle.machine_steps.specs.Progress.{Progress, Going, Items, attributes_given, built_or_stuck, going, items_given, unless_faults}
-use Rattle.machine_steps.specs.Slots.{init_values, read_flat}
-use Rattle.machine_steps.specs.State.{Several, put, slot_at, step}
-use Rattle.machine_steps.specs.Statements as spec
+use Rattle.machine_read.proofs.Statements as steps
+use Rattle.machine_read.specs.NestedMeta.{NestedMeta}
+use Rattle.machine_read.specs.Progress.{Progress, Going, Items, attributes_given, built_or_stuck, going, items_given, unless_faults}
+use Rattle.machine_read.specs.Slots.{init_values, read_flat}
+use Rattle.machine_read.specs.State.{Several, put, slot_at, step}
+use Rattle.machine_read.specs.Statements as spec
 use Rattle.machine_execute.specs.Seen.{given_of, progress_of, state_of}
 use Rattle.machine_execute.specs.declared.progress.Progress.{Progress as Come}
 use Rattle.machine_execute.proofs.Metas.{paired, unlisted}

@@ -1,7 +1,7 @@
 use Rattle.std.proofs.Common.{◌≡◌, ◌+◌, ◌*◌, drop, fold}
 use Rattle.machine_read.specs.Scopes.{seen_setting}
-use Rattle.machine_steps.specs.Progress.{Items}
-use Rattle.machine_steps.specs.Statements as spec
+use Rattle.machine_read.specs.Progress.{Items}
+use Rattle.machine_read.specs.Statements as spec
 use Rattle.machine_execute.specs.Seen.{given_of, progress_of, state_of}
 use Rattle.machine_execute.proofs.run.Run.+stmts.Given as goal
 

@@ -1,7 +1,7 @@
 use Rattle.std.proofs.Common.{◌≡◌, ap, map, rules, ◌∙◌}
 use Rattle.machine_read.specs.Scopes.{seen_setting}
-use Rattle.machine_steps.specs.Slots.{read_flat, slot_type}
-use Rattle.machine_steps.specs.State.{State, slot_at}
+use Rattle.machine_read.specs.Slots.{read_flat, slot_type}
+use Rattle.machine_read.specs.State.{State, slot_at}
 use Rattle.machine_execute.specs.Seen.{Change, slot_of, state_of}
 use Rattle.machine_execute.proofs.Reading.{kept_read, put_back}
 use Rattle.machine_execute.proofs.run.Run.read_kept.Goals as goal

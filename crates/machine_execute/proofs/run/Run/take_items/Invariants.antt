@@ -1,6 +1,6 @@
 use Rattle.std.proofs.Common.{◌≡◌, drop, fold}
 use Rattle.machine_read.specs.Scopes.{seen_setting}
-use Rattle.machine_steps.specs.State.{step}
+use Rattle.machine_read.specs.State.{step}
 use Rattle.machine_execute.specs.Seen.{state_of}
 use Rattle.machine_execute.proofs.run.Run.take_items.Given as goal
 

@@ -1,5 +1,5 @@
 use Rattle.std.proofs.Common.{◌<◌, ◌≤◌, arith}
-use Rattle.machine_steps.specs.Machine.{setting_of}
+use Rattle.machine_read.specs.Machine.{setting_of}
 use Rattle.machine_execute.proofs.Rooms.{answers_below, answers_none}
 use Rattle.machine_execute.proofs.units.EarlierDeclared.list.Goals as goal
 

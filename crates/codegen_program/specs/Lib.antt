@@ -1,0 +1,1 @@
+pub use Rattle.util_core.specs.declared.callable.Callable
