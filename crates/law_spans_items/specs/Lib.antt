@@ -1,2 +1,2 @@
 pub mod Erased
-pub use Rattle.law_spans.specs.Erased as SpansErased
+pub use Rattle.law_spans.specs.Erased as ExprErased

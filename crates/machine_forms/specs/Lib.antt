@@ -12,7 +12,7 @@ pub use Rattle.machine_steps.specs.Erased
 pub use Rattle.machine_steps.specs.HostSays
 pub use Rattle.machine_steps.specs.Machine
 pub use Rattle.machine_steps.specs.Made
-pub use Rattle.machine_steps.specs.Names as StepsNames
+pub use Rattle.machine_steps.specs.Names as ItemNames
 pub use Rattle.machine_steps.specs.Progress
 pub use Rattle.machine_steps.specs.Reading
 pub use Rattle.machine_steps.specs.Setting

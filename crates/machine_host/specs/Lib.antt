@@ -10,5 +10,5 @@ pub mod Decls
 pub mod Lawful
 pub mod Made
 pub mod Refusing
-pub use Rattle.law_spans_items.specs.Erased as SpansItemsErased
-pub use Rattle.law_spans_items.specs.SpansErased as Erased
+pub use Rattle.law_spans_items.specs.Erased as ItemErased
+pub use Rattle.law_spans_items.specs.ExprErased as Erased

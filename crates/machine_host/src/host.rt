@@ -2,7 +2,7 @@
 
 ghost use Rattle.std.specs.Prelude.{◌≡◌, IfOk};
 ghost use Rattle.std.specs.Option.{option_copied};
-ghost use Rattle.law_spans_items.specs.SpansErased.{erased_path, erased_type};
+ghost use Rattle.law_spans_items.specs.ExprErased.{erased_path, erased_type};
 ghost use Rattle.machine_host.specs.HostSays.{erased_call, erased_decls, erased_place};
 ghost use Rattle.machine_host.specs.Seen.{seen_arg, seen_item};
 

@@ -3,10 +3,10 @@ pub mod Groups
 pub mod Dispatch
 pub mod Places
 pub use Rattle.meta_nested.specs.Answers
-pub use Rattle.meta_nested.specs.CoreNodes
 pub use Rattle.meta_nested.specs.Nested
 pub use Rattle.meta_nested.specs.Nodes
 pub use Rattle.meta_nested.specs.Parses
+pub use Rattle.meta_nested.specs.SynNodes
 pub use Rattle.meta_nested.specs.Tokens
 pub use Rattle.meta_nested.specs.Trees
 pub use Rattle.meta_nested.specs.Values

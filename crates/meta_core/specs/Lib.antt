@@ -13,7 +13,6 @@ pub use Rattle.error_core.specs.ErrorView
 pub use Rattle.error_fault.specs.Outcome
 pub use Rattle.meta_cells.specs.Answers as NestedAnswers
 pub use Rattle.meta_cells.specs.Cells
-pub use Rattle.meta_cells.specs.CoreNodes as Nodes
 pub use Rattle.meta_cells.specs.Dispatch
 pub use Rattle.meta_cells.specs.Groups
 pub use Rattle.meta_cells.specs.MetaNameValueInvalidExpr
@@ -22,6 +21,7 @@ pub use Rattle.meta_cells.specs.NestedMeta
 pub use Rattle.meta_cells.specs.Nodes as NestedNodes
 pub use Rattle.meta_cells.specs.Parses
 pub use Rattle.meta_cells.specs.Places
+pub use Rattle.meta_cells.specs.SynNodes as Nodes
 pub use Rattle.meta_cells.specs.Tokens
 pub use Rattle.meta_cells.specs.Trees
 pub use Rattle.meta_cells.specs.Values

@@ -11,7 +11,7 @@ pub use Rattle.util_table.specs.Call
 pub use Rattle.util_table.specs.Cells
 pub use Rattle.util_table.specs.CellsPlaces as Places
 pub use Rattle.util_table.specs.Dispatch
-pub use Rattle.util_table.specs.Exprs as KindsExprs
+pub use Rattle.util_table.specs.Exprs as MetaExprs
 pub use Rattle.util_table.specs.Groups
 pub use Rattle.util_table.specs.Integers
 pub use Rattle.util_table.specs.Keys
@@ -23,10 +23,15 @@ pub use Rattle.util_table.specs.Nested
 pub use Rattle.util_table.specs.NestedMeta
 pub use Rattle.util_table.specs.Nodes
 pub use Rattle.util_table.specs.Outcome
+pub use Rattle.util_table.specs.PathList
 pub use Rattle.util_table.specs.PathLists
 pub use Rattle.util_table.specs.Rows
+pub use Rattle.util_table.specs.Rule
 pub use Rattle.util_table.specs.Sets
 pub use Rattle.util_table.specs.Syntax
 pub use Rattle.util_table.specs.Table
 pub use Rattle.util_table.specs.Trees
 pub use Rattle.util_table.specs.Wrappers
+pub use Rattle.util_table.specs.declared.row.RenameKind
+pub use Rattle.util_table.specs.declared.row.Row
+pub use Rattle.util_table.specs.declared.rule.RenameRule

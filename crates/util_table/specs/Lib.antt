@@ -25,3 +25,4 @@ pub use Rattle.meta_core.specs.Sets
 pub use Rattle.meta_core.specs.Syntax
 pub use Rattle.meta_core.specs.Trees
 pub use Rattle.meta_core.specs.Wrappers
+pub use Rattle.meta_core.specs.declared.path_list.PathList
