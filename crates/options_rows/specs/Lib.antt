@@ -1,0 +1,16 @@
+pub mod Does
+pub mod Entries
+pub mod Members
+pub mod RowLaws
+pub mod Rows
+pub mod Values
+pub mod Walk
+pub use Rattle.options_types.specs.AstData
+pub use Rattle.options_types.specs.Data
+pub use Rattle.options_types.specs.PathLists
+pub use Rattle.options_types.specs.RenameKind
+pub use Rattle.options_types.specs.RenameRule
+pub use Rattle.options_types.specs.Table
+pub use Rattle.options_types.specs.declared.default_expression.DefaultExpression
+pub use Rattle.options_types.specs.declared.forward_attrs.ForwardAttrsFilter
+pub use Rattle.options_types.specs.declared.spanned_value.SpannedValue

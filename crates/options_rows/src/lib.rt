@@ -1,0 +1,18 @@
+//! How options are read from attributes: an option's item, a table's row, the walk over attributes and bodies.
+#![tactic(auto)]
+
+mod option_value;
+mod parse_attribute;
+mod parse_data;
+mod steps;
+
+pub use node_core::{Meta, WherePredicate};
+pub use node_expr::Path;
+pub use option_value::{OptionValue, word_of};
+pub use options_types::{
+    Callable, DataShape, DefaultExpression, DeriveInputShapeSet, Flag, ForwardAttrsFilter, Ignored,
+    PathList, RenameRule, RenameTable, SpannedValue, WithOriginal, ast,
+};
+pub use parse_attribute::ParseAttribute;
+pub use parse_data::ParseData;
+pub use steps::{last, last_given, last_rule, once, once_at_path, once_transform, unknown};
