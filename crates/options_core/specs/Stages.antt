@@ -1,0 +1,117 @@
+-- How each kind of options reads a declaration: its stages, its faults, and what it leaves.
+use Rattle.std.specs.Prelude.{Bool, true, false, List, [], ◌∷◌, ◌++◌, flat_map, Option, Some, None}
+use Rattle.node_core.specs.declared.attr.Meta.{Meta}
+use Rattle.node_core.specs.declared.data.Field.{Field}
+use Rattle.node_core.specs.declared.data.Variant.{Variant}
+use Rattle.node_core.specs.declared.derive.DeriveInput.{DeriveInput}
+use Rattle.error_fault.specs.Fault.{plain}
+use Rattle.error_fault.specs.Outcome.{Outcome, Value, bind, faults_of, value_of, settle}
+use Rattle.error_fault.specs.declared.fault.Fault.{Fault}
+use Rattle.options_rows.specs.Data.{no_unions}
+use Rattle.options_rows.specs.Entries.{items, option_entries}
+use Rattle.options_rows.specs.Members.{fields_of, is_union, no_variant, read_body, variants_of, field_or, variant_or}
+use Rattle.options_rows.specs.Rows.{else_faults, list_of}
+use Rattle.options_rows.specs.Values.{Rules}
+use Rattle.options_rows.specs.Walk.{all_faults, read_options}
+use Rattle.options_core.specs.declared.container.Core.{Core}
+use Rattle.options_core.specs.declared.from_derive.FdiOptions.{FdiOptions}
+use Rattle.options_core.specs.declared.from_meta.FromMetaOptions.{FromMetaOptions}
+use Rattle.options_core.specs.declared.input_field.InputField.{InputField}
+use Rattle.options_core.specs.declared.outer_from.OuterFrom.{OuterFrom}
+use Rattle.options_core.specs.Body.{core_with, fdi_checks, fdi_start, fdi_takes, field_meaning, meta_checks, meta_start, meta_takes}
+use Rattle.options_core.specs.ContainerOptions.{of_fdi, of_fdi_faults, of_meta, of_meta_faults}
+
+-- the fields without fault under this container, in order
+abbrev pub good_fields : Rules → Core → List Field → List InputField
+good_fields rules core fields = flat_map (λ field. list_of (value_of (field_meaning rules (Some core) field))) fields
+
+-- what is wrong with a field under this container
+abbrev pub field_faults : Rules → Core → Field → List Fault
+field_faults rules core field = faults_of (field_meaning rules (Some core) field)
+
+abbrev pub outer_with : OuterFrom → List InputField → OuterFrom
+outer_with set fields = record set { container = core_with set.container fields }
+
+-- a kind of options: where they begin, what stands behind items, what is wrong with an item behind what stands, what is
+-- wrong with a field under the container's options, what stands behind the fields, and what is checked of it
+pub record Reader (S : Type 0) : Type 0 where
+  pub start : S
+  pub options : S → List Meta → S
+  pub item_faults : S → Meta → List Fault
+  pub field_faults : S → Field → List Fault
+  pub with_fields : S → List Field → S
+  pub checks : S → List Fault
+
+abbrev pub fdi_reader : Rules → DeriveInput → Reader FdiOptions
+fdi_reader rules input = record {
+  start = fdi_start rules input;
+  options = of_fdi rules;
+  item_faults = of_fdi_faults rules;
+  field_faults = λ set. field_faults rules set.base.container;
+  with_fields = λ set fields. record set { base = outer_with set.base (good_fields rules set.base.container fields) };
+  checks = fdi_checks;
+}
+
+abbrev pub meta_reader : Rules → DeriveInput → Reader FromMetaOptions
+meta_reader rules input = record {
+  start = meta_start rules input;
+  options = of_meta rules;
+  item_faults = of_meta_faults rules;
+  field_faults = λ set. field_faults rules set.base;
+  with_fields = λ set fields. record set { base = core_with set.base (good_fields rules set.base fields) };
+  checks = meta_checks;
+}
+
+-- a union has no options
+abbrev pub union_faults : Bool → List Fault
+union_faults false = []
+union_faults true = plain no_unions ∷ []
+
+module _ {S : Type 0} (reader : Reader S) (input : DeriveInput) where
+  -- the options of the container
+  abbrev pub container_options : S
+  container_options = reader.options reader.start (items (option_entries input.attrs))
+
+  -- what the options of a declaration are, where nothing is wrong with them
+  abbrev pub options_of : S
+  options_of = reader.with_fields container_options (fields_of input.body)
+
+  -- what is wrong with the members, and with what they leave; no variant is read
+  abbrev pub body_faults : List Fault
+  body_faults =
+      flat_map (reader.field_faults container_options) (fields_of input.body)
+      ++ flat_map (λ variant. no_variant variant ∷ []) (variants_of input.body)
+      ++ reader.checks options_of
+
+  -- what is wrong with a declaration: a later stage counts only where nothing is wrong with the earlier
+  abbrev pub option_faults : List Fault
+  option_faults =
+      else_faults (union_faults (is_union input.body))
+      (else_faults (all_faults reader.options reader.item_faults reader.start [] (option_entries input.attrs)) body_faults)
+
+  -- what the options of a declaration are: all that is wrong, else the options
+  abbrev pub new_outcome : Outcome S
+  new_outcome = settle option_faults (Value options_of)
+
+-- the same one stage behind another, as they are read
+abbrev pub staged : {S : Type 0} → Reader S → (S → Field → Outcome S) → (S → Variant → Outcome S) → DeriveInput → Outcome S
+staged reader takes_field takes_variant input =
+    bind (settle (union_faults (is_union input.body)) (Value reader.start))
+    (λ start. bind (read_options reader.options reader.item_faults start (option_entries input.attrs))
+    (λ set. read_body takes_field takes_variant reader.checks set input.body))
+
+-- the fields that each kind of options takes; no kind takes variants
+abbrev pub fdi_own : Rules → FdiOptions → Field → Option (Outcome FdiOptions)
+fdi_own rules set field = Some (fdi_takes rules set field)
+
+abbrev pub meta_own : Rules → FromMetaOptions → Field → Option (Outcome FromMetaOptions)
+meta_own rules set field = Some (meta_takes rules set field)
+
+abbrev pub no_variants : {S : Type 0} → Rules → S → Variant → Option (Outcome S)
+no_variants rules set variant = None
+
+abbrev pub fdi_staged : Rules → DeriveInput → Outcome FdiOptions
+fdi_staged rules input = staged (fdi_reader rules input) (field_or fdi_own rules) (variant_or no_variants rules) input
+
+abbrev pub meta_staged : Rules → DeriveInput → Outcome FromMetaOptions
+meta_staged rules input = staged (meta_reader rules input) (field_or meta_own rules) (variant_or no_variants rules) input

@@ -1,0 +1,82 @@
+-- What is compiled from options, beside the options.
+use Rattle.std.specs.Prelude.{◌≡◌, false, Option, Some, None, is_some, unwrap_or}
+use Rattle.std.specs.List.{AllZip}
+use Rattle.std.specs.Option.{option_copied}
+use Rattle.tok_types.specs.declared.ident.Ident.{Ident}
+use Rattle.options_rows.specs.AstData.{«Data»}
+use Rattle.options_rows.specs.AstData.TheVariants as body
+use Rattle.codegen_core.specs.Defaults.{custom}
+use Rattle.codegen_core.specs.declared.default_expression.DefaultExpression.{DefaultExpression as Shown}
+use Rattle.codegen_core.specs.declared.default_expression.DefaultExpression.TheVariants as shown
+use Rattle.codegen_core.specs.declared.field.Field.{Field}
+use Rattle.codegen_core.specs.declared.from_derive_impl.FromDeriveInputImpl.{FromDeriveInputImpl}
+use Rattle.codegen_core.specs.declared.from_meta_impl.FromMetaImpl.{FromMetaImpl}
+use Rattle.codegen_core.specs.declared.trait_impl.TraitImpl.{TraitImpl}
+use Rattle.codegen_core.specs.declared.variant.Variant.{Variant}
+use Rattle.options_rows.specs.DefaultExpression.{DefaultExpression}
+use Rattle.options_rows.specs.DefaultExpression.TheVariants as defaults
+use Rattle.options_rows.specs.Rows.{holds}
+use Rattle.options_core.specs.declared.container.Core.{Core}
+use Rattle.options_core.specs.declared.from_derive.FdiOptions.{FdiOptions}
+use Rattle.options_core.specs.declared.from_meta.FromMetaOptions.{FromMetaOptions}
+use Rattle.options_core.specs.declared.input_field.InputField.{InputField}
+use Rattle.options_core.specs.Body.{Body}
+
+-- the same default; what is inherited is the member of this name
+abbrev pub IsDefault : Ident → Shown → DefaultExpression → Type 0
+IsDefault ident (shown.Inherit name) defaults.Inherit = name.now ≡ ident
+IsDefault ident (shown.Explicit callable) (defaults.Explicit it) = callable.now ≡ it
+IsDefault ident (shown.Trait span) (defaults.Trait it) = span ≡ it
+IsDefault ident _ _ = ⊥
+
+abbrev pub AreDefaults : Ident → Option Shown → Option DefaultExpression → Type 0
+AreDefaults ident None None = Unit {0}
+AreDefaults ident (Some left) (Some it) = IsDefault ident left it
+AreDefaults ident _ _ = ⊥
+
+-- what is compiled from the options of a field
+pub record IsField (left : Field) (it : InputField) : Type 0 where
+  pub ident : left.ident.now ≡ it.ident
+  pub name : left.name_in_attr.now ≡ it.name
+  pub ty : left.ty.now ≡ it.ty
+  pub skip : left.skip ≡ holds (λ value. value.value) it.skip
+  pub flatten : left.flatten ≡ is_some it.flatten.place
+  pub multiple : left.multiple ≡ unwrap_or it.multiple false
+  pub with : custom left.with_callable ≡ it.with
+  pub transform : option_copied left.post_transform ≡ it.post_transform
+  pub default : AreDefaults it.ident left.default_expression it.default
+
+-- a struct of these fields, written in the same way
+abbrev pub IsStruct : «Data» Variant Field → Body → Type 0
+IsStruct (body.Struct left) (body.Struct it) = (left.style ≡ it.style) × AllZip IsField left.fields it.fields
+IsStruct _ _ = ⊥
+
+-- what is compiled from the options of a struct, whatever it derives
+pub record IsImpl (left : TraitImpl) (it : Core) : Type 0 where
+  pub ident : left.ident.now ≡ it.ident
+  pub generics : left.generics.now ≡ it.generics
+  pub members : IsStruct left.body it.body
+  pub default : AreDefaults it.ident left.default it.default
+  pub transform : option_copied left.post_transform ≡ it.post_transform
+  pub allow : left.allow_unknown_fields ≡ unwrap_or it.allow_unknown_fields false
+  pub transparent : left.transparent ≡ is_some it.transparent.place
+  pub krate : option_copied left.krate ≡ it.krate
+
+-- the same under `FromDeriveInput`
+pub record IsInputImpl (left : FromDeriveInputImpl) (it : FdiOptions) : Type 0 where
+  pub base : IsImpl left.base it.base.container
+  pub names : left.attr_names.now ≡ it.base.attr_names
+  pub ident : left.from_ident ≡ it.base.from_ident
+
+-- the same under `FromMeta`
+pub record IsMetaImpl (left : FromMetaImpl) (it : FromMetaOptions) : Type 0 where
+  pub base : IsImpl left.base it.base
+  pub word : option_copied left.from_word ≡ it.from_word
+  pub none : option_copied left.from_none ≡ it.from_none
+  pub expr : option_copied left.from_expr ≡ it.from_expr
+  pub parse : left.derive_syn_parse ≡ unwrap_or it.derive_syn_parse false
+
+-- the body is that of a struct
+abbrev pub HasFields : Body → Type 0
+HasFields (body.Struct it) = Unit {0}
+HasFields (body.Enum variants) = ⊥

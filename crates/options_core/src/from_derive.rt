@@ -1,0 +1,131 @@
+//! The options of a receiver that derives `FromDeriveInput`.
+
+ghost use Rattle.std.specs.Prelude.{◌≡◌};
+ghost use Rattle.error_fault.specs.Outcome.{Value, settle};
+ghost use Rattle.error_core.specs.Answers.{Answers};
+ghost use Rattle.options_rows.specs.Does.{Does};
+ghost use Rattle.options_rows.specs.Members.{is_union};
+ghost use Rattle.options_rows.specs.Rows.{one};
+ghost use Rattle.options_core.specs.Body.{fdi_start};
+ghost use Rattle.options_core.specs.ContainerOptions.{fdi_faults, fdi_options};
+ghost use Rattle.options_core.specs.Stages as spec;
+
+use crate::names::FdiName;
+use crate::outer_from::OuterFrom;
+use error_core::{Accumulator, Mem, Result};
+use node_core::{DeriveInput, Field, Variant};
+use options_rows::{DeriveInputShapeSet, Meta, ParseAttribute, ParseData, RenameTable, last_given};
+use std::alloc::Global;
+
+/// The options of a receiver that derives `FromDeriveInput`.
+pub struct FdiOptions {
+    pub base: OuterFrom,
+    /// The items that it takes.
+    pub supports: Option<DeriveInputShapeSet>,
+}
+
+impl FdiOptions {
+    /// The options of a declaration, or all that is wrong with them.
+    pub fn new(alloc: Global, di: &DeriveInput, table: &RenameTable) -> Result<FdiOptions>
+        ensures { Answers (λ it. it) result (spec.new_outcome (spec.fdi_reader table.now di.now) di.now) }
+    {
+        FdiOptions::read(alloc, di, table)
+    }
+
+    /// One stage behind another.
+    fn read(alloc: Global, di: &DeriveInput, table: &RenameTable) -> Result<FdiOptions>
+        ensures { Answers (λ it. it) result (spec.fdi_staged table.now di.now) }
+    {
+        let start = FdiOptions::start(alloc, di, table)?;
+        let read = start.parse_attributes(alloc, di.attrs.as_slice(), table)?;
+        read.parse_body(alloc, &di.body, table)
+    }
+
+    /// No option and no member yet. A union is refused.
+    fn start(alloc: Global, di: &DeriveInput, table: &RenameTable) -> Result<FdiOptions>
+        ensures { Answers (λ it. it) result
+            (settle (spec.union_faults (is_union di.now.body)) (Value (fdi_start table.now di.now))) }
+    {
+        Ok(FdiOptions {
+            base: OuterFrom::start(alloc, di, table)?,
+            supports: None,
+        })
+    }
+
+    /// Sets the option that the item is of.
+    fn apply(
+        &mut self,
+        alloc: Global,
+        name: FdiName,
+        item: &Meta,
+        table: &RenameTable,
+    ) -> Result<()>
+        ensures { Does result (fdi_faults table.now name self.old item.now)
+            (self.new ≡ fdi_options table.now self.old (one name item.now)) }
+    {
+        match name {
+            FdiName::Supports => last_given(alloc, &mut self.supports, item),
+            FdiName::Outer(name) => self.base.apply(alloc, name, item, table),
+        }
+    }
+}
+
+impl Drop for FdiOptions {
+    fn drop(self) {
+        let Self {
+            base: _base,
+            supports: _,
+        } = self;
+    }
+}
+
+impl ParseAttribute for FdiOptions {
+    ghost use Rattle.std.specs.Prelude.{refl};
+    ghost use Rattle.options_core.specs.ContainerLaws.{of_fdi-more};
+    ghost use Rattle.options_core.specs.ContainerOptions.{of_fdi, of_fdi_faults};
+
+    ghost options = { of_fdi };
+
+    ghost faults = { of_fdi_faults };
+
+    fn parse_nested(&mut self, alloc: Global, item: &Meta, table: &RenameTable) -> Result<()> {
+        self.apply(alloc, FdiName::of(item.path()), item, table)
+    }
+
+    ghost more = { of_fdi-more };
+
+    ghost none = { λ rules set. refl };
+}
+
+impl ParseData for FdiOptions {
+    ghost use Rattle.options_core.specs.Body.{fdi_checks};
+    ghost use Rattle.options_core.specs.Stages.{fdi_own, no_variants};
+
+    ghost of_field = { fdi_own };
+
+    ghost of_variant = { no_variants };
+
+    ghost checks = { fdi_checks };
+
+    fn own_field(
+        &mut self,
+        alloc: Global,
+        field: &Field,
+        table: &RenameTable,
+    ) -> Result<Option<()>> {
+        self.base.own_field(alloc, field, table)
+    }
+
+    fn own_variant(
+        &mut self,
+        _alloc: Global,
+        _variant: &Variant,
+        _table: &RenameTable,
+    ) -> Result<Option<()>> {
+        Ok(None)
+    }
+
+    fn validate_body(&self, alloc: Global, errors: &mut Accumulator) -> Mem<()> {
+        self.base.validate_body(alloc, errors)
+    }
+}

@@ -1,0 +1,253 @@
+//! The options of a receiver that derives `FromMeta`.
+
+ghost use Rattle.std.specs.Prelude.{◌≡◌, ◌++◌, codes, false, length, IfOk, OnOk};
+ghost use Rattle.error_fault.specs.Outcome.{Value, settle};
+ghost use Rattle.error_core.specs.Answers.{Answers};
+ghost use Rattle.error_core.specs.ErrorView.{One, held};
+ghost use Rattle.options_rows.specs.Does.{Does};
+ghost use Rattle.options_rows.specs.Members.{is_union};
+ghost use Rattle.options_rows.specs.Rows.{one};
+ghost use Rattle.options_core.specs.Body as body;
+ghost use Rattle.options_core.specs.ContainerOptions.{meta_faults, meta_options};
+ghost use Rattle.options_core.specs.Stages as spec;
+
+use crate::container::Core;
+use crate::input_field::InputField;
+use crate::names::MetaName;
+use error_core::{Accumulator, Error, Mem, Result, Text};
+use node_core::{DeriveInput, Field, Style, Variant};
+use options_rows::ast::{Data, Fields};
+use options_rows::{Callable, Flag, Meta, ParseAttribute, ParseData, RenameTable, once_at_path};
+use std::alloc::Global;
+
+/// The options of a receiver that derives `FromMeta`.
+pub struct FromMetaOptions {
+    pub base: Core,
+    /// What a word alone is read by.
+    pub from_word: Option<Callable>,
+    /// What it is where no item is.
+    pub from_none: Option<Callable>,
+    /// What a value is read by.
+    pub from_expr: Option<Callable>,
+    /// Whether the type is read by `syn` too.
+    pub derive_syn_parse: Option<bool>,
+}
+
+impl FromMetaOptions {
+    /// The options of a declaration, or all that is wrong with them. Of an enum nothing is told so far.
+    pub fn new(alloc: Global, di: &DeriveInput, table: &RenameTable) -> Result<FromMetaOptions>
+        ensures { body.is_enum di.now.body ≡ false → Answers (λ it. it) result (spec.new_outcome (spec.meta_reader table.now di.now) di.now) }
+    {
+        FromMetaOptions::read(alloc, di, table)
+    }
+
+    /// One stage behind another.
+    fn read(alloc: Global, di: &DeriveInput, table: &RenameTable) -> Result<FromMetaOptions>
+        ensures { Answers (λ it. it) result (spec.meta_staged table.now di.now) }
+    {
+        let start = FromMetaOptions::start(alloc, di, table)?;
+        let read = start.parse_attributes(alloc, di.attrs.as_slice(), table)?;
+        read.parse_body(alloc, &di.body, table)
+    }
+
+    /// No option and no member yet. A union is refused.
+    fn start(alloc: Global, di: &DeriveInput, table: &RenameTable) -> Result<FromMetaOptions>
+        ensures { Answers (λ it. it) result
+            (settle (spec.union_faults (is_union di.now.body)) (Value (body.meta_start table.now di.now))) }
+    {
+        Ok(FromMetaOptions {
+            base: Core::start(alloc, di, table)?,
+            from_word: None,
+            from_none: None,
+            from_expr: None,
+            derive_syn_parse: None,
+        })
+    }
+
+    /// Sets the option that the item is of.
+    fn apply(
+        &mut self,
+        alloc: Global,
+        name: MetaName,
+        item: &Meta,
+        table: &RenameTable,
+    ) -> Result<()>
+        ensures { Does result (meta_faults table.now name self.old item.now)
+            (self.new ≡ meta_options table.now self.old (one name item.now)) }
+    {
+        match name {
+            MetaName::FromWord => once_at_path(alloc, &mut self.from_word, item),
+            MetaName::FromNone => once_at_path(alloc, &mut self.from_none, item),
+            MetaName::FromExpr => once_at_path(alloc, &mut self.from_expr, item),
+            MetaName::DeriveSynParse => once_at_path(alloc, &mut self.derive_syn_parse, item),
+            MetaName::Core(name) => self.base.apply(alloc, name, item, table),
+        }
+    }
+
+    /// What is called for a struct is of use.
+    fn check_calls(&self, alloc: Global, errors: &mut Accumulator) -> Mem<()>
+        ensures { OnOk result (held errors.new ≡ held errors.old ++ body.call_faults self.now self.now.base.body) }
+    {
+        let Data::Struct(it) = &self.base.body else {
+            return Ok(());
+        };
+        let delegated = is_delegated(it, &self.base.transparent);
+        check_word(alloc, is_unit(it.style), delegated, &self.from_word, errors)?;
+        check_expr(alloc, delegated, &self.from_expr, errors)
+    }
+}
+
+impl Drop for FromMetaOptions {
+    fn drop(self) {
+        let Self {
+            base: _base,
+            from_word: _from_word,
+            from_none: _from_none,
+            from_expr: _from_expr,
+            derive_syn_parse: _,
+        } = self;
+    }
+}
+
+impl ParseAttribute for FromMetaOptions {
+    ghost use Rattle.std.specs.Prelude.{refl};
+    ghost use Rattle.options_core.specs.ContainerLaws.{of_meta-more};
+    ghost use Rattle.options_core.specs.ContainerOptions.{of_meta, of_meta_faults};
+
+    ghost options = { of_meta };
+
+    ghost faults = { of_meta_faults };
+
+    fn parse_nested(&mut self, alloc: Global, item: &Meta, table: &RenameTable) -> Result<()> {
+        self.apply(alloc, MetaName::of(item.path()), item, table)
+    }
+
+    ghost more = { of_meta-more };
+
+    ghost none = { λ rules set. refl };
+}
+
+impl ParseData for FromMetaOptions {
+    ghost use Rattle.options_core.specs.Body.{meta_checks};
+    ghost use Rattle.options_core.specs.Stages.{meta_own, no_variants};
+
+    ghost of_field = { meta_own };
+
+    ghost of_variant = { no_variants };
+
+    ghost checks = { meta_checks };
+
+    fn own_field(
+        &mut self,
+        alloc: Global,
+        field: &Field,
+        table: &RenameTable,
+    ) -> Result<Option<()>> {
+        self.base.own_field(alloc, field, table)
+    }
+
+    fn own_variant(
+        &mut self,
+        _alloc: Global,
+        _variant: &Variant,
+        _table: &RenameTable,
+    ) -> Result<Option<()>> {
+        Ok(None)
+    }
+
+    fn validate_body(&self, alloc: Global, errors: &mut Accumulator) -> Mem<()> {
+        self.base.validate_body(alloc, errors)?;
+        self.check_calls(alloc, errors)
+    }
+}
+
+/// Whether a struct is read as its one field is: a tuple of one, or one with names that says so.
+fn is_delegated(fields: &Fields<InputField>, transparent: &Flag) -> bool
+    ensures { result ≡ body.is_delegated fields.now.style (length fields.now.fields) transparent.now.place }
+{
+    match fields.style {
+        Style::Tuple => fields.len() == 1,
+        Style::Struct => transparent.is_present(),
+        Style::Unit => false,
+    }
+}
+
+fn is_unit(style: Style) -> bool
+    ensures { result ≡ body.is_unit style }
+{
+    match style {
+        Style::Unit => true,
+        Style::Tuple => false,
+        Style::Struct => false,
+    }
+}
+
+fn check_word(
+    alloc: Global,
+    unit: bool,
+    delegated: bool,
+    from_word: &Option<Callable>,
+    errors: &mut Accumulator,
+) -> Mem<()>
+    ensures { OnOk result (held errors.new ≡ held errors.old ++ body.word_faults unit delegated from_word.now) }
+{
+    let Some(callable) = from_word else {
+        return Ok(());
+    };
+    if unit {
+        let error = on_unit(alloc, callable)?;
+        return errors.push(alloc, error);
+    }
+    if delegated {
+        let error = on_transparent(alloc, "from_word", callable)?;
+        return errors.push(alloc, error);
+    }
+    Ok(())
+}
+
+fn check_expr(
+    alloc: Global,
+    delegated: bool,
+    from_expr: &Option<Callable>,
+    errors: &mut Accumulator,
+) -> Mem<()>
+    ensures { OnOk result (held errors.new ≡ held errors.old ++ body.expr_faults delegated from_expr.now) }
+{
+    let Some(callable) = from_expr else {
+        return Ok(());
+    };
+    if delegated {
+        let error = on_transparent(alloc, "from_expr", callable)?;
+        return errors.push(alloc, error);
+    }
+    Ok(())
+}
+
+#[tactic(auto, unfolding(crate::specs::Body::on_unit))]
+fn on_unit(alloc: Global, callable: &Callable) -> Mem<Error>
+    ensures { IfOk result (λ error. error ≡ One (body.on_unit callable.now)) }
+{
+    let text =
+        "`from_word` cannot be used on unit structs because it conflicts with the generated impl";
+    Ok(Error::custom(alloc, text)?.with_span(callable.as_ref()))
+}
+
+#[tactic(auto, unfolding(crate::specs::Body::on_transparent))]
+fn on_transparent(alloc: Global, word: &str, callable: &Callable) -> Mem<Error>
+    ensures { IfOk result (λ error. error ≡ One (body.on_transparent word.now callable.now)) }
+{
+    let text = on_transparent_text(alloc, word)?;
+    Ok(Error::custom(alloc, text.as_str())?.with_span(callable.as_ref()))
+}
+
+fn on_transparent_text(alloc: Global, word: &str) -> Mem<Text>
+    ensures { IfOk result (λ text. text
+        ≡ codes "`" ++ word.now ++ codes "` cannot be used on transparent structs because the implementation is entirely delegated to the inner type") }
+{
+    let mut text = Text::from_str(alloc, "`")?;
+    text.push_str(word)?;
+    text.push_str(
+        "` cannot be used on transparent structs because the implementation is entirely delegated to the inner type",
+    )?;
+    Ok(text)
+}
