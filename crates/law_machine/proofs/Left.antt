@@ -19,13 +19,13 @@ use Rattle.law_machine.specs.Compiles.{IsDecl, IsField, meant_fallback}
 use Rattle.law_machine.specs.Left.{IsLeft, IsLeftDefault, IsLeftField, meant_decl, meant_field, own_default, shape_of}
 use Rattle.law_machine.proofs.Units.{input_is_meaning, list_is_meaning}
 
-many_is : (many flat : Bool) → (many && flat) ≡ false → many ≡ is_many (shape_of many flat)
+pub many_is : (many flat : Bool) → (many && flat) ≡ false → many ≡ is_many (shape_of many flat)
 many_is true true is = cc
 many_is false true is = refl
 many_is true false is = refl
 many_is false false is = refl
 
-flat_is : (many flat : Bool) → flat ≡ is_flat (shape_of many flat)
+pub flat_is : (many flat : Bool) → flat ≡ is_flat (shape_of many flat)
 flat_is many true = refl
 flat_is true false = refl
 flat_is false false = refl

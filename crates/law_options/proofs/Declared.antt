@@ -1,0 +1,160 @@
+-- What is compiled from options is of the declaration that they mean.
+use Rattle.std.proofs.Common.{◌≡◌, ◌∙◌, ℕ, Bool, false, List, [], ◌∷◌, map, Option, Some, None, option_map, refl, sym, ap}
+use Rattle.std.specs.Prelude.{is_some, option_and_then, unwrap_or}
+use Rattle.std.specs.List.{AllByRecursion, AllZip}
+use Rattle.base_core.specs.declared.text.Text.{Text}
+use Rattle.tok_types.specs.Ident.{ident_text}
+use Rattle.tok_types.specs.declared.ident.Ident.{Ident}
+use Rattle.node_make.specs.PathText.{path_text}
+use Rattle.node_core.specs.declared.data.«Data».{«Data» as NodeData}
+use Rattle.node_core.specs.declared.data.«Data».TheVariants as node
+use Rattle.node_core.specs.declared.derive.DeriveInput.{DeriveInput}
+use Rattle.codegen_program.specs.declared.program.Derive.{Derive}
+use Rattle.codegen_core.specs.Compiled.{struct_fields}
+use Rattle.codegen_core.specs.Defaults.{fallback as falls, source}
+use Rattle.codegen_core.specs.declared.default_expression.DefaultExpression.{DefaultExpression as Shown}
+use Rattle.codegen_core.specs.declared.default_expression.DefaultExpression.TheVariants as shown
+use Rattle.codegen_core.specs.declared.field.Field.{Field}
+use Rattle.codegen_core.specs.declared.trait_impl.TraitImpl.{TraitImpl}
+use Rattle.codegen_core.specs.declared.variant.Variant.{Variant}
+use Rattle.law_machine.specs.Decl.{Decl, FieldDecl, Default, OfCall, OfContainer, fallback_by, skip_fallback}
+use Rattle.options_core.specs.AstData.{«Data»}
+use Rattle.options_core.specs.AstData.TheVariants as container
+use Rattle.options_core.specs.DefaultExpression.{DefaultExpression}
+use Rattle.options_core.specs.DefaultExpression.TheVariants as defaults
+use Rattle.options_core.specs.Entries.{items, option_entries}
+use Rattle.options_core.specs.Members.{fields_of}
+use Rattle.options_core.specs.Rows.{values}
+use Rattle.options_core.specs.Values.{Rules}
+use Rattle.options_core.specs.declared.container.Core.{Core}
+use Rattle.options_core.specs.declared.input_field.InputField.{InputField}
+use Rattle.options_core.specs.Body.{Body, start_body, with_fields}
+use Rattle.options_core.specs.ContainerOptions.{core_items, default, fdi_named, from_ident_of, meta_core_items, meta_named, outer_items, same_core}
+use Rattle.options_core.specs.Stages.{container_options, fdi_reader, good_fields, meta_reader}
+use Rattle.options_core.specs.Views as views
+use Rattle.options_core.specs.Views.{AreDefaults, IsImpl, IsStruct}
+use Rattle.law_machine.specs.Compiles.{IsDecl, IsField, meant_default, meant_fallback}
+use Rattle.law_machine.proofs.Left.{flat_is, many_is}
+use Rattle.law_options.specs.Claims.{InputOptionsAreMeant, ItemOptionsAreMeant}
+use Rattle.law_options.specs.Meant.{fields_in, meant_decl, meant_field, own_default}
+use Rattle.law_options.proofs.Fields.{Falls, IsLeft, fields_are}
+use Rattle.law_options.proofs.Owns.{IsOwnIfAny, all-append, first_default, replaced_default}
+
+-- ---- defaults
+
+fallback_is : (ident : Ident) (field : FieldDecl) (whole : Option Default) (left : Option Shown) (it : Option DefaultExpression)
+    → ident_text ident ≡ field.member → AreDefaults ident left it → Falls whole field.skip it
+    → option_map meant_fallback (option_map falls left) ≡ fallback_by field whole (own_default it)
+fallback_is ident field None None None named are is = ap skip_fallback (sym is)
+fallback_is ident field (Some whole) None None named are is = absurd is
+fallback_is ident field whole None (Some it) named are is = absurd are
+fallback_is ident field whole (Some left) None named are is = absurd are
+fallback_is ident field (Some whole) (Some (shown.Inherit name)) (Some defaults.Inherit) named are is =
+    ap (λ text. Some (OfContainer text)) (ap ident_text are ∙ named)
+fallback_is ident field None (Some (shown.Inherit name)) (Some defaults.Inherit) named are is = absurd is
+fallback_is ident field whole (Some (shown.Inherit name)) (Some (defaults.Explicit it)) named are is = absurd are
+fallback_is ident field whole (Some (shown.Inherit name)) (Some (defaults.Trait it)) named are is = absurd are
+fallback_is ident field whole (Some (shown.Explicit callable)) (Some defaults.Inherit) named are is = absurd are
+fallback_is ident field whole (Some (shown.Explicit callable)) (Some (defaults.Explicit it)) named are is = ap (λ call. Some (OfCall call)) are
+fallback_is ident field whole (Some (shown.Explicit callable)) (Some (defaults.Trait it)) named are is = absurd are
+fallback_is ident field whole (Some (shown.Trait span)) (Some defaults.Inherit) named are is = absurd are
+fallback_is ident field whole (Some (shown.Trait span)) (Some (defaults.Explicit it)) named are is = absurd are
+fallback_is ident field whole (Some (shown.Trait span)) (Some (defaults.Trait it)) named are is = refl
+
+default_is : (ident : Ident) (left : Option Shown) (it : Option DefaultExpression) → AreDefaults ident left it
+    → option_and_then meant_default (option_and_then source left) ≡ own_default it
+default_is ident None None are = refl
+default_is ident None (Some it) are = absurd are
+default_is ident (Some left) None are = absurd are
+default_is ident (Some (shown.Inherit name)) (Some defaults.Inherit) are = refl
+default_is ident (Some (shown.Inherit name)) (Some (defaults.Explicit it)) are = absurd are
+default_is ident (Some (shown.Inherit name)) (Some (defaults.Trait it)) are = absurd are
+default_is ident (Some (shown.Explicit callable)) (Some defaults.Inherit) are = absurd are
+default_is ident (Some (shown.Explicit callable)) (Some (defaults.Explicit it)) are = ap (λ call. own_default (Some (defaults.Explicit call))) are
+default_is ident (Some (shown.Explicit callable)) (Some (defaults.Trait it)) are = absurd are
+default_is ident (Some (shown.Trait span)) (Some defaults.Inherit) are = absurd are
+default_is ident (Some (shown.Trait span)) (Some (defaults.Explicit it)) are = absurd are
+default_is ident (Some (shown.Trait span)) (Some (defaults.Trait it)) are = refl
+
+-- ---- fields
+
+module _ (decl : Decl) where
+  field_is : (left : Field) (it : InputField) → views.IsField left it → IsLeft decl.default it → IsField decl left (meant_field it)
+  field_is left it is left_so =
+      let many = unwrap_or it.multiple false in
+      let flat = is_some it.flatten.place in
+      record {
+        member = ap ident_text is.ident;
+        name = is.name;
+        type = is.ty;
+        many = is.multiple ∙ many_is many flat left_so.one_shape;
+        flat = is.flatten ∙ flat_is many flat;
+        skip = is.skip;
+        with = is.with;
+        transform = is.transform;
+        fallback = fallback_is it.ident (meant_field it) decl.default left.default_expression it.default refl is.default left_so.default;
+      }
+
+  all_are : (lefts : List Field) (its : List InputField) → AllZip views.IsField lefts its → AllByRecursion (IsLeft decl.default) its
+      → AllZip (IsField decl) lefts (map meant_field its)
+  all_are [] [] zip are = tt
+  all_are [] (it ∷ its) zip are = absurd zip
+  all_are (left ∷ lefts) [] zip are = absurd zip
+  all_are (left ∷ lefts) (it ∷ its) zip are = (field_is left it zip.0 are.0, all_are lefts its zip.1 are.1)
+
+  body_is : (left : «Data» Variant Field) (it : Body) → IsStruct left it → AllByRecursion (IsLeft decl.default) (fields_in it)
+      → AllZip (IsField decl) (struct_fields left) (map meant_field (fields_in it))
+  body_is (container.Struct left) (container.Struct it) is are = all_are left.fields it.fields is.1 are
+  body_is (container.Struct left) (container.Enum variants) is are = absurd is
+  body_is (container.Enum lefts) (container.Struct it) is are = absurd is
+  body_is (container.Enum lefts) (container.Enum variants) is are = absurd is
+
+decl_is : (left : TraitImpl) (core : Core) (number : ℕ) (derives : List Derive) (names : List Text) → IsImpl left core
+    → AllByRecursion (IsLeft (own_default core.default)) (fields_in core.body) → IsDecl left (meant_decl number derives names core)
+decl_is left core number derives names is are =
+    record {
+      name = ap ident_text is.ident;
+      fields = body_is (meant_decl number derives names core) left.body core.body is.members are;
+      default = default_is core.ident left.default core.default is.default;
+      transform = is.transform;
+      allows_unknown = is.allow;
+    }
+
+-- ---- containers
+
+start_is : (P : InputField → Type 0) (body : NodeData) → AllByRecursion P (fields_in (start_body body))
+start_is P (node.Struct it) = tt
+start_is P (node.Enum it) = tt
+start_is P (node.Union it) = tt
+
+with_is : (P : InputField → Type 0) (body : Body) (fields : List InputField) → AllByRecursion P (fields_in body) → AllByRecursion P fields
+    → AllByRecursion P (fields_in (with_fields body fields))
+with_is P (container.Enum variants) fields are more = tt
+with_is P (container.Struct it) fields are more = all-append P it.fields fields are more
+
+-- the fields that a container ends with
+whole_is : (rules : Rules) (core : Core) (input : DeriveInput) → IsOwnIfAny core.default → core.body ≡ start_body input.body
+    → AllByRecursion (IsLeft (own_default core.default)) (fields_in (with_fields (start_body input.body) (good_fields rules core (fields_of input.body))))
+whole_is rules core input own is =
+    let P = IsLeft (own_default core.default) in
+    with_is P (start_body input.body) (good_fields rules core (fields_of input.body)) (start_is P input.body) (fields_are rules core own (fields_of input.body))
+
+pub input_options_are : InputOptionsAreMeant
+input_options_are rules input left number derives is no_ident =
+    let set = container_options (fdi_reader rules input) input in
+    let named = outer_items (map fdi_named (items (option_entries input.attrs))) in
+    let own =
+    replaced_default _ (values _ from_ident_of named)
+    (first_default (same_core default.name) None (core_items named) tt) in
+    record {
+      base = decl_is left.base _ number derives _ is.base (whole_is rules set.base.container input own refl);
+      attributes = ap (λ names. map path_text names.0) is.names;
+      no_ident = no_ident;
+    }
+
+pub item_options_are : ItemOptionsAreMeant
+item_options_are rules input left number derives is =
+    let set = container_options (meta_reader rules input) input in
+    let named = map meta_named (items (option_entries input.attrs)) in
+    let own = first_default (same_core default.name) None (meta_core_items named) tt in
+    decl_is left.base _ number derives [] is.base (whole_is rules set.base input own refl)

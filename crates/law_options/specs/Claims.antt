@@ -1,0 +1,25 @@
+-- What is claimed of options.
+use Rattle.std.specs.Prelude.{◌≡◌, ℕ, false, List}
+use Rattle.node_core.specs.declared.derive.DeriveInput.{DeriveInput}
+use Rattle.codegen_core.specs.declared.from_derive_impl.FromDeriveInputImpl.{FromDeriveInputImpl}
+use Rattle.codegen_core.specs.declared.from_meta_impl.FromMetaImpl.{FromMetaImpl}
+use Rattle.codegen_program.specs.declared.program.Derive.{Derive}
+use Rattle.options_core.specs.Values.{Rules}
+use Rattle.options_core.specs.Stages.{fdi_reader, meta_reader, options_of}
+use Rattle.options_core.specs.Views.{IsInputImpl, IsMetaImpl}
+use Rattle.law_machine.specs.Compiles.{IsDecl, IsInputDecl}
+use Rattle.law_options.specs.Meant.{meant_input, meant_items}
+
+-- what is compiled from the options of `FromDeriveInput` is of the declaration that they mean
+abbrev pub InputOptionsAreMeant : Type 0
+InputOptionsAreMeant =
+    (rules : Rules) (input : DeriveInput) (left : FromDeriveInputImpl) (number : ℕ) (derives : List Derive)
+    → IsInputImpl left (options_of (fdi_reader rules input) input) → left.from_ident ≡ false
+    → IsInputDecl left (meant_input number derives (options_of (fdi_reader rules input) input))
+
+-- the same of `FromMeta`
+abbrev pub ItemOptionsAreMeant : Type 0
+ItemOptionsAreMeant =
+    (rules : Rules) (input : DeriveInput) (left : FromMetaImpl) (number : ℕ) (derives : List Derive)
+    → IsMetaImpl left (options_of (meta_reader rules input) input)
+    → IsDecl left.base (meant_items number derives (options_of (meta_reader rules input) input))

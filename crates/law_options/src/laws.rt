@@ -1,0 +1,13 @@
+//! The laws. These functions do nothing: their clauses are the laws.
+
+ghost use Rattle.law_options.specs.Claims.{InputOptionsAreMeant, ItemOptionsAreMeant};
+
+/// What is compiled from the options of a receiver that derives `FromDeriveInput` is of the declaration that they mean.
+pub fn input_options_are_meant()
+    ensures { InputOptionsAreMeant }
+{}
+
+/// The same of one that derives `FromMeta`.
+pub fn item_options_are_meant()
+    ensures { ItemOptionsAreMeant }
+{}
