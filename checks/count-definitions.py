@@ -16,7 +16,7 @@ TOP = os.path.join(os.path.dirname(os.path.abspath(__file__)), "..", "crates")
 ROWS = """tok_core::lex tok_core::to_text tok_core::read_again syn_core::parse_type syn_core::parse_expr
 syn_core::parse_derive_input syn_core::parse_items syn_items::item_front print_core/specs/Items print_core/specs/Nodes
 syn_reread::reread_type syn_reread::reread_derive_input error_core::finish_with error_core::write_errors
-meta_nested::parse_meta_list meta_cells/specs/Dispatch meta_core/specs/Rows meaning_core::read law_machine/specs/Claims darling_run::run_tool""".split()
+meta_nested::parse_meta_list meta_cells/specs/Dispatch meta_core/specs/Rows meaning_core::read options_core/specs/Stages machine_execute::execute law_machine/specs/Claims darling_run::run_tool""".split()
 
 
 def text_of(path):
@@ -24,12 +24,26 @@ def text_of(path):
         return file.read()
 
 
+def handed_on(crate):
+    """The modules of other crates that a crate hands on, each by its name there."""
+    path = os.path.join(TOP, crate, "specs", "Lib.antt")
+    found = {}
+    for other, inside, name in re.findall(r"^pub use Rattle\.(\w+)\.specs\.(\S+?)(?: as (\S+))?$", text_of(path) if os.path.isfile(path) else "", re.M):
+        found[name or inside.split(".")[-1]] = (other, inside.split("."))
+    return found
+
+
 def file_of(crate, parts):
-    """The file of definitions CRATE/specs/A/B.antt that the longest front of a module's path names."""
+    """The file of definitions CRATE/specs/A/B.antt that the longest front of a module's path names, there or where the crate has it from."""
+    if parts[0] == "declared":
+        return None
     for end in range(len(parts), 0, -1):
         path = os.path.join(TOP, crate, "specs", *parts[:end]) + ".antt"
         if os.path.isfile(path):
             return path
+    if parts[0] in handed_on(crate):
+        other, inside = handed_on(crate)[parts[0]]
+        return file_of(other, inside + parts[1:])
     return None
 
 
@@ -38,8 +52,6 @@ def imports(text, ends=r"(?=\n(?!\s))|\Z"):
     pattern = r"^\s*(?:ghost |pub )*use Rattle\.(\w+)\.specs\.([\w.]+?)(?:\.\{([^}]*)\})?(?: as (\w+))?;?\s*$"
     for crate, path, words, name in re.findall(pattern, text, re.M):
         parts = path.split(".")
-        if parts[0] == "declared":
-            continue
         file = file_of(crate, parts)
         if file:
             yield file, words, name or parts[-1]
