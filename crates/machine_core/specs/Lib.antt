@@ -12,8 +12,10 @@ pub use Rattle.machine_fit.specs.ItemNames
 pub use Rattle.machine_fit.specs.Machine
 pub use Rattle.machine_fit.specs.MachineSlots as Slots
 pub use Rattle.machine_fit.specs.Names
+pub use Rattle.machine_fit.specs.Places
 pub use Rattle.machine_fit.specs.Progress
 pub use Rattle.machine_fit.specs.Reading
+pub use Rattle.machine_fit.specs.Refusals
 pub use Rattle.machine_fit.specs.Setting
 pub use Rattle.machine_fit.specs.State
 pub use Rattle.machine_fit.specs.Statements

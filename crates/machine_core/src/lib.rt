@@ -1,7 +1,7 @@
 //! The machine: what a host makes of the programs that receivers' declarations compile to.
 //!
-//! [`fit`] says whether a [`Program`] can be run with a [`Host`], or the first place that stands against it. [`execute`] runs a
-//! unit of it on an [`Element`] and answers its [`Outcome`]: a [`Value`], or all faults with their places. [`StdHost`] offers the
+//! [`fit`] says whether a [`Program`] can be run with a [`Host`], or the first place that stands against it, and [`refusals`] all
+//! of them. [`execute`] runs a unit of it on an [`Element`] and answers its [`Outcome`]: a [`Value`], or all faults with their places. [`StdHost`] offers the
 //! functions of the tool, and [`RefusingHost`] none.
 #![tactic(auto)]
 
@@ -10,7 +10,7 @@ pub use codegen_program::{
     Rest, Stmt, Unit,
 };
 pub use machine_execute::{Element, MAX_DEPTH, Outcome, execute, try_execute};
-pub use machine_fit::{Form, Unfit, fit};
+pub use machine_fit::{Form, Refusals, Unfit, Unsupported, fit, refusals};
 pub use machine_std::{
     Arg, Callable, Host, HostItem, NestedMeta, Place, RefusingHost, Said, StdHost, Use,
     what_fits_a_type,

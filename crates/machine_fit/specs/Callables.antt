@@ -1,6 +1,7 @@
 -- Functions that the host doesn't offer.
-use Rattle.std.specs.Prelude.{ℕ, Bool, ◌&&◌, not, if◌then◌else◌, List, Option, Some, None, is_some, option_map, slice_get, unwrap_or}
+use Rattle.std.specs.Prelude.{Bool, ◌&&◌, not, if◌then◌else◌, List, [], ◌++◌, flat_map, Option, Some, None, is_some, option_map, slice_get, unwrap_or}
 use Rattle.std.specs.List.{list_any}
+use Rattle.tok_types.specs.declared.span.Span.{Span}
 use Rattle.node_expr.specs.declared.ty.«Type».{«Type» as Type'}
 use Rattle.node_span.specs.Spanned.{expr_span, path_span}
 use Rattle.node_core.specs.declared.data.Field.{Field}
@@ -20,12 +21,10 @@ use Rattle.machine_forms.specs.Convert.{element}
 use Rattle.machine_forms.specs.Machine.{setting_of}
 use Rattle.machine_forms.specs.Reading.{transform_use}
 use Rattle.machine_forms.specs.Setting.{called, without_places}
-use Rattle.machine_forms.specs.declared.unfit.Unfit.{Unfit}
-use Rattle.machine_forms.specs.declared.unfit.Unfit.TheVariants as unfit
-use Rattle.machine_forms.specs.Answer.{or, first_in, first_from, refused_if, refused_unless}
 use Rattle.machine_forms.specs.Asks.{Ask, Read, Whole, Member, Transform, is_from_ident}
 use Rattle.machine_fit.specs.Fields.{struct_fields}
 use Rattle.machine_forms.specs.Forms.{fallback_call}
+use Rattle.machine_forms.specs.Places.{places_from, refused_if, refused_unless}
 use Rattle.machine_fit.specs.Types.{decl_type}
 use Rattle.machine_forms.specs.Units.{asks_of, units_of}
 
@@ -34,23 +33,23 @@ module _ (host : HostSays) (program : Program) where
   abbrev pub offers : Option Callable → Use → Type' → Bool
   offers callable at type = host.offers (erased_decls program.decls) (option_map without_places callable) (erased_place (record { at = at; ty = type }))
 
-  abbrev pub unoffered : Use → Type' → Option Callable → Option Unfit
-  unoffered at type None = None
-  unoffered at type (Some callable) = refused_unless (offers (Some callable) at type) (unfit.UnknownCallable (expr_span callable.call))
+  abbrev pub unoffered : Use → Type' → Option Callable → List Span
+  unoffered at type None = []
+  unoffered at type (Some callable) = refused_unless (offers (Some callable) at type) (expr_span callable.call)
 
   -- the type that the function takes, or none
   abbrev pub taken : PostfixTransform → Option Type'
   taken post = host.takes (erased_path post.function)
 
   -- what is called on a value of the type
-  abbrev pub unoffered_post : Type' → PostfixTransform → Option Unfit
-  unoffered_post type post = refused_unless (offers (Some (called post.function)) (transform_use post) type) (unfit.UnknownCallable (path_span post.function))
+  abbrev pub unoffered_post : Type' → PostfixTransform → List Span
+  unoffered_post type post = refused_unless (offers (Some (called post.function)) (transform_use post) type) (path_span post.function)
 
   -- that of a field, which takes a value of a type that the host names
-  abbrev pub unknown_post : Type' → Option PostfixTransform → Option Unfit
-  unknown_post type None = None
+  abbrev pub unknown_post : Type' → Option PostfixTransform → List Span
+  unknown_post type None = []
   unknown_post type (Some post) =
-      refused_unless (is_some (taken post) && offers (Some (called post.function)) (transform_use post) type) (unfit.UnknownCallable (path_span post.function))
+      refused_unless (is_some (taken post) && offers (Some (called post.function)) (transform_use post) type) (path_span post.function)
 
   -- the type that items are read at
   abbrev pub converted : Option PostfixTransform → Type' → Type'
@@ -58,38 +57,38 @@ module _ (host : HostSays) (program : Program) where
   converted (Some post) type = unwrap_or (taken post) type
 
   -- the functions of an arm, whose slot gets values of the type
-  abbrev pub unoffered_arm : Arm → Type' → Option Unfit
-  unoffered_arm arm type = or (unoffered use_at.With (converted arm.post type) arm.with) (unknown_post type arm.post)
+  abbrev pub unoffered_arm : Arm → Type' → List Span
+  unoffered_arm arm type = unoffered use_at.With (converted arm.post type) arm.with ++ unknown_post type arm.post
 
   -- the type of one value of a field
   abbrev pub value_type : Bool → Type' → Type'
   value_type many type = if many then element (setting_of host program) type else type
 
-  abbrev pub unoffered_read : Arm → Option Field → Option Unfit
-  unoffered_read arm None = None
+  abbrev pub unoffered_read : Arm → Option Field → List Span
+  unoffered_read arm None = []
   unoffered_read arm (Some field) = unoffered_arm arm (value_type arm.many field.ty)
 
-  abbrev pub unoffered_member : Init → Option Field → Option Unfit
-  unoffered_member init None = None
+  abbrev pub unoffered_member : Init → Option Field → List Span
+  unoffered_member init None = []
   unoffered_member init (Some field) = unoffered use_at.Default field.ty (fallback_call init.fallback)
 
   -- what a unit asks, whose receiver is this type and has these fields
-  abbrev pub unoffered_ask : Type' → List Field → Ask → Option Unfit
+  abbrev pub unoffered_ask : Type' → List Field → Ask → List Span
   unoffered_ask type fields (Read arm) = unoffered_read arm (slice_get fields arm.slot)
   unoffered_ask type fields (Whole (sources.Explicit callable)) = unoffered use_at.Default type (Some callable)
   unoffered_ask type fields (Member init) = unoffered_member init (slice_get fields init.slot)
   unoffered_ask type fields (Transform post) = unoffered_post type post
-  unoffered_ask type fields _ = None
+  unoffered_ask type fields _ = []
 
   -- an identifier is asked for the receiver, and makes none
   abbrev pub lacks_ident : DeriveInput → List Ask → Bool
   lacks_ident decl asks = list_any is_from_ident asks && not (offers None use_at.FromIdent (decl_type decl))
 
   -- in a declaration and its units: its identifier, its functions
-  abbrev pub unknown_callable_in : List Unit' → DeriveInput → Option Unfit
-  unknown_callable_in units decl =
-      or (refused_if (lacks_ident decl (asks_of units)) (unfit.UnknownCallable decl.ident.span))
-      (first_in (unoffered_ask (decl_type decl) (struct_fields decl.body)) (asks_of units))
+  abbrev pub unknown_callables_in : List Unit' → DeriveInput → List Span
+  unknown_callables_in units decl =
+      refused_if (lacks_ident decl (asks_of units)) decl.ident.span
+      ++ flat_map (unoffered_ask (decl_type decl) (struct_fields decl.body)) (asks_of units)
 
-  abbrev pub unknown_callable : Option Unfit
-  unknown_callable = first_from (λ number decl. unknown_callable_in (units_of program.units number) decl) 0 program.decls
+  abbrev pub unknown_callables : List Span
+  unknown_callables = places_from (λ number decl. unknown_callables_in (units_of program.units number) decl) 0 program.decls

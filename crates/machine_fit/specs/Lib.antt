@@ -13,8 +13,10 @@ pub use Rattle.machine_forms.specs.Forms
 pub use Rattle.machine_forms.specs.ItemNames
 pub use Rattle.machine_forms.specs.Machine
 pub use Rattle.machine_forms.specs.Names
+pub use Rattle.machine_forms.specs.Places
 pub use Rattle.machine_forms.specs.Progress
 pub use Rattle.machine_forms.specs.Reading
+pub use Rattle.machine_forms.specs.Refusals
 pub use Rattle.machine_forms.specs.Setting
 pub use Rattle.machine_forms.specs.Slots as MachineSlots
 pub use Rattle.machine_forms.specs.State

@@ -1,9 +1,8 @@
 //! Functions that the host doesn't offer.
 
-ghost use Rattle.std.specs.Prelude.{◌≡◌, IfOk, length, map};
+ghost use Rattle.std.specs.Prelude.{◌≡◌, ◌++◌, IfOk, OnOk, flat_map, length, map};
 ghost use Rattle.std.specs.Option.{option_copied};
 ghost use Rattle.std.specs.List.{list_any};
-ghost use Rattle.machine_forms.specs.Answer.{Says, first_in};
 ghost use Rattle.machine_forms.specs.Asks as asked;
 ghost use Rattle.machine_fit.specs.Callables as spec;
 ghost use Rattle.machine_fit.specs.Fields.{struct_fields};
@@ -16,36 +15,41 @@ use crate::checker::Checker;
 use base_core::{Items, Mem, TryClone};
 use codegen_program::{Arm, DefaultSource, Init, PostfixTransform, Unit};
 use machine_forms::{
-    Ask, Callable, Host, Place, Unfit, Use, asks_of, fallback_call, fields_of, named_type,
+    Ask, Callable, Host, Place, Use, asks_of, fallback_call, fields_of, named_type,
 };
 use machine_rows::element_among;
-use node_core::{Data, DeriveInput, Field, Type};
+use node_core::{Data, DeriveInput, Field, Span, Type};
 use node_span::Spanned;
 use std::alloc::Global;
 
 impl<H: Host> Checker<'_, H> {
-    /// Refuses the first function that the host doesn't offer.
-    pub(crate) fn check_callables(&self, groups: &[Items<&Unit>]) -> Result<(), Unfit>
+    /// The functions that the host doesn't offer.
+    pub(crate) fn unknown_callables(&self, groups: &[Items<&Unit>]) -> Mem<Items<Span>>
         requires { AreGroups self.now.program.now.units (length self.now.program.now.decls) groups.now }
-        ensures { Says result (spec.unknown_callable (H.says self.now.host.now) self.now.program.now) }
+        ensures { IfOk result (λ places. places ≡ spec.unknown_callables (H.says self.now.host.now) self.now.program.now) }
     {
+        let mut places = Items::new(self.alloc);
         let decls = self.program.decls.as_slice();
         for number in 0..decls.len() {
-            self.check_callables_in(groups[number].as_slice(), &decls[number])?;
+            self.push_callables_in(&mut places, groups[number].as_slice(), &decls[number])?;
         }
-        Ok(())
+        Ok(places)
     }
 
-    fn check_callables_in(&self, units: &[&Unit], decl: &DeriveInput) -> Result<(), Unfit>
-        ensures { Says result (spec.unknown_callable_in (H.says self.now.host.now) self.now.program.now (map (λ unit. unit.now) units.now) decl.now) }
+    fn push_callables_in(
+        &self,
+        places: &mut Items<Span>,
+        units: &[&Unit],
+        decl: &DeriveInput,
+    ) -> Mem<()>
+        ensures { OnOk result (places.new ≡ places.old ++ spec.unknown_callables_in (H.says self.now.host.now) self.now.program.now (map (λ unit. unit.now) units.now) decl.now) }
     {
         let asks = asks_of(self.alloc, units)?;
         if self.lacks_ident(decl, asks.as_slice())? {
-            return Err(Unfit::UnknownCallable {
-                span: decl.ident.span,
-            });
+            places.push(decl.ident.span)?;
         }
-        self.check_asks(decl, asks.as_slice())
+        let ty = named_type(self.alloc, decl.ident.text.as_str())?;
+        self.push_unoffered(places, &ty, slots_of(&decl.body), asks.as_slice())
     }
 
     /// Whether an identifier is asked for the receiver, and makes none.
@@ -57,14 +61,6 @@ impl<H: Host> Checker<'_, H> {
         }
         let ty = named_type(self.alloc, decl.ident.text.as_str())?;
         Ok(!self.offers(None, Use::FromIdent, &ty)?)
-    }
-
-    /// Refuses the first function that the units of the declaration ask and that isn't offered.
-    fn check_asks(&self, decl: &DeriveInput, asks: &[Ask<'_>]) -> Result<(), Unfit>
-        ensures { Says result (first_in (spec.unoffered_ask (H.says self.now.host.now) self.now.program.now (decl_type decl.now) (struct_fields decl.now.body)) (map asked.seen asks.now)) }
-    {
-        let ty = named_type(self.alloc, decl.ident.text.as_str())?;
-        self.check_offered(&ty, slots_of(&decl.body), asks)
     }
 
     /// Whether the host offers the function where it is asked for the type.
@@ -79,36 +75,48 @@ impl<H: Host> Checker<'_, H> {
         )
     }
 
-    /// Refuses the first function that is asked by a receiver of this type with these fields.
-    fn check_offered(&self, ty: &Type, fields: &[Field], asks: &[Ask<'_>]) -> Result<(), Unfit>
-        ensures { Says result (first_in (spec.unoffered_ask (H.says self.now.host.now) self.now.program.now ty.now fields.now) (map asked.seen asks.now)) }
+    /// Adds the functions that are asked by a receiver of this type with these fields.
+    fn push_unoffered(
+        &self,
+        places: &mut Items<Span>,
+        ty: &Type,
+        fields: &[Field],
+        asks: &[Ask<'_>],
+    ) -> Mem<()>
+        ensures { OnOk result (places.new ≡ places.old ++ flat_map (spec.unoffered_ask (H.says self.now.host.now) self.now.program.now ty.now fields.now) (map asked.seen asks.now)) }
     {
         for ask in asks {
-            self.check_asked(ty, fields, *ask)?;
+            self.push_ask_of(places, ty, fields, *ask)?;
         }
         Ok(())
     }
 
-    fn check_asked(&self, ty: &Type, fields: &[Field], ask: Ask<'_>) -> Result<(), Unfit>
-        ensures { Says result (spec.unoffered_ask (H.says self.now.host.now) self.now.program.now ty.now fields.now (asked.seen ask.entry)) }
+    fn push_ask_of(
+        &self,
+        places: &mut Items<Span>,
+        ty: &Type,
+        fields: &[Field],
+        ask: Ask<'_>,
+    ) -> Mem<()>
+        ensures { OnOk result (places.new ≡ places.old ++ spec.unoffered_ask (H.says self.now.host.now) self.now.program.now ty.now fields.now (asked.seen ask.entry)) }
     {
         match ask {
-            Ask::Read(arm) => self.check_read(arm, fields.get(arm.slot as usize)),
+            Ask::Read(arm) => self.push_read(places, arm, fields.get(arm.slot as usize)),
             Ask::Whole(DefaultSource::Explicit(callable)) => {
-                self.check_call(Use::Default, ty, Some(callable))
+                self.push_call(places, Use::Default, ty, Some(callable))
             }
-            Ask::Member(init) => self.check_member(init, fields.get(init.slot as usize)),
-            Ask::Transform(post) => self.check_post(ty, post),
+            Ask::Member(init) => self.push_member(places, init, fields.get(init.slot as usize)),
+            Ask::Transform(post) => self.push_post(places, ty, post),
             _ => Ok(()),
         }
     }
 
     /// Looks at the functions of an arm for this field.
-    fn check_read(&self, arm: &Arm, field: Option<&Field>) -> Result<(), Unfit>
-        ensures { Says result (spec.unoffered_read (H.says self.now.host.now) self.now.program.now arm.now (option_copied field.entry)) }
+    fn push_read(&self, places: &mut Items<Span>, arm: &Arm, field: Option<&Field>) -> Mem<()>
+        ensures { OnOk result (places.new ≡ places.old ++ spec.unoffered_read (H.says self.now.host.now) self.now.program.now arm.now (option_copied field.entry)) }
     {
         match field {
-            Some(field) => self.check_arm(arm, self.value_type(arm.many, &field.ty)),
+            Some(field) => self.push_arm(places, arm, self.value_type(arm.many, &field.ty)),
             None => Ok(()),
         }
     }
@@ -127,15 +135,12 @@ impl<H: Host> Checker<'_, H> {
     }
 
     /// Looks at the functions of an arm whose slot gets values of the type.
-    fn check_arm(&self, arm: &Arm, ty: &Type) -> Result<(), Unfit>
-        ensures { Says result (spec.unoffered_arm (H.says self.now.host.now) self.now.program.now arm.now ty.now) }
+    fn push_arm(&self, places: &mut Items<Span>, arm: &Arm, ty: &Type) -> Mem<()>
+        ensures { OnOk result (places.new ≡ places.old ++ spec.unoffered_arm (H.says self.now.host.now) self.now.program.now arm.now ty.now) }
     {
-        self.check_call(
-            Use::With,
-            self.converted(arm.post.as_ref(), ty),
-            arm.with.as_ref(),
-        )?;
-        self.check_transform(ty, arm.post.as_ref())
+        let converted = self.converted(arm.post.as_ref(), ty);
+        self.push_call(places, Use::With, converted, arm.with.as_ref())?;
+        self.push_transform(places, ty, arm.post.as_ref())
     }
 
     /// The type that items are read at: what the transform takes, else the type itself.
@@ -151,19 +156,26 @@ impl<H: Host> Checker<'_, H> {
         }
     }
 
-    fn check_member(&self, init: &Init, field: Option<&Field>) -> Result<(), Unfit>
-        ensures { Says result (spec.unoffered_member (H.says self.now.host.now) self.now.program.now init.now (option_copied field.entry)) }
+    fn push_member(&self, places: &mut Items<Span>, init: &Init, field: Option<&Field>) -> Mem<()>
+        ensures { OnOk result (places.new ≡ places.old ++ spec.unoffered_member (H.says self.now.host.now) self.now.program.now init.now (option_copied field.entry)) }
     {
         match field {
             Some(field) => {
-                self.check_call(Use::Default, &field.ty, fallback_call(&init.fallback))
+                let fallback = fallback_call(&init.fallback);
+                self.push_call(places, Use::Default, &field.ty, fallback)
             }
             None => Ok(()),
         }
     }
 
-    fn check_call(&self, at: Use, ty: &Type, callable: Option<&Callable>) -> Result<(), Unfit>
-        ensures { Says result (spec.unoffered (H.says self.now.host.now) self.now.program.now at ty.now (option_copied callable.entry)) }
+    fn push_call(
+        &self,
+        places: &mut Items<Span>,
+        at: Use,
+        ty: &Type,
+        callable: Option<&Callable>,
+    ) -> Mem<()>
+        ensures { OnOk result (places.new ≡ places.old ++ spec.unoffered (H.says self.now.host.now) self.now.program.now at ty.now (option_copied callable.entry)) }
     {
         let Some(callable) = callable else {
             return Ok(());
@@ -171,36 +183,35 @@ impl<H: Host> Checker<'_, H> {
         if self.offers(Some(callable), at, ty)? {
             return Ok(());
         }
-        Err(Unfit::UnknownCallable {
-            span: callable.call.spanned(),
-        })
+        places.push(callable.call.spanned())
     }
 
     /// Looks at what is called on a value of the type.
-    fn check_post(&self, ty: &Type, post: &PostfixTransform) -> Result<(), Unfit>
-        ensures { Says result (spec.unoffered_post (H.says self.now.host.now) self.now.program.now ty.now post.now) }
+    fn push_post(&self, places: &mut Items<Span>, ty: &Type, post: &PostfixTransform) -> Mem<()>
+        ensures { OnOk result (places.new ≡ places.old ++ spec.unoffered_post (H.says self.now.host.now) self.now.program.now ty.now post.now) }
     {
         let callable = called(self.alloc, post)?;
         if self.offers(Some(&callable), transform_use(self.alloc, post)?, ty)? {
             return Ok(());
         }
-        Err(Unfit::UnknownCallable {
-            span: post.function.spanned(),
-        })
+        places.push(post.function.spanned())
     }
 
     /// Looks at what is called on a value of a field, which takes a type that the host names.
-    fn check_transform(&self, ty: &Type, post: Option<&PostfixTransform>) -> Result<(), Unfit>
-        ensures { Says result (spec.unknown_post (H.says self.now.host.now) self.now.program.now ty.now (option_copied post.entry)) }
+    fn push_transform(
+        &self,
+        places: &mut Items<Span>,
+        ty: &Type,
+        post: Option<&PostfixTransform>,
+    ) -> Mem<()>
+        ensures { OnOk result (places.new ≡ places.old ++ spec.unknown_post (H.says self.now.host.now) self.now.program.now ty.now (option_copied post.entry)) }
     {
         let Some(post) = post else {
             return Ok(());
         };
         match self.host.takes(&post.function) {
-            Some(_) => self.check_post(ty, post),
-            None => Err(Unfit::UnknownCallable {
-                span: post.function.spanned(),
-            }),
+            Some(_) => self.push_post(places, ty, post),
+            None => places.push(post.function.spanned()),
         }
     }
 }

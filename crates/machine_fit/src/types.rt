@@ -1,10 +1,10 @@
 //! Types that don't fit their places.
 
-ghost use Rattle.std.specs.Prelude.{◌≡◌, IfOk, length, map};
+ghost use Rattle.std.specs.Prelude.{◌≡◌, ◌++◌, IfOk, OnOk, flat_map, length, map};
 ghost use Rattle.std.specs.Option.{option_copied};
 ghost use Rattle.std.specs.List.{list_all, list_any};
-ghost use Rattle.machine_forms.specs.Answer.{Says, first_from, first_in};
 ghost use Rattle.machine_forms.specs.Asks as asked;
+ghost use Rattle.machine_forms.specs.Places.{places_from};
 ghost use Rattle.machine_fit.specs.Slots.{seen_slots};
 ghost use Rattle.machine_fit.specs.Types as spec;
 ghost use Rattle.machine_forms.specs.Units.{AreGroups};
@@ -13,41 +13,46 @@ use crate::checker::Checker;
 use crate::slots::Slots;
 use base_core::{Items, Mem};
 use codegen_program::{PostfixTransform, Unit};
-use machine_forms::{Ask, Host, Unfit, asks_of, fields_of, named_type, push_unit};
-use node_core::{Data, DeriveInput, Field, Type, Variant};
+use machine_forms::{Ask, Host, asks_of, fields_of, named_type, push_unit};
+use node_core::{Data, DeriveInput, Field, Span, Type, Variant};
 use node_span::Spanned;
 use std::alloc::Global;
 
 impl<H: Host> Checker<'_, H> {
-    /// Refuses the first type that doesn't fit its place.
-    pub(crate) fn check_types(&self, groups: &[Items<&Unit>]) -> Result<(), Unfit>
+    /// The types that don't fit their places.
+    pub(crate) fn unknown_types(&self, groups: &[Items<&Unit>]) -> Mem<Items<Span>>
         requires { AreGroups self.now.program.now.units (length self.now.program.now.decls) groups.now }
-        ensures { Says result (spec.unknown_type (H.says self.now.host.now) self.now.program.now) }
+        ensures { IfOk result (λ places. places ≡ spec.unknown_types (H.says self.now.host.now) self.now.program.now) }
     {
+        let mut places = Items::new(self.alloc);
         let decls = self.program.decls.as_slice();
         for number in 0..decls.len() {
-            self.check_types_in(groups[number].as_slice(), number, &decls[number])?;
+            self.push_types_in(
+                &mut places,
+                groups[number].as_slice(),
+                number,
+                &decls[number],
+            )?;
         }
-        Ok(())
+        Ok(places)
     }
 
-    fn check_types_in(
+    fn push_types_in(
         &self,
+        places: &mut Items<Span>,
         units: &[&Unit],
         number: usize,
         decl: &DeriveInput,
-    ) -> Result<(), Unfit>
-        ensures { Says result (spec.unknown_type_in (H.says self.now.host.now) self.now.program.now (map (λ unit. unit.now) units.now) number decl.now) }
+    ) -> Mem<()>
+        ensures { OnOk result (places.new ≡ places.old ++ spec.unknown_types_in (H.says self.now.host.now) self.now.program.now (map (λ unit. unit.now) units.now) number decl.now) }
     {
         let asks = asks_of(self.alloc, units)?;
         if self.lacks_default(decl, asks.as_slice())? {
-            return Err(Unfit::UnknownType {
-                span: decl.ident.span,
-            });
+            places.push(decl.ident.span)?;
         }
         let readings = readings_of(self.alloc, units)?;
-        self.check_members(number, readings.as_slice(), &decl.body)?;
-        self.check_taken(number, asks.as_slice())
+        self.push_members(places, number, readings.as_slice(), &decl.body)?;
+        self.push_taken(places, number, asks.as_slice())
     }
 
     /// Whether the default of the whole receiver is asked for, and its type has none.
@@ -61,41 +66,52 @@ impl<H: Host> Checker<'_, H> {
         Ok(!self.has_default(&ty)?)
     }
 
-    fn check_members(&self, here: usize, readings: &[Slots], body: &Data) -> Result<(), Unfit>
-        ensures { Says result (spec.unfit_members (H.says self.now.host.now) self.now.program.now here (map seen_slots readings.now) body.now) }
+    fn push_members(
+        &self,
+        places: &mut Items<Span>,
+        here: usize,
+        readings: &[Slots],
+        body: &Data,
+    ) -> Mem<()>
+        ensures { OnOk result (places.new ≡ places.old ++ spec.unfit_members (H.says self.now.host.now) self.now.program.now here (map seen_slots readings.now) body.now) }
     {
         match body {
-            Data::Struct(it) => self.check_slots(here, readings, fields_of(&it.fields)),
-            Data::Enum(it) => self.check_variants(here, it.variants.as_slice()),
-            Data::Union(it) => self.check_fields(here, it.fields.named.as_slice()),
+            Data::Struct(it) => self.push_slots(places, here, readings, fields_of(&it.fields)),
+            Data::Enum(it) => self.push_variants(places, here, it.variants.as_slice()),
+            Data::Union(it) => self.push_fields(places, here, it.fields.named.as_slice()),
         }
     }
 
-    /// Refuses the first field whose type doesn't fit what the units ask of its slot, which has the field's number.
-    fn check_slots(&self, here: usize, readings: &[Slots], fields: &[Field]) -> Result<(), Unfit>
-        ensures { Says result (first_from (spec.unfit_slot (H.says self.now.host.now) self.now.program.now here (map seen_slots readings.now)) 0 fields.now) }
+    /// Adds the types of fields that don't fit what the units ask of the fields' slots, which have the fields' numbers.
+    fn push_slots(
+        &self,
+        places: &mut Items<Span>,
+        here: usize,
+        readings: &[Slots],
+        fields: &[Field],
+    ) -> Mem<()>
+        ensures { OnOk result (places.new ≡ places.old ++ places_from (spec.unfit_slot (H.says self.now.host.now) self.now.program.now here (map seen_slots readings.now)) 0 fields.now) }
     {
         for slot in 0..fields.len() {
-            self.check_slot(here, readings, slot, &fields[slot])?;
+            self.push_slot(places, here, readings, slot, &fields[slot])?;
         }
         Ok(())
     }
 
-    fn check_slot(
+    fn push_slot(
         &self,
+        places: &mut Items<Span>,
         here: usize,
         readings: &[Slots],
         slot: usize,
         field: &Field,
-    ) -> Result<(), Unfit>
-        ensures { Says result (spec.unfit_slot (H.says self.now.host.now) self.now.program.now here (map seen_slots readings.now) slot field.now) }
+    ) -> Mem<()>
+        ensures { OnOk result (places.new ≡ places.old ++ spec.unfit_slot (H.says self.now.host.now) self.now.program.now here (map seen_slots readings.now) slot field.now) }
     {
         if self.fits_readings(here, readings, slot, &field.ty)? {
             return Ok(());
         }
-        Err(Unfit::UnknownType {
-            span: field.ty.spanned(),
-        })
+        places.push(field.ty.spanned())
     }
 
     fn fits_readings(&self, here: usize, readings: &[Slots], slot: usize, ty: &Type) -> Mem<bool>
@@ -122,71 +138,75 @@ impl<H: Host> Checker<'_, H> {
         self.has_default(ty)
     }
 
-    fn check_variants(&self, here: usize, variants: &[Variant]) -> Result<(), Unfit>
-        ensures { Says result (first_in (spec.unfit_variant (H.says self.now.host.now) self.now.program.now here) variants.now) }
+    fn push_variants(&self, places: &mut Items<Span>, here: usize, variants: &[Variant]) -> Mem<()>
+        ensures { OnOk result (places.new ≡ places.old ++ flat_map (spec.unfit_variant (H.says self.now.host.now) self.now.program.now here) variants.now) }
     {
         for variant in variants {
-            self.check_fields(here, fields_of(&variant.fields))?;
+            self.push_fields(places, here, fields_of(&variant.fields))?;
         }
         Ok(())
     }
 
-    /// Refuses the first field, which has no slot, whose type doesn't fit.
-    fn check_fields(&self, here: usize, fields: &[Field]) -> Result<(), Unfit>
-        ensures { Says result (first_in (spec.unfit_field (H.says self.now.host.now) self.now.program.now here) fields.now) }
+    /// Adds the types of fields, which have no slots, that don't fit.
+    fn push_fields(&self, places: &mut Items<Span>, here: usize, fields: &[Field]) -> Mem<()>
+        ensures { OnOk result (places.new ≡ places.old ++ flat_map (spec.unfit_field (H.says self.now.host.now) self.now.program.now here) fields.now) }
     {
         for field in fields {
-            self.check_field(here, field)?;
+            self.push_field(places, here, field)?;
         }
         Ok(())
     }
 
-    fn check_field(&self, here: usize, field: &Field) -> Result<(), Unfit>
-        ensures { Says result (spec.unfit_field (H.says self.now.host.now) self.now.program.now here field.now) }
+    fn push_field(&self, places: &mut Items<Span>, here: usize, field: &Field) -> Mem<()>
+        ensures { OnOk result (places.new ≡ places.old ++ spec.unfit_field (H.says self.now.host.now) self.now.program.now here field.now) }
     {
         if self.type_fits(here, false, &field.ty)? {
             return Ok(());
         }
-        Err(Unfit::UnknownType {
-            span: field.ty.spanned(),
-        })
+        places.push(field.ty.spanned())
     }
 
-    /// Refuses the first transform that takes a type which doesn't fit.
-    fn check_taken(&self, here: usize, asks: &[Ask<'_>]) -> Result<(), Unfit>
-        ensures { Says result (first_in (spec.unfit_ask (H.says self.now.host.now) self.now.program.now here) (map asked.seen asks.now)) }
+    /// Adds the transforms that take a type which doesn't fit.
+    fn push_taken(&self, places: &mut Items<Span>, here: usize, asks: &[Ask<'_>]) -> Mem<()>
+        ensures { OnOk result (places.new ≡ places.old ++ flat_map (spec.unfit_ask (H.says self.now.host.now) self.now.program.now here) (map asked.seen asks.now)) }
     {
         for ask in asks {
-            self.check_ask(here, *ask)?;
+            self.push_ask(places, here, *ask)?;
         }
         Ok(())
     }
 
-    fn check_ask(&self, here: usize, ask: Ask<'_>) -> Result<(), Unfit>
-        ensures { Says result (spec.unfit_ask (H.says self.now.host.now) self.now.program.now here (asked.seen ask.entry)) }
+    fn push_ask(&self, places: &mut Items<Span>, here: usize, ask: Ask<'_>) -> Mem<()>
+        ensures { OnOk result (places.new ≡ places.old ++ spec.unfit_ask (H.says self.now.host.now) self.now.program.now here (asked.seen ask.entry)) }
     {
         match ask {
-            Ask::Read(arm) => self.check_taken_by(here, arm.post.as_ref()),
+            Ask::Read(arm) => self.push_taken_by(places, here, arm.post.as_ref()),
             _ => Ok(()),
         }
     }
 
-    fn check_taken_by(&self, here: usize, post: Option<&PostfixTransform>) -> Result<(), Unfit>
-        ensures { Says result (spec.unfit_post (H.says self.now.host.now) self.now.program.now here (option_copied post.entry)) }
+    fn push_taken_by(
+        &self,
+        places: &mut Items<Span>,
+        here: usize,
+        post: Option<&PostfixTransform>,
+    ) -> Mem<()>
+        ensures { OnOk result (places.new ≡ places.old ++ spec.unfit_post (H.says self.now.host.now) self.now.program.now here (option_copied post.entry)) }
     {
         match post {
-            Some(post) => self.check_takes(here, post, self.host.takes(&post.function)),
+            Some(post) => self.push_takes(places, here, post, self.host.takes(&post.function)),
             None => Ok(()),
         }
     }
 
-    fn check_takes(
+    fn push_takes(
         &self,
+        places: &mut Items<Span>,
         here: usize,
         post: &PostfixTransform,
         taken: Option<&Type>,
-    ) -> Result<(), Unfit>
-        ensures { Says result (spec.unfit_taken (H.says self.now.host.now) self.now.program.now here post.now (option_copied taken.entry)) }
+    ) -> Mem<()>
+        ensures { OnOk result (places.new ≡ places.old ++ spec.unfit_taken (H.says self.now.host.now) self.now.program.now here post.now (option_copied taken.entry)) }
     {
         let Some(ty) = taken else {
             return Ok(());
@@ -194,9 +214,7 @@ impl<H: Host> Checker<'_, H> {
         if self.type_fits(here, true, ty)? {
             return Ok(());
         }
-        Err(Unfit::UnknownType {
-            span: post.function.spanned(),
-        })
+        places.push(post.function.spanned())
     }
 }
 

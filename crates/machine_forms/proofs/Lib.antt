@@ -1,3 +1,3 @@
 pub mod Groups
 pub mod Known
-pub mod Walks
+pub mod Steps

@@ -1,8 +1,10 @@
 pub mod Answer
 pub mod Asks
-pub mod Units
-pub mod Names
 pub mod Forms
+pub mod Names
+pub mod Places
+pub mod Refusals
+pub mod Units
 pub use Rattle.machine_steps.specs.Attributes
 pub use Rattle.machine_steps.specs.Below
 pub use Rattle.machine_steps.specs.Convert

@@ -1,12 +1,14 @@
--- Names that stand twice: the later one is refused.
-use Rattle.std.specs.Prelude.{◌+◌, ◌||◌, ℕ, Bool, true, false, cond, List, [], ◌∷◌, Option, Some, None}
+-- Names that stand twice: each identifier whose name an earlier one has. `r#` is no part of a name.
+use Rattle.std.specs.Prelude.{◌≡◌, ◌||◌, ℕ, Bool, List, [], ◌++◌, Option, Some, None, map, take}
 use Rattle.std.specs.Borrow.{Bor}
 use Rattle.std.specs.BTreeSet.{BTreeSet, contains_by}
 use Rattle.std.specs.Cmp.Lexicographic.{slice_cmp}
+use Rattle.std.specs.List.{cons_option, filter_map, list_any}
 use Rattle.std.specs.Ordering.{nat_cmp}
 use Rattle.std.specs.Str.{bytes_eq}
 use Rattle.base_core.specs.declared.text.Text.{Text}
 use Rattle.tok_types.specs.declared.ident.Ident.{Ident}
+use Rattle.tok_types.specs.declared.span.Span.{Span}
 use Rattle.node_core.specs.declared.data.Field.{Field}
 use Rattle.node_core.specs.declared.data.Variant.{Variant}
 use Rattle.node_core.specs.declared.data.«Data».{«Data»}
@@ -14,66 +16,70 @@ use Rattle.node_core.specs.declared.data.«Data».TheVariants as body
 use Rattle.node_core.specs.declared.derive.DeriveInput.{DeriveInput}
 use Rattle.codegen_program.specs.declared.program.Program.{Program}
 use Rattle.codegen_program.specs.declared.program.«Unit».{«Unit» as Unit'}
-use Rattle.machine_steps.specs.Decls.{list_of}
-use Rattle.machine_forms.specs.declared.unfit.Unfit.{Unfit}
-use Rattle.machine_forms.specs.declared.unfit.Unfit.TheVariants as unfit
-use Rattle.machine_forms.specs.Answer.{or, refused_if}
+use Rattle.machine_steps.specs.Decls.{decl_names, list_of}
+use Rattle.machine_forms.specs.Places.{places_from, refused_if}
 use Rattle.machine_forms.specs.Units.{has_twins, units_of}
 
--- which names stand before a place; `r#` is no part of them
-abbrev pub Known : Type 0
-Known = Text → Bool
-
-abbrev pub none_known : Known
-none_known name = false
-
--- one more name
-abbrev pub knowing : Text → Known → Known
-knowing name known = λ other. cond (bytes_eq name other) true (known other)
-
-abbrev pub knowing_field : Option Ident → Known → Known
-knowing_field None known = known
-knowing_field (Some ident) known = knowing ident.text known
+-- one of the identifiers has the name
+abbrev pub has_name : List Ident → Text → Bool
+has_name idents name = list_any (λ ident. bytes_eq ident.text name) idents
 
 -- an identifier whose name is known
-abbrev pub repeated : Known → Ident → Option Unfit
-repeated known ident = refused_if (known ident.text) (unfit.DuplicateName ident.span)
+abbrev pub repeated : (Text → Bool) → Ident → List Span
+repeated known ident = refused_if (known ident.text) ident.span
 
-abbrev pub repeated_field : Known → Option Ident → Option Unfit
-repeated_field known None = None
+abbrev pub repeated_field : (Text → Bool) → Option Ident → List Span
+repeated_field known None = []
 repeated_field known (Some ident) = repeated known ident
 
--- a field whose name an earlier one has
-abbrev pub repeated_fields : Known → List Field → Option Unfit
-repeated_fields known [] = None
-repeated_fields known (field ∷ fields) = or (repeated_field known field.ident) (repeated_fields (knowing_field field.ident known) fields)
+-- the names of fields; those of a tuple have none
+abbrev pub field_names : List Field → List Ident
+field_names fields = filter_map (λ field. field.ident) fields
 
--- a variant whose name an earlier one has, or a field of a variant
-abbrev pub repeated_variants : Known → List Variant → Option Unfit
-repeated_variants known [] = None
-repeated_variants known (variant ∷ variants) =
-    or (repeated known variant.ident)
-    (or (repeated_fields none_known (list_of variant.fields)) (repeated_variants (knowing variant.ident.text known) variants))
+abbrev pub variant_names : List Variant → List Ident
+variant_names variants = map (λ variant. variant.ident) variants
 
-abbrev pub repeated_members : «Data» → Option Unfit
-repeated_members (body.Struct it) = repeated_fields none_known (list_of it.fields)
-repeated_members (body.Enum it) = repeated_variants none_known it.variants
-repeated_members (body.Union it) = repeated_fields none_known it.fields.named
+-- fields whose name an earlier one has
+abbrev pub repeated_fields : List Field → List Span
+repeated_fields fields = places_from (λ number field. repeated_field (has_name (field_names (take number fields))) field.ident) 0 fields
 
--- a declaration that derives a trait twice, or whose name an earlier one has
-abbrev pub repeated_decl : List Unit' → Known → Ident → Option Unfit
-repeated_decl units known ident = refused_if (has_twins units || known ident.text) (unfit.DuplicateName ident.span)
+-- variants whose name an earlier one has, each before what its own fields repeat
+abbrev pub repeated_variants : List Variant → List Span
+repeated_variants variants =
+    places_from (λ number variant. repeated (has_name (variant_names (take number variants))) variant.ident ++ repeated_fields (list_of variant.fields)) 0 variants
 
--- the declarations from this number on, each before its members
-abbrev pub repeated_decls : List Unit' → Known → ℕ → List DeriveInput → Option Unfit
-repeated_decls units known number [] = None
-repeated_decls units known number (decl ∷ decls) =
-    or (repeated_decl (units_of units number) known decl.ident)
-    (or (repeated_members decl.body) (repeated_decls units (knowing decl.ident.text known) (number + 1) decls))
+abbrev pub repeated_members : «Data» → List Span
+repeated_members (body.Struct it) = repeated_fields (list_of it.fields)
+repeated_members (body.Enum it) = repeated_variants it.variants
+repeated_members (body.Union it) = repeated_fields it.fields.named
 
-abbrev pub duplicate_name : Program → Option Unfit
-duplicate_name program = repeated_decls program.units none_known 0 program.decls
+-- of declarations that have these units: those that derive a trait twice or whose name an earlier one has, each before
+-- what its own members repeat
+abbrev pub names_in : (ℕ → List Unit') → List DeriveInput → List Span
+names_in units decls =
+    places_from (λ number decl.
+    refused_if (has_twins (units number) || has_name (decl_names (take number decls)) decl.ident.text) decl.ident.span
+    ++ repeated_members decl.body)
+    0 decls
 
--- the names of a set are known
-abbrev pub held : BTreeSet (Bor (List ℕ)) → Known
-held names name = contains_by (λ it. slice_cmp nat_cmp name it.now) names
+-- what declarations repeat, whatever is derived from them
+abbrev pub repeated_names : List DeriveInput → List Span
+repeated_names decls = names_in (λ number. []) decls
+
+-- what a program repeats
+abbrev pub duplicate_names : Program → List Span
+duplicate_names program = names_in (units_of program.units) program.decls
+
+-- ---- names in sets
+
+-- the set has the name
+abbrev pub is_held : BTreeSet (Bor (List ℕ)) → Text → Bool
+is_held names name = contains_by (λ it. slice_cmp nat_cmp name it.now) names
+
+-- the set has the names of these identifiers, and no others
+pub record Knows (names : BTreeSet (Bor (List ℕ))) (idents : List Ident) : Type 0 where
+  pub each : (name : Text) → is_held names name ≡ has_name idents name
+
+-- the name of the identifier, if there is one, is put to what the set has
+pub record Learns (old new : BTreeSet (Bor (List ℕ))) (ident : Option Ident) : Type 0 where
+  pub each : (idents : List Ident) → Knows old idents → Knows new (idents ++ cons_option ident [])

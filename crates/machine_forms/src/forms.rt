@@ -1,19 +1,19 @@
 //! Forms that no run supports.
 
-ghost use Rattle.std.specs.Prelude.{◌≡◌, length, map};
+ghost use Rattle.std.specs.Prelude.{◌≡◌, ◌++◌, ◌∷◌, [], IfOk, OnOk, flat_map, length, map};
 ghost use Rattle.std.specs.Option.{option_copied};
 ghost use Rattle.std.specs.List.{list_any};
 ghost use Rattle.std.specs.Str.{bytes_eq};
-ghost use Rattle.machine_forms.specs.Answer.{Says, first_in};
 ghost use Rattle.machine_forms.specs.Asks.{seen};
 ghost use Rattle.machine_forms.specs.Forms as spec;
 ghost use Rattle.machine_forms.specs.Units.{AreGroups};
 
 use crate::ask::Ask;
 use crate::names::fields_of;
-use crate::unfit::{Form, Unfit};
+use crate::refusals::Unsupported;
+use crate::unfit::Form;
 use crate::units::asks_of;
-use base_core::Items;
+use base_core::{Items, Mem};
 use codegen_program::{DefaultSource, Fallback, PostfixTransform, Program, Unit};
 use machine_steps::Callable;
 use node_core::{Data, DeriveInput, Expr, Field, Generics, Ident, Path, Variant};
@@ -49,30 +49,45 @@ const GENERATED: [&str; 26] = [
     "_darling",
 ];
 
-/// Refuses the first form that no run supports.
-pub fn check_forms(alloc: Global, program: &Program, groups: &[Items<&Unit>]) -> Result<(), Unfit>
+/// The forms that no run supports.
+pub fn unsupported_forms(
+    alloc: Global,
+    program: &Program,
+    groups: &[Items<&Unit>],
+) -> Mem<Items<Unsupported>>
     requires { AreGroups program.now.units (length program.now.decls) groups.now }
-    ensures { Says result (spec.unsupported program.now) }
+    ensures { IfOk result (λ places. places ≡ spec.unsupported program.now) }
 {
+    let mut places = Items::new(alloc);
     let decls = program.decls.as_slice();
     for number in 0..decls.len() {
-        check_decl(alloc, groups[number].as_slice(), &decls[number])?;
+        push_decl(
+            alloc,
+            &mut places,
+            groups[number].as_slice(),
+            &decls[number],
+        )?;
     }
-    Ok(())
+    Ok(places)
 }
 
-fn check_decl(alloc: Global, units: &[&Unit], decl: &DeriveInput) -> Result<(), Unfit>
-    ensures { Says result (spec.unsupported_in (map (λ unit. unit.now) units.now) decl.now) }
+fn push_decl(
+    alloc: Global,
+    places: &mut Items<Unsupported>,
+    units: &[&Unit],
+    decl: &DeriveInput,
+) -> Mem<()>
+    ensures { OnOk result (places.new ≡ places.old ++ spec.unsupported_in (map (λ unit. unit.now) units.now) decl.now) }
 {
     if is_generic(&decl.generics) {
-        return Err(Unfit::Unsupported {
+        places.push(Unsupported {
             form: Form::Generics,
             span: decl.ident.span,
-        });
+        })?;
     }
-    check_members(&decl.body)?;
+    push_members(places, &decl.body)?;
     let asks = asks_of(alloc, units)?;
-    check_asks(asks.as_slice())
+    push_asks(places, asks.as_slice())
 }
 
 fn is_generic(generics: &Generics) -> bool
@@ -81,51 +96,51 @@ fn is_generic(generics: &Generics) -> bool
     !generics.params.as_slice().is_empty() || generics.where_clause.is_some()
 }
 
-fn check_members(body: &Data) -> Result<(), Unfit>
-    ensures { Says result (spec.generated_members body.now) }
+fn push_members(places: &mut Items<Unsupported>, body: &Data) -> Mem<()>
+    ensures { OnOk result (places.new ≡ places.old ++ spec.generated_members body.now) }
 {
     match body {
-        Data::Struct(it) => check_fields(fields_of(&it.fields)),
-        Data::Enum(it) => check_variants(it.variants.as_slice()),
-        Data::Union(it) => check_fields(it.fields.named.as_slice()),
+        Data::Struct(it) => push_fields(places, fields_of(&it.fields)),
+        Data::Enum(it) => push_variants(places, it.variants.as_slice()),
+        Data::Union(it) => push_fields(places, it.fields.named.as_slice()),
     }
 }
 
-fn check_variants(variants: &[Variant]) -> Result<(), Unfit>
-    ensures { Says result (first_in spec.generated_variant variants.now) }
+fn push_variants(places: &mut Items<Unsupported>, variants: &[Variant]) -> Mem<()>
+    ensures { OnOk result (places.new ≡ places.old ++ flat_map spec.generated_variant variants.now) }
 {
     for variant in variants {
-        check_fields(fields_of(&variant.fields))?;
+        push_fields(places, fields_of(&variant.fields))?;
     }
     Ok(())
 }
 
-fn check_fields(fields: &[Field]) -> Result<(), Unfit>
-    ensures { Says result (first_in spec.generated_field fields.now) }
+fn push_fields(places: &mut Items<Unsupported>, fields: &[Field]) -> Mem<()>
+    ensures { OnOk result (places.new ≡ places.old ++ flat_map spec.generated_field fields.now) }
 {
     for field in fields {
-        check_field(field)?;
+        push_field(places, field)?;
     }
     Ok(())
 }
 
-fn check_field(field: &Field) -> Result<(), Unfit>
-    ensures { Says result (spec.generated_field field.now) }
+fn push_field(places: &mut Items<Unsupported>, field: &Field) -> Mem<()>
+    ensures { OnOk result (places.new ≡ places.old ++ spec.generated_field field.now) }
 {
     match &field.ident {
-        Some(ident) if is_generated(ident.text.as_str()) => Err(generated(ident)),
+        Some(ident) if is_generated(ident.text.as_str()) => push_name(places, ident),
         _ => Ok(()),
     }
 }
 
-/// The refusal of a name that generated code has for itself.
-fn generated(ident: &Ident) -> Unfit
-    ensures { result ≡ Unfit.Unsupported Form.GeneratedName ident.now.span }
+/// Adds a name that generated code has for itself.
+fn push_name(places: &mut Items<Unsupported>, ident: &Ident) -> Mem<()>
+    ensures { OnOk result (places.new ≡ places.old ++ spec.named_at ident.now.span ∷ []) }
 {
-    Unfit::Unsupported {
+    places.push(Unsupported {
         form: Form::GeneratedName,
         span: ident.span,
-    }
+    })
 }
 
 fn is_generated(text: &str) -> bool
@@ -151,26 +166,26 @@ fn is_text(one: &str, other: &str) -> bool
     one == other
 }
 
-fn check_asks(asks: &[Ask<'_>]) -> Result<(), Unfit>
-    ensures { Says result (first_in spec.generated_ask (map seen asks.now)) }
+fn push_asks(places: &mut Items<Unsupported>, asks: &[Ask<'_>]) -> Mem<()>
+    ensures { OnOk result (places.new ≡ places.old ++ flat_map spec.generated_ask (map seen asks.now)) }
 {
     for ask in asks {
-        check_ask(*ask)?;
+        push_ask(places, *ask)?;
     }
     Ok(())
 }
 
-fn check_ask(ask: Ask<'_>) -> Result<(), Unfit>
-    ensures { Says result (spec.generated_ask (seen ask.entry)) }
+fn push_ask(places: &mut Items<Unsupported>, ask: Ask<'_>) -> Mem<()>
+    ensures { OnOk result (places.new ≡ places.old ++ spec.generated_ask (seen ask.entry)) }
 {
     match ask {
         Ask::Read(arm) => {
-            check_call(arm.with.as_ref())?;
-            check_post(arm.post.as_ref())
+            push_call(places, arm.with.as_ref())?;
+            push_post(places, arm.post.as_ref())
         }
-        Ask::Whole(DefaultSource::Explicit(callable)) => check_call(Some(callable)),
-        Ask::Member(init) => check_call(fallback_call(&init.fallback)),
-        Ask::Transform(post) => check_path(&post.function),
+        Ask::Whole(DefaultSource::Explicit(callable)) => push_call(places, Some(callable)),
+        Ask::Member(init) => push_call(places, fallback_call(&init.fallback)),
+        Ask::Transform(post) => push_path(places, &post.function),
         _ => Ok(()),
     }
 }
@@ -185,40 +200,40 @@ pub fn fallback_call(fallback: &Option<Fallback>) -> Option<&Callable>
     }
 }
 
-fn check_call(callable: Option<&Callable>) -> Result<(), Unfit>
-    ensures { Says result (spec.generated_call (option_copied callable.entry)) }
+fn push_call(places: &mut Items<Unsupported>, callable: Option<&Callable>) -> Mem<()>
+    ensures { OnOk result (places.new ≡ places.old ++ spec.generated_call (option_copied callable.entry)) }
 {
     match callable {
-        Some(callable) => check_called(&callable.call),
+        Some(callable) => push_called(places, &callable.call),
         None => Ok(()),
     }
 }
 
-/// Refuses a path that begins with `_darling`, where it is what is called.
-fn check_called(call: &Expr) -> Result<(), Unfit>
-    ensures { Says result (spec.generated_called call.now) }
+/// Adds the start of a path that begins with `_darling`, where it is what is called.
+fn push_called(places: &mut Items<Unsupported>, call: &Expr) -> Mem<()>
+    ensures { OnOk result (places.new ≡ places.old ++ spec.generated_called call.now) }
 {
     match call {
-        Expr::Path(it) if it.qself.is_none() => check_path(&it.path),
+        Expr::Path(it) if it.qself.is_none() => push_path(places, &it.path),
         _ => Ok(()),
     }
 }
 
-fn check_post(post: Option<&PostfixTransform>) -> Result<(), Unfit>
-    ensures { Says result (spec.generated_post (option_copied post.entry)) }
+fn push_post(places: &mut Items<Unsupported>, post: Option<&PostfixTransform>) -> Mem<()>
+    ensures { OnOk result (places.new ≡ places.old ++ spec.generated_post (option_copied post.entry)) }
 {
     match post {
-        Some(post) => check_path(&post.function),
+        Some(post) => push_path(places, &post.function),
         None => Ok(()),
     }
 }
 
-/// Refuses a path that begins with `_darling`.
-fn check_path(path: &Path) -> Result<(), Unfit>
-    ensures { Says result (spec.generated_path path.now) }
+/// Adds the start of a path that begins with `_darling`.
+fn push_path(places: &mut Items<Unsupported>, path: &Path) -> Mem<()>
+    ensures { OnOk result (places.new ≡ places.old ++ spec.generated_path path.now) }
 {
     match first_ident(path) {
-        Some(ident) if is_text(ident.text.as_str(), "_darling") => Err(generated(ident)),
+        Some(ident) if is_text(ident.text.as_str(), "_darling") => push_name(places, ident),
         _ => Ok(()),
     }
 }

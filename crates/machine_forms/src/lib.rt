@@ -4,12 +4,16 @@
 mod ask;
 mod forms;
 mod names;
+mod places;
+mod refusals;
 mod unfit;
 mod units;
 
 pub use ask::{Ask, Asked, push_unit};
-pub use forms::{check_forms, fallback_call};
+pub use forms::{fallback_call, unsupported_forms};
 pub use machine_steps::{Callable, Host, Place, Use, named_type};
-pub use names::{check_names, fields_of};
+pub use names::{duplicate_names, fields_of, repeated_names};
+pub use places::earliest;
+pub use refusals::{Refusals, Unsupported};
 pub use unfit::{Form, Unfit};
 pub use units::{asks_of, groups_of, is_receiver, item_flags};

@@ -2,4 +2,8 @@
 #![tactic(auto)]
 
 #[cfg(test)]
+mod in_text;
+#[cfg(test)]
+mod marks;
+#[cfg(test)]
 mod rows;

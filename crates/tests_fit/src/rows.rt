@@ -1,66 +1,20 @@
 //! What stands against a program. In a text `@` marks the start of the place that is refused, and is no part of it; a program
 //! without a mark is refused nowhere.
 
-use machine_fit::{Form, Host, Unfit, fit};
+use crate::marks::{shown, starts_at, unmarked};
+use machine_fit::{Host, fit};
 use machine_host::RefusingHost;
 use machine_std::StdHost;
-use node_core::{Span, Text};
 use std::alloc::Global;
 use std::test::Fail;
 use tests_checks::Tested;
 use tests_programs::program_of;
 
-/// The text without its mark, and where the mark stood.
-fn unmarked(alloc: Global, marked: &str) -> Tested<(Text, Option<usize>)> {
-    let mut text = Text::new(alloc);
-    match marked.split_once('@') {
-        Some((before, behind)) => {
-            text.push_str(before)?;
-            text.push_str(behind)?;
-            Ok((text, Some(before.len())))
-        }
-        None => {
-            text.push_str(marked)?;
-            Ok((text, None))
-        }
-    }
-}
-
-/// What is refused, and where.
-fn shown(answer: &Unfit) -> (&'static str, Option<Span>) {
-    match answer {
-        Unfit::DuplicateName { span } => ("duplicate name", Some(*span)),
-        Unfit::Unsupported {
-            form: Form::Generics,
-            span,
-        } => ("generics", Some(*span)),
-        Unfit::Unsupported {
-            form: Form::GeneratedName,
-            span,
-        } => ("generated name", Some(*span)),
-        Unfit::UnknownType { span } => ("unknown type", Some(*span)),
-        Unfit::UnknownCallable { span } => ("unknown callable", Some(*span)),
-        Unfit::NoReceiver => ("no receiver", None),
-        Unfit::NoMemory => ("no memory", None),
-    }
-}
-
-fn starts_at(span: Option<Span>, place: Option<usize>) -> bool {
-    match (span, place) {
-        (Some(Span::At { start, .. }), Some(place)) => start as usize == place,
-        (None, None) => true,
-        _ => false,
-    }
-}
-
 /// The program of the text is refused so, at its mark; `fits`: it is not refused.
-fn answers<H: Host>(alloc: Global, host: &H, wanted: &str, marked: &str) -> Tested<()> {
-    let (text, place) = unmarked(alloc, marked)?;
+pub(crate) fn answers<H: Host>(alloc: Global, host: &H, wanted: &str, marked: &str) -> Tested<()> {
+    let (text, place) = unmarked(alloc, marked, '@')?;
     let program = program_of(alloc, text.as_str())?;
-    let (found, span) = match fit(alloc, &program, host) {
-        Ok(()) => ("fits", None),
-        Err(answer) => shown(&answer),
-    };
+    let (found, span) = shown(fit(alloc, &program, host).err().as_ref());
     if found == wanted && starts_at(span, place) {
         return Ok(());
     }

@@ -1,4 +1,4 @@
-use Rattle.std.proofs.Common.{◌≡◌, ◌<◌, ◌+◌, ◌++◌, ◌∙◌, Bool, List, length, drop, ap, sym, arith}
+use Rattle.std.proofs.Common.{◌<◌, ◌+◌, ◌++◌, ◌∙◌, Bool, List, length, drop, ap, sym, arith}
 use Rattle.machine_forms.specs.Units.{flags_from}
 use Rattle.machine_forms.proofs.Groups.{flags-more}
 use Rattle.machine_forms.proofs.units.item_flags.Goals as goal
