@@ -15,12 +15,12 @@ use Rattle.options_core.specs.Values.{Rules}
 use Rattle.options_core.specs.Walk.{all_faults}
 use Rattle.options_core.specs.declared.container.Core.{Core}
 use Rattle.options_core.specs.declared.input_field.InputField.{InputField}
-use Rattle.options_core.proofs.ShapeLemmas.{HasOneShape, has_one_shape}
 use Rattle.options_core.specs.Body.{default_by, field_meaning, field_start, inherited}
 use Rattle.options_core.specs.FieldOptions.{default, field_named, of_field, of_field_faults, same_field}
 use Rattle.options_core.specs.Stages.{good_fields}
 use Rattle.law_options.specs.Meant.{own_default}
 use Rattle.law_options.proofs.Owns.{IsOwnIfAny, all-append, first_default}
+use Rattle.law_options.proofs.Shapes.{HasOneShape, has_one_shape}
 
 -- the container has a default, from which a member is inherited
 abbrev pub HasDefault : Option Default → Type 0

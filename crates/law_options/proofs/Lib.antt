@@ -1,3 +1,6 @@
 pub mod Owns
+pub mod Shapes
 pub mod Fields
 pub mod Declared
+pub mod Idents
+pub mod Programs

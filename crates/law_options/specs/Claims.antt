@@ -1,14 +1,23 @@
 -- What is claimed of options.
-use Rattle.std.specs.Prelude.{◌≡◌, ℕ, false, List}
+use Rattle.std.specs.Prelude.{◌≡◌, ℕ, false, List, Some}
 use Rattle.node_core.specs.declared.derive.DeriveInput.{DeriveInput}
 use Rattle.codegen_core.specs.declared.from_derive_impl.FromDeriveInputImpl.{FromDeriveInputImpl}
 use Rattle.codegen_core.specs.declared.from_meta_impl.FromMetaImpl.{FromMetaImpl}
 use Rattle.codegen_program.specs.declared.program.Derive.{Derive}
+use Rattle.codegen_program.specs.declared.program.Derive.TheVariants as derive
+use Rattle.codegen_program.specs.declared.program.Program.{Program}
+use Rattle.codegen_program.specs.declared.program.«Unit».{«Unit» as Unit'}
 use Rattle.options_core.specs.Values.{Rules}
 use Rattle.options_core.specs.Stages.{fdi_reader, meta_reader, options_of}
 use Rattle.options_core.specs.Views.{IsInputImpl, IsMetaImpl}
 use Rattle.law_machine.specs.Compiles.{IsDecl, IsInputDecl}
+use Rattle.law_machine.specs.HostSays.{HostSays}
+use Rattle.law_machine.specs.Machine.{machine}
+use Rattle.run_compile.specs.Compiled.{IsProgram, IsUnit}
+use Rattle.run_compile.specs.Pairs.{pair}
+use Rattle.run_compile.specs.Unbuilt.{IsBuilt}
 use Rattle.law_options.specs.Meant.{meant_input, meant_items}
+use Rattle.law_options.specs.Texts.{text_meaning}
 
 -- what is compiled from the options of `FromDeriveInput` is of the declaration that they mean
 abbrev pub InputOptionsAreMeant : Type 0
@@ -23,3 +32,11 @@ ItemOptionsAreMeant =
     (rules : Rules) (input : DeriveInput) (left : FromMetaImpl) (number : ℕ) (derives : List Derive)
     → IsMetaImpl left (options_of (meta_reader rules input) input)
     → IsDecl left.base (meant_items number derives (options_of (meta_reader rules input) input))
+
+-- The unit of a declaration for `FromDeriveInput`, in the program that a text compiles to, gives on any item what the item
+-- means under the text.
+abbrev pub ProgramIsMeant : Type 0
+ProgramIsMeant =
+    (host : HostSays) (rules : Rules) (decls : List DeriveInput) (program : Program) (number : ℕ) (decl : DeriveInput) (unit : Unit') (subject : DeriveInput)
+    → IsProgram rules decls program → IsBuilt decl → IsUnit rules (pair number decl derive.FromDeriveInput) unit
+    → machine host program unit subject ≡ Some (text_meaning host rules decls number decl subject)

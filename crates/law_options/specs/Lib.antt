@@ -1,2 +1,3 @@
 pub mod Meant
+pub mod Texts
 pub mod Claims

@@ -1,6 +1,7 @@
-//! Laws of options: what is compiled from them is of the declaration that they mean.
+//! Laws of options: what is compiled from them is of the declaration that they mean, so the program that a text of
+//! declarations compiles to gives what the text means.
 #![tactic(auto)]
 
 mod laws;
 
-pub use laws::{input_options_are_meant, item_options_are_meant};
+pub use laws::{a_program_is_meant, input_options_are_meant, item_options_are_meant};

@@ -1,3 +1,2 @@
 pub mod StageLemmas
 pub mod ViewLemmas
-pub mod ShapeLemmas

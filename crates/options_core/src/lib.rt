@@ -20,6 +20,7 @@ pub use from_derive::FdiOptions;
 pub use from_meta::FromMetaOptions;
 pub use input_field::InputField;
 pub use input_variant::InputVariant;
+pub use names::{CoreName, FdiName, FieldName, MetaName, OuterName};
 pub use options_rows::{
     DataShape, DefaultExpression, DeriveInputShapeSet, ForwardAttrsFilter, Ignored, ParseAttribute,
     ParseData, SpannedValue, WithOriginal,

@@ -10,7 +10,7 @@ use options_rows::{Path, word_of};
 
 /// The options of every container.
 #[derive(Clone, Copy)]
-pub(crate) enum CoreName {
+pub enum CoreName {
     Default,
     RenameAll,
     Map,
@@ -42,7 +42,7 @@ impl CoreName {
 
 /// The options of a container under an outer derive.
 #[derive(Clone, Copy)]
-pub(crate) enum OuterName {
+pub enum OuterName {
     Attributes,
     ForwardAttrs,
     FromIdent,
@@ -64,7 +64,7 @@ impl OuterName {
 
 /// The options of a container under `FromDeriveInput`.
 #[derive(Clone, Copy)]
-pub(crate) enum FdiName {
+pub enum FdiName {
     Supports,
     Outer(OuterName),
 }
@@ -82,7 +82,7 @@ impl FdiName {
 
 /// The options of a container under `FromMeta`.
 #[derive(Clone, Copy)]
-pub(crate) enum MetaName {
+pub enum MetaName {
     FromWord,
     FromNone,
     FromExpr,
@@ -106,7 +106,7 @@ impl MetaName {
 
 /// The options of a field.
 #[derive(Clone, Copy)]
-pub(crate) enum FieldName {
+pub enum FieldName {
     Multiple,
     Rename,
     With,

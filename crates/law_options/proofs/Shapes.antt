@@ -4,10 +4,10 @@ use Rattle.std.specs.Prelude.{is_some, unwrap_or}
 use Rattle.node_core.specs.declared.attr.Meta.{Meta}
 use Rattle.node_core.specs.Meta.{path_of_meta}
 use Rattle.error_fault.specs.declared.fault.Fault.{Fault}
-use Rattle.options_rows.specs.Entries.{Entry, Refused, Given, items}
-use Rattle.options_rows.specs.Rows.{else_faults, holds, one}
-use Rattle.options_rows.specs.Values.{word_of}
-use Rattle.options_rows.specs.Walk.{all_faults}
+use Rattle.options_core.specs.Entries.{Entry, Refused, Given, items}
+use Rattle.options_core.specs.Rows.{else_faults, holds, one}
+use Rattle.options_core.specs.Values.{word_of}
+use Rattle.options_core.specs.Walk.{all_faults}
 use Rattle.options_core.specs.declared.input_field.InputField.{InputField}
 use Rattle.options_core.specs.declared.names.FieldName.{FieldName}
 use Rattle.options_core.specs.declared.names.FieldName.TheVariants as option

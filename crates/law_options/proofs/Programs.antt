@@ -1,0 +1,77 @@
+-- The units of a program are those of the declarations that its text means.
+use Rattle.std.proofs.Common.{◌≡◌, ◌∙◌, ℕ, ◌==◌, ◌&&◌, Bool, true, false, List, [], ◌∷◌, ◌++◌, Option, Some, None, refl, sym, ap, subst}
+use Rattle.std.specs.Prelude.{flat_map, if◌then◌else◌}
+use Rattle.std.specs.List.{AllZip}
+use Rattle.node_core.specs.declared.derive.DeriveInput.{DeriveInput}
+use Rattle.codegen_program.specs.declared.program.Derive.{Derive}
+use Rattle.codegen_program.specs.declared.program.Derive.TheVariants as derive
+use Rattle.codegen_program.specs.declared.program.«Unit».{«Unit» as Unit'}
+use Rattle.codegen_core.specs.Compiled.{compiled_derive_input, compiled_meta}
+use Rattle.codegen_core.specs.declared.from_meta_impl.FromMetaImpl.{FromMetaImpl}
+use Rattle.law_machine.specs.Made.{named_type}
+use Rattle.law_machine.specs.Machine.{is_from_meta, machine, meta_unit, unit_type}
+use Rattle.law_machine.specs.Decl.{Decl}
+use Rattle.law_machine.specs.Setting.{Setting}
+use Rattle.law_machine.specs.Declarations.{declared_meaning, meta_decl}
+use Rattle.options_core.specs.Values.{Rules}
+use Rattle.options_core.specs.Stages.{fdi_reader, meta_reader, options_of}
+use Rattle.options_core.specs.Views.{IsMetaImpl}
+use Rattle.run_compile.specs.Compiled.{IsUnit, IsUnitUnder}
+use Rattle.run_compile.specs.Pairs.{Pair, pairs_from}
+use Rattle.law_machine.specs.Compiles.{AreMetaUnits, IsMetaUnit}
+use Rattle.law_machine.proofs.Programs.{program_is_meaning}
+use Rattle.law_options.specs.Meant.{meant_items}
+use Rattle.law_options.proofs.Declared.{input_options_are, item_options_are}
+use Rattle.law_options.specs.Claims.{ProgramIsMeant}
+use Rattle.law_options.specs.Texts.{decls_under, input_decl, item_decls, pair_decls}
+use Rattle.law_options.proofs.Idents.{no_ident}
+
+-- the unit of the number that is asked for, or a later one
+chosen : (test : Bool) (unit : Unit') (decl : Decl) (units : Option Unit') (decls : Option Decl)
+    → IsMetaUnit (Some unit) (Some decl) → IsMetaUnit units decls
+    → IsMetaUnit (if test && true then Some unit else units) (if test && true then Some decl else decls)
+chosen true unit decl units decls is are = is
+chosen false unit decl units decls is are = are
+
+-- a unit that reads no items is passed
+passed : (test : Bool) (unit : Unit') (units : Option Unit') (decls : Option Decl) → IsMetaUnit units decls
+    → IsMetaUnit (if test && false then Some unit else units) decls
+passed true unit units decls are = are
+passed false unit units decls are = are
+
+module _ (rules : Rules) (asked : ℕ) where
+  abbrev Agree : List Unit' → List Decl → Type 0
+  Agree units decls = IsMetaUnit (meta_unit units asked) (meta_decl decls asked)
+
+  step : (number : ℕ) (decl : DeriveInput) (derive : Derive) (unit : Unit') (units : List Unit') (decls : List Decl)
+      → IsUnitUnder rules number decl derive unit → Agree units decls → Agree (unit ∷ units) (decls_under rules number decl derive ++ decls)
+  step number decl derive.FromMeta unit units decls (left, is, compiled) are =
+      let it = meant_items number (derive.FromMeta ∷ []) (options_of (meta_reader rules decl) decl) in
+      let P : Unit' → Type 0 = λ u. Agree (u ∷ units) (it ∷ decls) in
+      let made = compiled_meta left number in
+      subst P (sym compiled)
+      (chosen (number == asked) made it (meta_unit units asked) (meta_decl decls asked)
+      (left, refl, item_options_are rules decl left number (derive.FromMeta ∷ []) is, ap (λ ident. named_type ident.text) is.base.ident)
+      are)
+  step number decl derive.FromDeriveInput unit units decls (left, is, compiled) are =
+      let P : Unit' → Type 0 = λ u. Agree (u ∷ units) decls in
+      let made = compiled_derive_input left number in
+      subst P (sym compiled) (passed (number == asked) made (meta_unit units asked) (meta_decl decls asked) are)
+  step number decl derive.FromAttributes unit units decls is are = absurd is
+  step number decl derive.FromField unit units decls is are = absurd is
+  step number decl derive.FromTypeParam unit units decls is are = absurd is
+  step number decl derive.FromVariant unit units decls is are = absurd is
+
+  units_are : (pairs : List Pair) (units : List Unit') → AllZip (IsUnit rules) pairs units → Agree units (flat_map (pair_decls rules) pairs)
+  units_are [] [] zip = tt
+  units_are [] (unit ∷ units) zip = absurd zip
+  units_are (it ∷ pairs) [] zip = absurd zip
+  units_are (it ∷ pairs) (unit ∷ units) zip = step it.number it.decl it.derive unit units (flat_map (pair_decls rules) pairs) zip.0 (units_are pairs units zip.1)
+
+pub program_is_meant : ProgramIsMeant
+program_is_meant host rules decls program number decl unit subject is built (left, left_is, compiled) =
+    let meant = input_decl rules number decl in
+    program_is_meaning host program unit (item_decls rules decls) meant subject
+    (λ asked. units_are rules asked (pairs_from 0 decls) program.units is.units)
+    (left, compiled, input_options_are rules decl left number (derive.FromDeriveInput ∷ []) left_is (left_is.ident ∙ no_ident rules decl built), ap unit_type compiled ∙ ap (λ ident. named_type ident.text) left_is.base.ident)
+    ∙ ap (λ bare. let setting : Setting = record { host = host; decls = bare } in Some (declared_meaning setting (item_decls rules decls) meant subject)) is.bare

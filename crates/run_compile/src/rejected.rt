@@ -1,0 +1,54 @@
+//! Why declarations compile to no program.
+
+ghost use Rattle.std.specs.Prelude.{◌≡◌};
+
+use codegen_core::Derive;
+use error_core::{Fault, Items};
+use node_core::Ident;
+use std::alloc::{AllocError, AllocFailed};
+
+/// A declaration whose options have faults under a derive.
+pub struct Rejected {
+    pub decl: Ident,
+    pub derive: Derive,
+    /// All of them, in order.
+    pub faults: Items<Fault>,
+}
+
+impl Drop for Rejected {
+    fn drop(self) {
+        let Self {
+            decl: _decl,
+            derive: _,
+            faults: _faults,
+        } = self;
+    }
+}
+
+/// Why declarations compile to no program.
+#[derive(Drop)]
+pub enum CompileFail {
+    /// The first declaration and derive whose options have faults.
+    Rejected(Rejected),
+    NoMemory,
+}
+
+impl From<AllocError> for CompileFail {
+    ghost use Rattle.run_compile.specs.declared.rejected.CompileFail.TheVariants.{NoMemory};
+
+    ghost from_gives = { λ _ fail. fail ≡ NoMemory };
+
+    fn from(_error: AllocError) -> CompileFail {
+        CompileFail::NoMemory
+    }
+}
+
+impl<T: Drop> From<AllocFailed<T>> for CompileFail {
+    ghost use Rattle.run_compile.specs.declared.rejected.CompileFail.TheVariants.{NoMemory};
+
+    ghost from_gives = { λ _ fail. fail ≡ NoMemory };
+
+    fn from(_error: AllocFailed<T>) -> CompileFail {
+        CompileFail::NoMemory
+    }
+}
