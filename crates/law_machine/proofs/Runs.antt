@@ -6,7 +6,7 @@ use Rattle.meta_nested.specs.declared.nested.NestedMeta.{NestedMeta}
 use Rattle.codegen_program.specs.declared.program.Derive.{Derive}
 use Rattle.codegen_program.specs.declared.program.Derive.TheVariants as derives
 use Rattle.machine_execute.specs.Elements.{OnNested, OnInput, unit_cells, unit_on}
-use Rattle.machine_steps.specs.Machine.{earlier_units, is_from_meta, setting_of}
+use Rattle.meaning_core.specs.Machine.{earlier_units, is_from_meta, setting_of}
 use Rattle.law_machine.specs.Claims.{UnitsCanBeRun}
 use Rattle.law_machine.specs.Kinds.{IsOfKind}
 use Rattle.law_machine.proofs.Left.{inputs_have_outcomes}

@@ -2,9 +2,10 @@ pub mod Compiles
 pub mod Claims
 pub mod Left
 pub mod Kinds
-pub use Rattle.machine_host.specs.HostSays
-pub use Rattle.machine_host.specs.Made
-pub use Rattle.machine_steps.specs.Machine
-pub use Rattle.machine_steps.specs.Setting
+pub use Rattle.meaning_core.specs.HostSays
+pub use Rattle.meaning_core.specs.Made
+pub use Rattle.meaning_core.specs.Machine
+pub use Rattle.meaning_core.specs.Setting
 pub use Rattle.meaning_core.specs.Decl
 pub use Rattle.meaning_core.specs.Declarations
+pub use Rattle.machine_execute.specs.Elements

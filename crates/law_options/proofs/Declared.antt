@@ -18,21 +18,21 @@ use Rattle.codegen_core.specs.declared.field.Field.{Field}
 use Rattle.codegen_core.specs.declared.trait_impl.TraitImpl.{TraitImpl}
 use Rattle.codegen_core.specs.declared.variant.Variant.{Variant}
 use Rattle.law_machine.specs.Decl.{Decl, FieldDecl, Default, OfCall, OfContainer, fallback_by, skip_fallback}
-use Rattle.options_core.specs.AstData.{«Data»}
-use Rattle.options_core.specs.AstData.TheVariants as container
-use Rattle.options_core.specs.DefaultExpression.{DefaultExpression}
-use Rattle.options_core.specs.DefaultExpression.TheVariants as defaults
-use Rattle.options_core.specs.Entries.{items, option_entries}
-use Rattle.options_core.specs.Members.{fields_of}
-use Rattle.options_core.specs.Rows.{values}
-use Rattle.options_core.specs.Values.{Rules}
-use Rattle.options_core.specs.declared.container.Core.{Core}
-use Rattle.options_core.specs.declared.input_field.InputField.{InputField}
-use Rattle.options_core.specs.Body.{Body, start_body, with_fields}
-use Rattle.options_core.specs.ContainerOptions.{core_items, default, fdi_named, from_ident_of, meta_core_items, meta_named, outer_items, same_core}
-use Rattle.options_core.specs.Stages.{container_options, fdi_reader, good_fields, meta_reader}
-use Rattle.options_core.specs.Views as views
-use Rattle.options_core.specs.Views.{AreDefaults, IsImpl, IsStruct}
+use Rattle.run_compile.specs.AstData.{«Data»}
+use Rattle.run_compile.specs.AstData.TheVariants as container
+use Rattle.run_compile.specs.DefaultExpression.{DefaultExpression}
+use Rattle.run_compile.specs.DefaultExpression.TheVariants as defaults
+use Rattle.run_compile.specs.Entries.{items, option_entries}
+use Rattle.run_compile.specs.Members.{fields_of}
+use Rattle.run_compile.specs.Rows.{values}
+use Rattle.run_compile.specs.Values.{Rules}
+use Rattle.run_compile.specs.Core.{Core}
+use Rattle.run_compile.specs.InputField.{InputField}
+use Rattle.run_compile.specs.Body.{Body, start_body, with_fields}
+use Rattle.run_compile.specs.ContainerOptions.{core_items, default, fdi_named, from_ident_of, meta_core_items, meta_named, outer_items, same_core}
+use Rattle.run_compile.specs.Stages.{container_options, fdi_reader, good_fields, meta_reader}
+use Rattle.run_compile.specs.Views as views
+use Rattle.run_compile.specs.Views.{AreDefaults, IsImpl, IsStruct}
 use Rattle.law_machine.specs.Compiles.{IsDecl, IsField, meant_default, meant_fallback}
 use Rattle.law_machine.proofs.Left.{flat_is, many_is}
 use Rattle.law_options.specs.Claims.{InputOptionsAreMeant, ItemOptionsAreMeant}

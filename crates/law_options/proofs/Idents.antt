@@ -8,15 +8,15 @@ use Rattle.node_core.specs.Meta.{path_of_meta}
 use Rattle.node_core.specs.declared.attr.Meta.{Meta}
 use Rattle.node_core.specs.declared.derive.DeriveInput.{DeriveInput}
 use Rattle.error_fault.specs.Outcome.{Outcome, Value, value_of}
-use Rattle.options_core.specs.Entries.{items, option_entries}
-use Rattle.options_core.specs.Rows.{last_of, list_of, Named, values}
-use Rattle.options_core.specs.Values.{Rules, word_of}
-use Rattle.options_core.specs.ContainerOptions.{core_name_of, fdi_named, outer_item, outer_items, outer_name_of, same_outer}
-use Rattle.options_core.specs.declared.names.CoreName.{CoreName}
-use Rattle.options_core.specs.declared.names.FdiName.TheVariants as fdi
-use Rattle.options_core.specs.declared.names.OuterName.{OuterName}
-use Rattle.options_core.specs.declared.names.OuterName.TheVariants as outer
-use Rattle.options_core.specs.Stages.{fdi_reader, options_of}
+use Rattle.run_compile.specs.Entries.{items, option_entries}
+use Rattle.run_compile.specs.Rows.{last_of, list_of, Named, values}
+use Rattle.run_compile.specs.Values.{Rules, word_of}
+use Rattle.run_compile.specs.ContainerOptions.{core_name_of, fdi_named, outer_item, outer_items, outer_name_of, same_outer}
+use Rattle.run_compile.specs.CoreName.{CoreName}
+use Rattle.run_compile.specs.FdiName.TheVariants as fdi
+use Rattle.run_compile.specs.OuterName.{OuterName}
+use Rattle.run_compile.specs.OuterName.TheVariants as outer
+use Rattle.run_compile.specs.Stages.{fdi_reader, options_of}
 use Rattle.run_compile.specs.Unbuilt.{IsBuilt, is_unbuilt_word}
 use Rattle.run_compile.proofs.BuiltLemmas.{no_words}
 

@@ -4,3 +4,5 @@ pub mod Fields
 pub mod Declared
 pub mod Idents
 pub mod Programs
+pub mod OneProgram
+pub use Rattle.run_compile.proofs.BuiltLemmas

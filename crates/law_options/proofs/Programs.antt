@@ -13,9 +13,9 @@ use Rattle.law_machine.specs.Machine.{is_from_meta, machine, meta_unit, unit_typ
 use Rattle.law_machine.specs.Decl.{Decl}
 use Rattle.law_machine.specs.Setting.{Setting}
 use Rattle.law_machine.specs.Declarations.{declared_meaning, meta_decl}
-use Rattle.options_core.specs.Values.{Rules}
-use Rattle.options_core.specs.Stages.{fdi_reader, meta_reader, options_of}
-use Rattle.options_core.specs.Views.{IsMetaImpl}
+use Rattle.run_compile.specs.Values.{Rules}
+use Rattle.run_compile.specs.Stages.{fdi_reader, meta_reader, options_of}
+use Rattle.run_compile.specs.Views.{IsMetaImpl}
 use Rattle.run_compile.specs.Compiled.{IsUnit, IsUnitUnder}
 use Rattle.run_compile.specs.Pairs.{Pair, pairs_from}
 use Rattle.law_machine.specs.Compiles.{AreMetaUnits, IsMetaUnit}

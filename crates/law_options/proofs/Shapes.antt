@@ -4,15 +4,15 @@ use Rattle.std.specs.Prelude.{is_some, unwrap_or}
 use Rattle.node_core.specs.declared.attr.Meta.{Meta}
 use Rattle.node_core.specs.Meta.{path_of_meta}
 use Rattle.error_fault.specs.declared.fault.Fault.{Fault}
-use Rattle.options_core.specs.Entries.{Entry, Refused, Given, items}
-use Rattle.options_core.specs.Rows.{else_faults, holds, one}
-use Rattle.options_core.specs.Values.{word_of}
-use Rattle.options_core.specs.Walk.{all_faults}
-use Rattle.options_core.specs.declared.input_field.InputField.{InputField}
-use Rattle.options_core.specs.declared.names.FieldName.{FieldName}
-use Rattle.options_core.specs.declared.names.FieldName.TheVariants as option
-use Rattle.options_core.specs.FieldLaws.{of_field-more}
-use Rattle.options_core.specs.FieldOptions.{clash_of, clashes, field_faults, field_name_of, field_options, field_table, of_field, of_field_faults, read_faults, together}
+use Rattle.run_compile.specs.Entries.{Entry, Refused, Given, items}
+use Rattle.run_compile.specs.Rows.{else_faults, holds, one}
+use Rattle.run_compile.specs.Values.{word_of}
+use Rattle.run_compile.specs.Walk.{all_faults}
+use Rattle.run_compile.specs.InputField.{InputField}
+use Rattle.run_compile.specs.FieldName.{FieldName}
+use Rattle.run_compile.specs.FieldName.TheVariants as option
+use Rattle.run_compile.specs.FieldLaws.{of_field-more}
+use Rattle.run_compile.specs.FieldOptions.{clash_of, clashes, field_faults, field_name_of, field_options, field_table, of_field, of_field_faults, read_faults, together}
 
 -- it is not both
 abbrev pub HasOneShape : InputField → Type 0

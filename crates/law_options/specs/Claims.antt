@@ -7,9 +7,9 @@ use Rattle.codegen_program.specs.declared.program.Derive.{Derive}
 use Rattle.codegen_program.specs.declared.program.Derive.TheVariants as derive
 use Rattle.codegen_program.specs.declared.program.Program.{Program}
 use Rattle.codegen_program.specs.declared.program.«Unit».{«Unit» as Unit'}
-use Rattle.options_core.specs.Values.{Rules}
-use Rattle.options_core.specs.Stages.{fdi_reader, meta_reader, options_of}
-use Rattle.options_core.specs.Views.{IsInputImpl, IsMetaImpl}
+use Rattle.run_compile.specs.Values.{Rules}
+use Rattle.run_compile.specs.Stages.{fdi_reader, meta_reader, options_of}
+use Rattle.run_compile.specs.Views.{IsInputImpl, IsMetaImpl}
 use Rattle.law_machine.specs.Compiles.{IsDecl, IsInputDecl}
 use Rattle.law_machine.specs.HostSays.{HostSays}
 use Rattle.law_machine.specs.Machine.{machine}
@@ -40,3 +40,7 @@ ProgramIsMeant =
     (host : HostSays) (rules : Rules) (decls : List DeriveInput) (program : Program) (number : ℕ) (decl : DeriveInput) (unit : Unit') (subject : DeriveInput)
     → IsProgram rules decls program → IsBuilt decl → IsUnit rules (pair number decl derive.FromDeriveInput) unit
     → machine host program unit subject ≡ Some (text_meaning host rules decls number decl subject)
+
+-- the declarations of a text have one program at most
+abbrev pub ProgramIsOne : Type 0
+ProgramIsOne = (rules : Rules) (decls : List DeriveInput) (one other : Program) → IsProgram rules decls one → IsProgram rules decls other → one ≡ other

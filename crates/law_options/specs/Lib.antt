@@ -1,3 +1,12 @@
 pub mod Meant
 pub mod Texts
 pub mod Claims
+pub use Rattle.law_machine.specs.Elements
+pub use Rattle.law_machine.specs.HostSays
+pub use Rattle.law_machine.specs.Machine
+pub use Rattle.run_compile.specs.Attributes
+pub use Rattle.run_compile.specs.Compiled
+pub use Rattle.run_compile.specs.Derives
+pub use Rattle.run_compile.specs.Pairs
+pub use Rattle.run_compile.specs.Unbuilt
+pub use Rattle.run_compile.specs.Values

@@ -6,15 +6,15 @@ use Rattle.node_make.specs.PathText.{path_text}
 use Rattle.codegen_program.specs.declared.program.Derive.{Derive}
 use Rattle.law_machine.specs.Made.{named_type}
 use Rattle.law_machine.specs.Decl.{Decl, FieldDecl, Default, ByType, ByCall}
-use Rattle.options_core.specs.AstData.TheVariants as container
-use Rattle.options_core.specs.DefaultExpression.{DefaultExpression}
-use Rattle.options_core.specs.DefaultExpression.TheVariants as defaults
-use Rattle.options_core.specs.Rows.{holds}
-use Rattle.options_core.specs.Body.{Body}
-use Rattle.options_core.specs.declared.container.Core.{Core}
-use Rattle.options_core.specs.declared.from_derive.FdiOptions.{FdiOptions}
-use Rattle.options_core.specs.declared.from_meta.FromMetaOptions.{FromMetaOptions}
-use Rattle.options_core.specs.declared.input_field.InputField.{InputField}
+use Rattle.run_compile.specs.AstData.TheVariants as container
+use Rattle.run_compile.specs.DefaultExpression.{DefaultExpression}
+use Rattle.run_compile.specs.DefaultExpression.TheVariants as defaults
+use Rattle.run_compile.specs.Rows.{holds}
+use Rattle.run_compile.specs.Body.{Body}
+use Rattle.run_compile.specs.Core.{Core}
+use Rattle.run_compile.specs.FdiOptions.{FdiOptions}
+use Rattle.run_compile.specs.FromMetaOptions.{FromMetaOptions}
+use Rattle.run_compile.specs.InputField.{InputField}
 use Rattle.law_machine.specs.Left.{shape_of}
 
 -- a default of one's own; what is inherited is the container's

@@ -9,8 +9,8 @@ use Rattle.codegen_program.specs.declared.program.Derive.{Derive}
 use Rattle.codegen_program.specs.declared.program.Derive.TheVariants as derive
 use Rattle.law_machine.specs.Decl.{Decl}
 use Rattle.law_machine.specs.Declarations.{declared_meaning}
-use Rattle.options_core.specs.Values.{Rules}
-use Rattle.options_core.specs.Stages.{fdi_reader, meta_reader, options_of}
+use Rattle.run_compile.specs.Values.{Rules}
+use Rattle.run_compile.specs.Stages.{fdi_reader, meta_reader, options_of}
 use Rattle.run_compile.specs.Attributes.{without_attributes}
 use Rattle.run_compile.specs.Pairs.{Pair, pairs_from}
 use Rattle.law_options.specs.Meant.{meant_input, meant_items}

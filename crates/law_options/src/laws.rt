@@ -1,6 +1,6 @@
 //! The laws. These functions do nothing: their clauses are the laws.
 
-ghost use Rattle.law_options.specs.Claims.{InputOptionsAreMeant, ItemOptionsAreMeant, ProgramIsMeant};
+ghost use Rattle.law_options.specs.Claims.{InputOptionsAreMeant, ItemOptionsAreMeant, ProgramIsMeant, ProgramIsOne};
 
 /// What is compiled from the options of a receiver that derives `FromDeriveInput` is of the declaration that they mean.
 pub fn input_options_are_meant()
@@ -15,4 +15,9 @@ pub fn item_options_are_meant()
 /// The program that a text compiles to, run on any item, gives what the item means under the declarations of the text.
 pub fn a_program_is_meant()
     ensures { ProgramIsMeant }
+{}
+
+/// The declarations of a text compile to one program at most.
+pub fn a_text_has_one_program()
+    ensures { ProgramIsOne }
 {}

@@ -4,4 +4,6 @@
 
 mod laws;
 
-pub use laws::{a_program_is_meant, input_options_are_meant, item_options_are_meant};
+pub use laws::{
+    a_program_is_meant, a_text_has_one_program, input_options_are_meant, item_options_are_meant,
+};

@@ -6,3 +6,4 @@ pub mod SlotLemmas
 pub mod Arms
 pub mod Finish
 pub mod PlaceLemmas
+pub use Rattle.machine_steps.proofs.Statements

@@ -11,4 +11,17 @@ pub mod Receiver
 pub mod Outcome
 pub mod Slots
 pub mod Places
+pub use Rattle.machine_steps.specs.Attributes
+pub use Rattle.machine_steps.specs.Below
+pub use Rattle.machine_steps.specs.Convert
+pub use Rattle.machine_steps.specs.HostSays
+pub use Rattle.machine_steps.specs.Machine
+pub use Rattle.machine_steps.specs.Made
+pub use Rattle.machine_steps.specs.Names
+pub use Rattle.machine_steps.specs.Progress
+pub use Rattle.machine_steps.specs.Reading
+pub use Rattle.machine_steps.specs.Setting
+pub use Rattle.machine_steps.specs.Slots
+pub use Rattle.machine_steps.specs.State
+pub use Rattle.machine_steps.specs.Statements
 pub use Rattle.machine_steps.specs.Trees

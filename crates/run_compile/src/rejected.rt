@@ -3,9 +3,9 @@
 ghost use Rattle.std.specs.Prelude.{◌≡◌};
 
 use codegen_core::Derive;
-use error_core::{Fault, Items};
+use error_core::{Fault, Items, Mem, TryClone};
 use node_core::Ident;
-use std::alloc::{AllocError, AllocFailed};
+use std::alloc::{AllocError, AllocFailed, Global};
 
 /// A declaration whose options have faults under a derive.
 pub struct Rejected {
@@ -13,6 +13,16 @@ pub struct Rejected {
     pub derive: Derive,
     /// All of them, in order.
     pub faults: Items<Fault>,
+}
+
+impl TryClone for Rejected {
+    fn try_clone(&self, alloc: Global) -> Mem<Rejected> {
+        Ok(Rejected {
+            decl: self.decl.try_clone(alloc)?,
+            derive: self.derive,
+            faults: self.faults.try_clone(alloc)?,
+        })
+    }
 }
 
 impl Drop for Rejected {

@@ -1,0 +1,12 @@
+pub mod Accepted
+pub use Rattle.machine_fit.specs.Unfitness
+pub use Rattle.machine_forms.specs.Places
+pub use Rattle.machine_forms.specs.Units
+pub use Rattle.machine_forms.specs.declared.unfit.Form
+pub use Rattle.machine_forms.specs.declared.unfit.Unfit
+pub use Rattle.machine_host.specs.HostSays
+pub use Rattle.run_compile.specs.Compiled
+pub use Rattle.run_compile.specs.Pairs
+pub use Rattle.run_compile.specs.Unbuilt
+pub use Rattle.run_compile.specs.Values
+pub use Rattle.run_compile.specs.declared.rejected.Rejected
