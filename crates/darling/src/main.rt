@@ -1,7 +1,7 @@
 //! The program: the tool over standard input and output.
 #![tactic(auto)]
 
-use darling_run::{StdSink, StdSource, run_tool};
+use darling_run::{StdHost, StdSink, StdSource, run_tool};
 use std::env::Env;
 use std::process::ExitCode;
 use std::{env, io};
@@ -15,8 +15,23 @@ const NO_MEMORY: u8 = 6;
 const HELP: &str = "\
 usage: darling run < INPUT
 
-Reads a declaration that derives FromDeriveInput, a line `%%`, and annotated items. Writes for each
-item its value, or all its faults with their places.
+Reads declarations of parsers, a line `%%`, and annotated items. Behind a second line `%%` there may be
+a table of names, whose lines are a rule, `field` or `variant`, an identifier and a name. Runs the last
+declaration's parser over each item, and writes its value, or all its faults with their places:
+
+  #[derive(FromDeriveInput)]
+  #[darling(attributes(my))]
+  struct Opts { name: String, #[darling(default)] level: u8 }
+  %%
+  #[my(name = \"a\")] struct S;
+  #[my(level = 300)] struct T;
+
+is answered by
+
+  ok S Opts {name: \"a\", level: 0}
+  err T 2
+    41..44 number too large to fit in target type at level
+    - Missing field `name`
 
 Status: 0 done, 2 usage, 3 refused, 4 read fault, 5 write fault, 6 out of memory.
 ";
@@ -56,9 +71,12 @@ fn main(rt: HostRuntime) -> ExitCode {
     if !take_stack(words.len()) {
         return ExitCode::from(NO_MEMORY);
     }
+    let Ok(host) = StdHost::new(rt.alloc()) else {
+        return ExitCode::from(NO_MEMORY);
+    };
     let mut source = StdSource::new(rt.stdin());
     let mut sink = StdSink::new(rt.stdout());
-    let ended = run_tool(rt.alloc(), words.as_slice(), &mut source, &mut sink);
+    let ended = run_tool(rt.alloc(), words.as_slice(), &mut source, &mut sink, &host);
     ExitCode::from(ended.status.exit_code())
 }
 

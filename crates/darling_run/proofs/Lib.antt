@@ -1,5 +1,3 @@
 mod EndsLemmas
 mod InputLemmas
-mod PartLemmas
-mod ValueLemmas
 mod WordLemmas

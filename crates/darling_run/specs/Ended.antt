@@ -1,17 +1,16 @@
 -- How a run ends: what it answers, and what it writes.
-use Rattle.std.specs.Prelude.{◌≡◌, ◌<◌, ◌≤◌, ◌⊎◌, ℕ, Bool, List, [], ◌∷◌, length, map, codes, take, Option, Some, None, IfSome, Result, Ok, Err}
+use Rattle.std.specs.Prelude.{◌≡◌, ◌<◌, ◌≤◌, ◌⊎◌, ℕ, Bool, List, [], ◌∷◌, length, codes, take, Option, Some, None, IfSome, Result, Ok, Err}
 use Rattle.edge_core.specs.Faults.{HasRisen}
 use Rattle.edge_core.specs.Sink.{Takes}
-use Rattle.node_core.specs.declared.derive.DeriveInput.{DeriveInput}
-use Rattle.meaning_core.specs.Receiver.{item_meaning}
+use Rattle.run_source.specs.HostSays.{HostSays}
 use Rattle.tok_core.specs.declared.reading.TheConstants.{MAX_LEN}
 use Rattle.darling_run.specs.declared.status.Status.{Status}
-use Rattle.darling_run.specs.declared.status.Status.TheVariants.{Done, Usage, ReadFault, TooLong, NotText, NoParts, TooDeep, Syntax, Unbuilt, WriteFault, NoMemory}
-use Rattle.darling_run.specs.declared.report.Report.{Report}
+use Rattle.darling_run.specs.declared.status.Status.TheVariants.{Done, Usage, ReadFault, TooLong, WriteFault, NoMemory}
+use Rattle.run_source.specs.declared.report.Report.{Report}
 use Rattle.darling_run.specs.declared.tool.Ended.{Ended}
 use Rattle.darling_run.specs.Status.{refusal_text}
 use Rattle.darling_run.specs.Report.{report_text}
-use Rattle.darling_run.specs.Input.{IsInput, IsRefused}
+use Rattle.darling_run.specs.Input.{IsRefused, IsReport, IsRunnable}
 
 -- how many bytes an input has at most
 abbrev pub limit : ℕ
@@ -41,40 +40,23 @@ abbrev pub WereRead : Reading → List ℕ → Type 0
 WereRead reading bytes =
     (length bytes ≤ limit) × IfSome reading.left (λ told. (told ≡ bytes) × (reading.left_after ≡ Some []))
 
--- some bytes that were read are refused so
-abbrev pub InputRefused : Reading → Status → Type 0
-InputRefused reading status = (bytes : List ℕ) × WereRead reading bytes × IsRefused bytes status
-
--- why a run has no report
-abbrev pub Causes : List (List ℕ) → Reading → Status → Type 0
-Causes words reading Usage = ¬ IsRun words
-Causes words reading ReadFault = IsRun words × HasRisen reading.faults reading.faults_after
-Causes words reading TooLong = IsRun words × IfSome reading.left (λ told. limit < length told)
-Causes words reading (NotText at) = IsRun words × InputRefused reading (NotText at)
-Causes words reading NoParts = IsRun words × InputRefused reading NoParts
-Causes words reading (TooDeep number at) = IsRun words × InputRefused reading (TooDeep number at)
-Causes words reading (Syntax number at) = IsRun words × InputRefused reading (Syntax number at)
-Causes words reading (Unbuilt span) = IsRun words × InputRefused reading (Unbuilt span)
-Causes words reading NoMemory = Unit {0}
-Causes words reading Done = ⊥
-Causes words reading WriteFault = ⊥
-
--- the report of an input: its trees, and what each subject means, in order
-pub record IsReport (bytes : List ℕ) (report : Report) : Type 0 where
-  pub declaration : DeriveInput
-  pub input : IsInput bytes declaration report.subjects
-  pub declarations : report.declarations ≡ declaration ∷ []
-  pub outcomes : report.outcomes ≡ map (item_meaning declaration) report.subjects
+-- why a run with the host has no report: the words, the source, or the bytes that were read
+abbrev pub Causes : HostSays → List (List ℕ) → Reading → Status → Type 0
+Causes host words reading Usage = ¬ IsRun words
+Causes host words reading ReadFault = IsRun words × HasRisen reading.faults reading.faults_after
+Causes host words reading TooLong = IsRun words × IfSome reading.left (λ told. limit < length told)
+Causes host words reading NoMemory = Unit {0}
+Causes host words reading status = IsRun words × ((bytes : List ℕ) × WereRead reading bytes × IsRefused host bytes status)
 
 -- the bytes that were read have this report
-abbrev pub Reports : List (List ℕ) → Reading → Report → Type 0
-Reports words reading report =
-    IsRun words × ((bytes : List ℕ) × WereRead reading bytes × IsReport bytes report)
+abbrev pub Reports : HostSays → List (List ℕ) → Reading → Report → Type 0
+Reports host words reading report =
+    IsRun words × ((bytes : List ℕ) × WereRead reading bytes × IsReport host bytes report)
 
 -- a report, or why there is none
-abbrev pub Answered : List (List ℕ) → Reading → Result Report Status → Type 0
-Answered words reading (Ok report) = Reports words reading report
-Answered words reading (Err status) = Causes words reading status
+abbrev pub Answered : HostSays → List (List ℕ) → Reading → Result Report Status → Type 0
+Answered host words reading (Ok report) = Reports host words reading report
+Answered host words reading (Err status) = Causes host words reading status
 
 -- the text of an answer
 abbrev pub text_of : Result Report Status → List ℕ
@@ -93,14 +75,14 @@ report_of (Err status) = None
 abbrev pub Wrote : Writing → List ℕ → Type 0
 Wrote writing text = Takes writing.may_fall_silent writing.taken writing.taken_after text
 
--- the sink has taken a front of this text, and not all of it
-abbrev pub WroteFront : Writing → List ℕ → Type 0
-WroteFront writing text = (sent : ℕ) × (sent < length text) × Wrote writing (take sent text)
+-- the sink has taken a prefix of this text, and not all of it
+abbrev pub WrotePrefix : Writing → List ℕ → Type 0
+WrotePrefix writing text = (sent : ℕ) × (sent < length text) × Wrote writing (take sent text)
 
 -- how an answer was written
 pub data IsWritten (writing : Writing) (answer : Result Report Status) (ended : Ended) : Type 0 where
   in_full : ended ≡ record { status = status_of answer; report = report_of answer } → (status_of answer ≡ NoMemory → ⊥) → Wrote writing (text_of answer) → IsWritten writing answer ended
-  in_part : ended ≡ record { status = WriteFault; report = report_of answer } → HasRisen writing.faults writing.faults_after → WroteFront writing (text_of answer) → IsWritten writing answer ended
+  in_part : ended ≡ record { status = WriteFault; report = report_of answer } → HasRisen writing.faults writing.faults_after → WrotePrefix writing (text_of answer) → IsWritten writing answer ended
   not_at_all : ended ≡ record { status = NoMemory; report = None } → writing.taken_after ≡ writing.taken → IsWritten writing answer ended
 
 -- the run ended so, or memory ran out, or the source or the sink failed
@@ -111,21 +93,21 @@ EndsAs reading writing ended status =
     ⊎ (((ended.status ≡ ReadFault) × HasRisen reading.faults reading.faults_after)
     ⊎ ((ended.status ≡ WriteFault) × HasRisen writing.faults writing.faults_after)))
 
--- how a run ends
-pub record Ends (words : List (List ℕ)) (reading : Reading) (writing : Writing) (ended : Ended) : Type 0 where
+-- how a run with the host ends
+pub record Ends (host : HostSays) (words : List (List ℕ)) (reading : Reading) (writing : Writing) (ended : Ended) : Type 0 where
   -- a report comes with its lines, and is that of the bytes that were read
   pub done : ended.status ≡ Done
-      → (report : Report) × (ended.report ≡ Some report) × Reports words reading report × Wrote writing (report_text report.subjects report.outcomes)
+      → (report : Report) × (ended.report ≡ Some report) × Reports host words reading report × Wrote writing (report_text report.subjects report.outcomes)
   -- a refusal comes by its cause, and with its line
   pub refused : (ended.status ≡ Done → ⊥) → (ended.status ≡ WriteFault → ⊥) → (ended.status ≡ NoMemory → ⊥)
-      → (ended.report ≡ None) × Causes words reading ended.status × Wrote writing (refusal_text ended.status)
-  -- after a fault of the sink a front of the text is written, of a report that is kept or of a refusal
+      → (ended.report ≡ None) × Causes host words reading ended.status × Wrote writing (refusal_text ended.status)
+  -- after a fault of the sink a prefix of the text is written, of a report that is kept or of a refusal
   pub write_fault : ended.status ≡ WriteFault
-      → HasRisen writing.faults writing.faults_after × ((answer : Result Report Status) × Answered words reading answer × (ended.report ≡ report_of answer) × WroteFront writing (text_of answer))
+      → HasRisen writing.faults writing.faults_after × ((answer : Result Report Status) × Answered host words reading answer × (ended.report ≡ report_of answer) × WrotePrefix writing (text_of answer))
   -- memory runs out before anything is written
   pub no_memory : ended.status ≡ NoMemory → (ended.report ≡ None) × (writing.taken_after ≡ writing.taken)
   -- each cause is answered, in this order
   pub usage : ¬ IsRun words → EndsAs reading writing ended Usage
   pub too_long : IsRun words → IfSome reading.left (λ told. limit < length told → EndsAs reading writing ended TooLong)
-  pub refuses : IsRun words → IfSome reading.left (λ told. length told ≤ limit → (status : Status) → IsRefused told status → EndsAs reading writing ended status)
-  pub complete : IsRun words → IfSome reading.left (λ told. length told ≤ limit → (declaration : DeriveInput) (subjects : List DeriveInput) → IsInput told declaration subjects → EndsAs reading writing ended Done)
+  pub refuses : IsRun words → IfSome reading.left (λ told. length told ≤ limit → (status : Status) → IsRefused host told status → EndsAs reading writing ended status)
+  pub complete : IsRun words → IfSome reading.left (λ told. length told ≤ limit → IsRunnable host told → EndsAs reading writing ended Done)

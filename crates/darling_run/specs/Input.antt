@@ -1,85 +1,102 @@
--- What an input is: a declaration and its subjects, or why it is refused.
-use Rattle.std.specs.Prelude.{◌≡◌, ℕ, ◌⊎◌, if◌then◌else◌, List, [], ◌∷◌, length, Option, Some, None, Result, Ok, Err}
+-- What an input is: two texts and a table, which are run with a host, or why it is refused.
+use Rattle.std.specs.Prelude.{◌≡◌, ℕ, ◌⊎◌, List, [], ◌∷◌, Option, Some, None, Result, Ok, Err}
 use Rattle.std.specs.Option.{option_to_list}
 use Rattle.std.specs.Str.{IsUtf8}
 use Rattle.std.specs.Str.Lossy.{utf8_valid_len}
-use Rattle.tok_types.specs.declared.span.Span.{Span}
-use Rattle.tok_types.specs.declared.span.Span.TheVariants.{At}
-use Rattle.tok_types.specs.declared.tree.TokenStream.{TokenStream}
-use Rattle.node_core.specs.declared.derive.DeriveInput.{DeriveInput}
-use Rattle.run_form.specs.FirstForm.{is_first_form}
+use Rattle.run_source.specs.HostSays.{HostSays}
+use Rattle.run_source.specs.RunError.{RunError}
 use Rattle.run_parts.specs.Parts.{IsDivision, divider_count}
-use Rattle.darling_run.specs.declared.input.Input.{Input}
-use Rattle.darling_run.specs.declared.part.Part.{Part}
-use Rattle.darling_run.specs.declared.part.Part.TheVariants as part
+use Rattle.run_source.specs.Source.{AreRefused, AreRunnable}
+use Rattle.run_source.specs.Source as source
+use Rattle.run_source.specs.declared.report.Report.{Report}
+use Rattle.run_source.specs.Values.{Rules}
+use Rattle.util_table.specs.Table.{bad_line, rows_of}
 use Rattle.darling_run.specs.declared.status.Status.{Status}
-use Rattle.darling_run.specs.declared.status.Status.TheVariants.{Done, Usage, ReadFault, TooLong, NotText, NoParts, TooDeep, Syntax, Unbuilt, WriteFault, NoMemory}
-use Rattle.darling_run.specs.Parts.{IsPart}
+use Rattle.darling_run.specs.declared.status.Status.TheVariants.{NotText, NoParts, BadTable, TooDeep, Syntax, Unbuilt, DuplicateName, Rejected, Unsupported, UnknownType, UnknownCallable, NoReceiver, NoMemory}
+use Rattle.darling_run.specs.Status.{status_of}
 
--- ---- what is made of the parts
+-- ---- the parts
 
--- all of a part's text
-abbrev pub whole : ℕ → List ℕ → Span
-whole source text = At source 0 (length text)
+-- the bytes are a text of two parts and perhaps a third
+pub record AreParts (bytes first second : List ℕ) (third : Option (List ℕ)) : Type 0 where
+  pub utf8 : IsUtf8 bytes
+  pub division : IsDivision bytes (first ∷ second ∷ option_to_list third)
 
--- the declaration of a part that is one in the first form
-abbrev pub declaration_in : TokenStream → List DeriveInput → Option DeriveInput
-declaration_in tokens (declaration ∷ []) = if is_first_form tokens then Some declaration else None
-declaration_in tokens _ = None
+-- the rows of the table that the third part is; where there is none, there are no rows
+abbrev pub rows_in : Option (List ℕ) → Rules
+rows_in None = []
+rows_in (Some text) = rows_of text
 
--- what is read so far: a declaration in the first form, and no table
-abbrev pub built_by : List ℕ → Option (List ℕ) → Option DeriveInput → List DeriveInput → Result Input Status
-built_by text table None subjects = Err (Unbuilt (whole 0 text))
-built_by text (Some table) (Some declaration) subjects = Err (Unbuilt (whole 2 table))
-built_by text None (Some declaration) subjects = Ok (record { declaration = declaration; subjects = subjects })
+-- its first line that is no row
+abbrev pub bad_line_in : Option (List ℕ) → Option ℕ
+bad_line_in None = None
+bad_line_in (Some text) = bad_line text
 
--- What an input of two parts is; of several reasons to refuse it, the first counts. The first part's text and the
--- table stand in front.
-abbrev pub decided : List ℕ → Option (List ℕ) → Part → Part → Result Input Status
-decided text table (part.TooDeep at) second = Err (TooDeep 1 at)
-decided text table (part.Syntax at) (part.TooDeep to) = Err (TooDeep 2 to)
-decided text table (part.Syntax at) _ = Err (Syntax 1 at)
-decided text table (part.Items tokens items) (part.TooDeep at) = Err (TooDeep 2 at)
-decided text table (part.Items tokens items) (part.Syntax at) = Err (Syntax 2 at)
-decided text table (part.Items tokens items) (part.Items others subjects) = built_by text table (declaration_in tokens items) subjects
+-- the table of a third part, or its first line that is no row; want of memory is free
+abbrev pub IsTable : Option (List ℕ) → Result Rules Status → Type 0
+IsTable third (Ok rules) = (bad_line_in third ≡ None) × (rules ≡ rows_in third)
+IsTable third (Err status) = (status ≡ NoMemory) ⊎ ((line : ℕ) × (status ≡ BadTable line) × (bad_line_in third ≡ Some line))
 
--- the answer is the decided one, unless memory ran out
-abbrev pub Decides : Result Input Status → Result Input Status → Type 0
-Decides decided answer = (answer ≡ decided) ⊎ (answer ≡ Err NoMemory)
+-- the bytes are these two texts and the table of these rows
+pub record AreTexts (bytes first second : List ℕ) (rules : Rules) : Type 0 where
+  pub third : Option (List ℕ)
+  pub parts : AreParts bytes first second third
+  pub good : bad_line_in third ≡ None
+  pub rows : rules ≡ rows_in third
 
--- ---- what bytes are
+-- ---- the run
 
--- the bytes are a text of two parts and perhaps a table, and this is what they are
-pub record AreDecided (bytes : List ℕ) (answer : Result Input Status) : Type 0 where
+-- the report of the bytes: that of their texts under their table
+pub record IsReport (host : HostSays) (bytes : List ℕ) (report : Report) : Type 0 where
   pub first : List ℕ
   pub second : List ℕ
-  pub table : Option (List ℕ)
-  pub utf8 : IsUtf8 bytes
-  pub division : IsDivision bytes (first ∷ second ∷ option_to_list table)
-  pub first_part : Part
-  pub second_part : Part
-  pub is_first : IsPart 0 first first_part
-  pub is_second : IsPart 1 second second_part
-  pub decision : answer ≡ decided first table first_part second_part
+  pub rules : Rules
+  pub texts : AreTexts bytes first second rules
+  pub is_report : source.IsReport host rules first second report
 
--- the bytes are a declaration and its subjects
-abbrev pub IsInput : List ℕ → DeriveInput → List DeriveInput → Type 0
-IsInput bytes declaration subjects = AreDecided bytes (Ok (record { declaration = declaration; subjects = subjects }))
+-- bytes that have a report
+pub record IsRunnable (host : HostSays) (bytes : List ℕ) : Type 0 where
+  pub first : List ℕ
+  pub second : List ℕ
+  pub rules : Rules
+  pub texts : AreTexts bytes first second rules
+  pub runnable : AreRunnable host rules first second
 
--- why the bytes are no input
-abbrev pub IsRefused : List ℕ → Status → Type 0
-IsRefused bytes (NotText at) = (¬ IsUtf8 bytes) × (at ≡ utf8_valid_len bytes)
-IsRefused bytes NoParts = IsUtf8 bytes × (¬ ((divider_count bytes ≡ 1) ⊎ (divider_count bytes ≡ 2)))
-IsRefused bytes (TooDeep number at) = AreDecided bytes (Err (TooDeep number at))
-IsRefused bytes (Syntax number at) = AreDecided bytes (Err (Syntax number at))
-IsRefused bytes (Unbuilt span) = AreDecided bytes (Err (Unbuilt span))
-IsRefused bytes Done = ⊥
-IsRefused bytes Usage = ⊥
-IsRefused bytes ReadFault = ⊥
-IsRefused bytes TooLong = ⊥
-IsRefused bytes WriteFault = ⊥
-IsRefused bytes NoMemory = ⊥
+-- a line of the third part is no row, and this is the first
+pub record IsBadTable (bytes : List ℕ) (line : ℕ) : Type 0 where
+  pub first : List ℕ
+  pub second : List ℕ
+  pub third : Option (List ℕ)
+  pub parts : AreParts bytes first second third
+  pub bad : bad_line_in third ≡ Some line
 
--- the bytes are no input, or memory ran out
-abbrev pub Refuses : List ℕ → Status → Type 0
-Refuses bytes status = (status ≡ NoMemory) ⊎ IsRefused bytes status
+-- the bytes are two texts and a table, which can't be run
+pub record IsStopped (host : HostSays) (bytes : List ℕ) (status : Status) : Type 0 where
+  pub first : List ℕ
+  pub second : List ℕ
+  pub rules : Rules
+  pub error : RunError
+  pub texts : AreTexts bytes first second rules
+  pub refused : AreRefused host rules first second error
+  pub told : status ≡ status_of error
+
+-- why the bytes have no report
+abbrev pub IsRefused : HostSays → List ℕ → Status → Type 0
+IsRefused host bytes (NotText at) = (¬ IsUtf8 bytes) × (at ≡ utf8_valid_len bytes)
+IsRefused host bytes NoParts = IsUtf8 bytes × (¬ ((divider_count bytes ≡ 1) ⊎ (divider_count bytes ≡ 2)))
+IsRefused host bytes (BadTable line) = IsBadTable bytes line
+IsRefused host bytes (TooDeep number at) = IsStopped host bytes (TooDeep number at)
+IsRefused host bytes (Syntax number at) = IsStopped host bytes (Syntax number at)
+IsRefused host bytes (Unbuilt span) = IsStopped host bytes (Unbuilt span)
+IsRefused host bytes (DuplicateName span) = IsStopped host bytes (DuplicateName span)
+IsRefused host bytes (Rejected it) = IsStopped host bytes (Rejected it)
+IsRefused host bytes (Unsupported form span) = IsStopped host bytes (Unsupported form span)
+IsRefused host bytes (UnknownType span) = IsStopped host bytes (UnknownType span)
+IsRefused host bytes (UnknownCallable span) = IsStopped host bytes (UnknownCallable span)
+IsRefused host bytes NoReceiver = IsStopped host bytes NoReceiver
+IsRefused host bytes _ = ⊥
+
+-- the report of the bytes, or why they have none; want of memory is free
+abbrev pub Runs : HostSays → List ℕ → Result Report Status → Type 0
+Runs host bytes (Ok report) = IsReport host bytes report
+Runs host bytes (Err status) = (status ≡ NoMemory) ⊎ IsRefused host bytes status

@@ -1,6 +1,10 @@
 pub mod Ended
 pub mod Input
-pub mod Parts
 pub mod Report
 pub mod Status
-pub mod ValueText
+pub use Rattle.run_source.specs.Accepted
+pub use Rattle.run_source.specs.Meaning
+pub use Rattle.run_source.specs.Parts
+pub use Rattle.run_source.specs.Receiver
+pub use Rattle.run_source.specs.Source
+pub use Rattle.run_text.specs.ValueText

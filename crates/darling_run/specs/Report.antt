@@ -7,7 +7,7 @@ use Rattle.error_fault.specs.declared.fault.Fault.{Fault}
 use Rattle.error_fault.specs.Outcome.{Outcome, Value, Faults}
 use Rattle.error_fault.specs.FaultText.{fault_line}
 use Rattle.machine_value.specs.declared.value.Value.{Value as Data}
-use Rattle.darling_run.specs.ValueText.{value_text}
+use Rattle.run_text.specs.ValueText.{value_text}
 
 -- a fault in a line of its own
 abbrev pub fault_row : Fault → List ℕ

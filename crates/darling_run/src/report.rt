@@ -4,35 +4,13 @@ ghost use Rattle.std.specs.Prelude.{◌≡◌, ◌++◌, flat_map, IfOk, OnOk};
 ghost use Rattle.tok_types.specs.Ident.{ident_text};
 ghost use Rattle.darling_run.specs.Report.{fault_row, ok_line, err_line, outcome_text, report_text};
 
-use crate::values::push_value;
 use error_fault::{Fault, push_fault_line};
-use machine_value::Value;
-use meaning_core::Outcome;
-use node_core::DeriveInput;
+use run_source::{Outcome, Report};
+use run_text::{Value, push_value};
 use std::alloc::Global;
-use tok_types::{Ident, Items, Mem, Text, TryClone};
+use tok_types::{Ident, Mem, Text};
 
-/// What was read, and what it means.
-pub struct Report {
-    /// The trees of the first part.
-    pub declarations: Items<DeriveInput>,
-    /// The trees of the second part.
-    pub subjects: Items<DeriveInput>,
-    /// What the last declaration makes of each subject, in order.
-    pub outcomes: Items<Outcome>,
-}
-
-impl TryClone for Report {
-    fn try_clone(&self, alloc: Global) -> Mem<Report> {
-        Ok(Report {
-            declarations: self.declarations.try_clone(alloc)?,
-            subjects: self.subjects.try_clone(alloc)?,
-            outcomes: self.outcomes.try_clone(alloc)?,
-        })
-    }
-}
-
-/// The lines of a report, one or more for each subject.
+/// The lines of a report, one or more for each subject; of outcomes and subjects without the other there are none.
 pub fn report_text(alloc: Global, report: &Report) -> Mem<Text>
     ensures { IfOk result (λ text. text ≡ report_text report.now.subjects report.now.outcomes) }
 {
@@ -92,14 +70,4 @@ fn push_fault_row(alloc: Global, out: &mut Text, fault: &Fault) -> Mem<()>
     out.push_str("  ")?;
     push_fault_line(alloc, out, fault)?;
     out.push_str("\n")
-}
-
-impl Drop for Report {
-    fn drop(self) {
-        let Self {
-            declarations: _declarations,
-            subjects: _subjects,
-            outcomes: _outcomes,
-        } = self;
-    }
 }

@@ -1,14 +1,14 @@
-//! How a run ended, and the line that tells of it.
+//! How a run ended.
 
-ghost use Rattle.std.specs.Prelude.{◌≡◌, ◌++◌, codes, decimal, IfOk, OnOk};
-ghost use Rattle.error_fault.specs.FaultText.{span_text};
+ghost use Rattle.std.specs.Prelude.{◌≡◌};
+ghost use Rattle.darling_run.specs.Status as spec;
 
-use error_fault::push_span;
+use base_core::TryClone;
+use run_source::{Form, Mem, Rejected, RunError, Span};
 use std::alloc::{AllocError, Global};
-use tok_types::{Mem, Span, Text};
 
 /// How a run ended. Where several refusals would fit, the first of this list that does is named.
-#[derive(Clone, Copy, Debug)]
+#[derive(Drop)]
 pub enum Status {
     /// The report was written.
     Done,
@@ -18,16 +18,31 @@ pub enum Status {
     ReadFault,
     /// The source gave more than 16,777,216 bytes.
     TooLong,
-    /// The bytes are not UTF-8; `at` is the length of their longest front that is.
+    /// The bytes are not UTF-8; `at` is the length of their longest prefix that is.
     NotText { at: u32 },
     /// No line is `%%`, or more than two are.
     NoParts,
+    /// The line of the third part, counted from 1, is no row of a table.
+    BadTable { line: u32 },
     /// More than 128 delimiters are open at byte `at` of the part, counted from 1.
     TooDeep { part: u32, at: u32 },
     /// The part is no list of items from its byte `at` on.
     Syntax { part: u32, at: u32 },
-    /// The first part or the table is not in a form that is read so far, and the span is all of it.
+    /// A form of declarations that no run reads yet.
     Unbuilt { span: Span },
+    /// Two declarations, or two fields or variants of one body, have one name, or a declaration names a derive twice. The
+    /// later of the two stands here.
+    DuplicateName { span: Span },
+    /// The options of a declaration have faults under a derive.
+    Rejected(Rejected),
+    /// A form of declarations that no run supports.
+    Unsupported { form: Form, span: Span },
+    /// A type doesn't fit its place.
+    UnknownType { span: Span },
+    /// The host doesn't offer a function where it would be asked.
+    UnknownCallable { span: Span },
+    /// The last declaration doesn't derive `FromDeriveInput`, or there is none.
+    NoReceiver,
     /// The sink failed.
     WriteFault,
     /// Memory ran out before anything was written.
@@ -44,12 +59,29 @@ impl From<AllocError> for Status {
     }
 }
 
-impl Status {
-    ghost use Rattle.darling_run.specs.Status.{exit_code};
+impl From<RunError> for Status {
+    ghost from_gives = { λ error status. status ≡ spec.status_of error };
 
+    fn from(error: RunError) -> Status {
+        match error {
+            RunError::TooDeep { part, at } => Status::TooDeep { part, at },
+            RunError::Syntax { part, at } => Status::Syntax { part, at },
+            RunError::Unbuilt { span } => Status::Unbuilt { span },
+            RunError::DuplicateName { span } => Status::DuplicateName { span },
+            RunError::Rejected(it) => Status::Rejected(it),
+            RunError::Unsupported { form, span } => Status::Unsupported { form, span },
+            RunError::UnknownType { span } => Status::UnknownType { span },
+            RunError::UnknownCallable { span } => Status::UnknownCallable { span },
+            RunError::NoReceiver => Status::NoReceiver,
+            RunError::NoMemory => Status::NoMemory,
+        }
+    }
+}
+
+impl Status {
     /// The number that the program ends with.
     pub fn exit_code(&self) -> u8
-        ensures { result ≡ exit_code self.now }
+        ensures { result ≡ spec.exit_code self.now }
     {
         match self {
             Status::Done => 0,
@@ -57,9 +89,16 @@ impl Status {
             Status::TooLong
             | Status::NotText { .. }
             | Status::NoParts
+            | Status::BadTable { .. }
             | Status::TooDeep { .. }
             | Status::Syntax { .. }
-            | Status::Unbuilt { .. } => 3,
+            | Status::Unbuilt { .. }
+            | Status::DuplicateName { .. }
+            | Status::Rejected(_)
+            | Status::Unsupported { .. }
+            | Status::UnknownType { .. }
+            | Status::UnknownCallable { .. }
+            | Status::NoReceiver => 3,
             Status::ReadFault => 4,
             Status::WriteFault => 5,
             Status::NoMemory => 6,
@@ -67,54 +106,36 @@ impl Status {
     }
 }
 
-ghost use Rattle.darling_run.specs.Status.{place_line, refusal_text};
-
-/// The line that tells of a refusal. It is empty for a status that is none, and where nothing can
-/// be written.
-pub fn refusal_text(alloc: Global, status: &Status) -> Mem<Text>
-    ensures { IfOk result (λ text. text ≡ refusal_text status.now) }
-{
-    match status {
-        Status::Done | Status::WriteFault | Status::NoMemory => Ok(Text::new(alloc)),
-        Status::Usage => Text::from_str(alloc, "refused: usage\n"),
-        Status::ReadFault => Text::from_str(alloc, "refused: read fault\n"),
-        Status::TooLong => Text::from_str(alloc, "refused: input over 16777216 bytes\n"),
-        Status::NotText { at } => not_text_line(alloc, *at),
-        Status::NoParts => Text::from_str(alloc, "refused: no parts\n"),
-        Status::TooDeep { part, at } => {
-            place_line(alloc, "refused: too deep in part ", *part, *at)
+impl TryClone for Status {
+    fn try_clone(&self, alloc: Global) -> Mem<Status> {
+        match self {
+            Status::Done => Ok(Status::Done),
+            Status::Usage => Ok(Status::Usage),
+            Status::ReadFault => Ok(Status::ReadFault),
+            Status::TooLong => Ok(Status::TooLong),
+            Status::NotText { at } => Ok(Status::NotText { at: *at }),
+            Status::NoParts => Ok(Status::NoParts),
+            Status::BadTable { line } => Ok(Status::BadTable { line: *line }),
+            Status::TooDeep { part, at } => Ok(Status::TooDeep {
+                part: *part,
+                at: *at,
+            }),
+            Status::Syntax { part, at } => Ok(Status::Syntax {
+                part: *part,
+                at: *at,
+            }),
+            Status::Unbuilt { span } => Ok(Status::Unbuilt { span: *span }),
+            Status::DuplicateName { span } => Ok(Status::DuplicateName { span: *span }),
+            Status::Rejected(it) => Ok(Status::Rejected(it.try_clone(alloc)?)),
+            Status::Unsupported { form, span } => Ok(Status::Unsupported {
+                form: *form,
+                span: *span,
+            }),
+            Status::UnknownType { span } => Ok(Status::UnknownType { span: *span }),
+            Status::UnknownCallable { span } => Ok(Status::UnknownCallable { span: *span }),
+            Status::NoReceiver => Ok(Status::NoReceiver),
+            Status::WriteFault => Ok(Status::WriteFault),
+            Status::NoMemory => Ok(Status::NoMemory),
         }
-        Status::Syntax { part, at } => place_line(alloc, "refused: syntax in part ", *part, *at),
-        Status::Unbuilt { span } => unbuilt_line(alloc, *span),
     }
-}
-
-fn not_text_line(alloc: Global, at: u32) -> Mem<Text>
-    ensures { IfOk result (λ text. text ≡ codes "refused: not UTF-8 at " ++ decimal at ++ codes "\n") }
-{
-    let mut text = Text::from_str(alloc, "refused: not UTF-8 at ")?;
-    let digits = at.to_string(alloc)?;
-    text.push_str(digits.as_str())?;
-    text.push_str("\n")?;
-    Ok(text)
-}
-
-fn place_line(alloc: Global, reason: &str, part: u32, at: u32) -> Mem<Text>
-    ensures { IfOk result (λ text. text ≡ place_line reason.now part at) }
-{
-    let mut text = Text::from_str(alloc, reason)?;
-    text.push_str(part.to_string(alloc)?.as_str())?;
-    text.push_str(" at ")?;
-    text.push_str(at.to_string(alloc)?.as_str())?;
-    text.push_str("\n")?;
-    Ok(text)
-}
-
-fn unbuilt_line(alloc: Global, span: Span) -> Mem<Text>
-    ensures { IfOk result (λ text. text ≡ codes "refused: unbuilt at " ++ span_text (Some span) ++ codes "\n") }
-{
-    let mut text = Text::from_str(alloc, "refused: unbuilt at ")?;
-    push_span(alloc, &mut text, Some(span))?;
-    text.push_str("\n")?;
-    Ok(text)
 }

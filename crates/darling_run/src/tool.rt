@@ -1,18 +1,16 @@
 //! The tool: from a source and its words to a sink.
 
-ghost use Rattle.std.specs.Prelude.{◌≡◌, ◌≤◌, ◌↔◌, length, map, string_bytes, ◌≢◌, IsTrue, IfOk, IfErr, OnOk};
-ghost use Rattle.node_core.specs.declared.derive.DeriveInput.{DeriveInput};
-ghost use Rattle.meaning_core.specs.Receiver.{item_meaning};
+ghost use Rattle.std.specs.Prelude.{◌≡◌, ◌↔◌, map, string_bytes, ◌≢◌, IsTrue, IfOk, OnOk};
 
-use crate::input::read_input;
-use crate::report::{Report, report_text};
-use crate::status::{Status, refusal_text};
+use crate::input::run_input;
+use crate::refusal::refusal_text;
+use crate::report::report_text;
+use crate::status::Status;
 use edge_core::{ReadAll, Sink, Source, read_all, write_all};
-use meaning_core::{Outcome, Receiver};
-use node_core::DeriveInput;
+use run_source::{Host, Report};
 use std::alloc::{AllocError, Global};
 use tok_core::MAX_LEN;
-use tok_types::{Items, Mem, Text, TryClone};
+use tok_types::{Mem, Text, TryClone};
 
 /// How many bytes an input has at most.
 const LIMIT: u64 = MAX_LEN as u64;
@@ -28,28 +26,29 @@ pub struct Ended {
 impl TryClone for Ended {
     fn try_clone(&self, alloc: Global) -> Mem<Ended> {
         Ok(Ended {
-            status: self.status,
+            status: self.status.try_clone(alloc)?,
             report: self.report.try_clone(alloc)?,
         })
     }
 }
 
-ghost use Rattle.darling_run.specs.Ended.{limit, IsRun, WereRead, Causes, IsReport, Reports, Answered, IsWritten, Ends, text_of, status_of, report_of};
+ghost use Rattle.darling_run.specs.Ended.{IsRun, Answered, IsWritten, Ends, text_of, status_of, report_of};
 ghost use Rattle.darling_run.specs.declared.status.Status.TheVariants.{NoMemory};
-ghost use Rattle.darling_run.specs.Input.{Refuses};
 
-/// Runs the tool: reads the source to its end, runs the declared parser over each item, and writes
-/// a line for each, or the line of a refusal.
+/// Runs the tool: reads the source to its end, runs the last declaration's parser over each item with the functions of the
+/// host, and writes a line for each, or the line of a refusal.
 ///
 /// `words` are those behind the program's name. The one command is `run`. All text is made before
 /// the first byte is written.
-pub fn run_tool<S: Source, K: Sink>(
+pub fn run_tool<S: Source, K: Sink, H: Host>(
     alloc: Global,
     words: &[String],
     source: &mut S,
     sink: &mut K,
+    host: &H,
 ) -> Ended
     ensures { Ends
+        (H.says host.now)
         (map string_bytes words.now)
         (record {
           left = S.left source.old;
@@ -66,12 +65,18 @@ pub fn run_tool<S: Source, K: Sink>(
         })
         result }
 {
-    let answer = answer(alloc, words, source);
+    let answer = answer(alloc, words, source, host);
     write_answer(alloc, answer, sink)
 }
 
-fn answer<S: Source>(alloc: Global, words: &[String], source: &mut S) -> Result<Report, Status>
+fn answer<S: Source, H: Host>(
+    alloc: Global,
+    words: &[String],
+    source: &mut S,
+    host: &H,
+) -> Result<Report, Status>
     ensures { Answered
+        (H.says host.now)
         (map string_bytes words.now)
         (record {
           left = S.left source.old;
@@ -85,7 +90,7 @@ fn answer<S: Source>(alloc: Global, words: &[String], source: &mut S) -> Result<
         return Err(Status::Usage);
     }
     match read_all(alloc, source, LIMIT) {
-        Ok(bytes) => run(alloc, bytes.as_slice()),
+        Ok(bytes) => run_input(alloc, bytes.as_slice(), host),
         Err(ReadAll::ReadFault) => Err(Status::ReadFault),
         Err(ReadAll::TooLong) => Err(Status::TooLong),
         Err(ReadAll::NoMemory) => Err(Status::NoMemory),
@@ -105,37 +110,6 @@ fn is_text(word: &String, text: &str) -> bool
     ensures { IsTrue result ↔ (string_bytes word.now ≡ text.now) }
 {
     word.as_str() == text
-}
-
-fn run(alloc: Global, bytes: &[u8]) -> Result<Report, Status>
-    requires { length bytes.now ≤ limit }
-    ensures ok { IfOk result (IsReport bytes.now) }
-    ensures err { IfErr result (Refuses bytes.now) }
-{
-    let (declaration, subjects) = read_input(alloc, bytes)?.into_parts();
-    let outcomes = outcomes(alloc, &declaration, subjects.as_slice())?;
-    let declarations = Items::of(alloc, declaration)?;
-    Ok(Report {
-        declarations,
-        subjects,
-        outcomes,
-    })
-}
-
-fn outcomes(
-    alloc: Global,
-    declaration: &DeriveInput,
-    subjects: &[DeriveInput],
-) -> Mem<Items<Outcome>>
-    ensures { IfOk result (λ outcomes. outcomes ≡ map (item_meaning declaration.now) subjects.now) }
-{
-    let receiver = Receiver::new(alloc, declaration)?;
-    let mut outcomes = Items::new(alloc);
-    for subject in subjects {
-        let outcome = receiver.read(alloc, subject)?;
-        outcomes.push(outcome)?;
-    }
-    Ok(outcomes)
 }
 
 fn write_answer<K: Sink>(alloc: Global, answer: Result<Report, Status>, sink: &mut K) -> Ended

@@ -1,9 +1,3 @@
 pub mod Filters
 pub mod Clean
-pub mod Direct
-pub mod Texts
-pub mod SlotLemmas
-pub mod Arms
-pub mod Finish
-pub mod PlaceLemmas
 pub use Rattle.machine_steps.proofs.Statements

@@ -7,10 +7,6 @@ pub mod Meaning
 pub mod Declarations
 pub mod EntrySteps
 pub mod Walk
-pub mod Receiver
-pub mod Outcome
-pub mod Slots
-pub mod Places
 pub use Rattle.machine_steps.specs.Attributes
 pub use Rattle.machine_steps.specs.Below
 pub use Rattle.machine_steps.specs.Convert
@@ -24,4 +20,3 @@ pub use Rattle.machine_steps.specs.Setting
 pub use Rattle.machine_steps.specs.Slots
 pub use Rattle.machine_steps.specs.State
 pub use Rattle.machine_steps.specs.Statements
-pub use Rattle.machine_steps.specs.Trees

@@ -1,12 +1,12 @@
 //! What is told of declarations that were compiled, and of items that their programs read.
 
 use crate::compiled::{Come, come_of, program_of};
-use darling_run::value_text;
 use error_fault::{fault_line, push_fault_line, push_span};
 use machine_execute::{Element, Outcome, Program, try_execute};
 use machine_std::StdHost;
 use node_core::{Mem, Span, Text};
 use run_compile::{CompileFail, Derive, Rejected};
+use run_text::value_text;
 use std::alloc::Global;
 use std::test::Fail;
 use syn_core::parse_derive_input;

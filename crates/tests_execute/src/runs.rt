@@ -1,10 +1,10 @@
 //! Runs of the last unit of a program on an item of a text.
 
-use darling_run::value_text;
 use error_fault::fault_line;
 use machine_execute::{Element, Outcome, Program, try_execute};
 use machine_std::StdHost;
 use node_core::{Mem, Text};
+use run_text::value_text;
 use std::alloc::Global;
 use std::test::Fail;
 use syn_core::parse_derive_input;

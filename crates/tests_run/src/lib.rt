@@ -2,7 +2,9 @@
 #![tactic(auto)]
 
 #[cfg(test)]
-mod meaning;
+mod ends;
+#[cfg(test)]
+mod rows;
 #[cfg(test)]
 mod run;
 #[cfg(test)]

@@ -1,9 +1,9 @@
-//! The tool is run over sources and sinks in memory.
+//! The tool on inputs of all kinds.
 
-use darling_run::run_tool;
-use edge_core::{MemorySink, MemorySource};
+use crate::ends::{end_of, must_end};
 use std::alloc::Global;
 use std::test::Fail;
+use tests_checks::Tested;
 
 const DECLARATION: &str = "\
 #[derive(FromDeriveInput)]
@@ -20,167 +20,137 @@ struct Opts {}
 %%
 ";
 
-// Lists of the attribute `my`, with what is written of the item.
-const LISTS: [(&str, &str); 14] = [
-    ("(name = \"a\")", "ok S Opts {name: \"a\"}\n"),
-    ("", "err S 1\n  - Missing field `name`\n"),
+// Subjects, with the number and what is written.
+const SUBJECTS: [(&str, u8, &str); 14] = [
     (
-        "(name = \"a\", name = \"b\", nom = \"c\")",
-        "err S 2\n  17..27 Duplicate field `name`\n  29..38 Unknown field: `nom`. Available values: `name`\n",
+        "#[my()] struct S;",
+        0,
+        "err S 1\n  - Missing field `name`\n",
     ),
-    ("()", "err S 1\n  - Missing field `name`\n"),
     (
-        "(nom = \"a\", name = \"b\",)",
+        "#[my(nom = \"a\", name = \"b\",)] struct S;",
+        0,
         "err S 1\n  5..14 Unknown field: `nom`. Available values: `name`\n",
     ),
     (
-        "(name = \"\\u{e9}\\\"\")",
+        "#[my(name = \"\\u{e9}\\\"\")] struct S;",
+        0,
         "ok S Opts {name: \"\u{e9}\\\"\"}\n",
     ),
-    ("(name = r#\"a\"#)", "ok S Opts {name: \"a\"}\n"),
-    ("[name = \"a\"]", "ok S Opts {name: \"a\"}\n"),
     (
-        "(name = \"a\", name = 5, nom = \"b\")",
-        "err S 2\n  17..25 Duplicate field `name`\n  27..36 Unknown field: `nom`. Available values: `name`\n",
+        "#[my(name = r#\"a\"#)] struct S;",
+        0,
+        "ok S Opts {name: \"a\"}\n",
     ),
     (
-        "(name = 5)",
-        "err S 1\n  12..13 Unexpected type `int` at name\n",
+        "#[my[name = \"a\"]] struct S;",
+        0,
+        "ok S Opts {name: \"a\"}\n",
     ),
     (
-        "(name)",
-        "err S 1\n  5..9 Unexpected meta-item format `word` at name\n",
-    ),
-    (
-        "(\"a\")",
+        "#[my(\"a\")] struct S;",
+        0,
         "err S 2\n  5..8 Unexpected meta-item format `literal`\n  - Missing field `name`\n",
     ),
     (
-        "(name = a b)",
-        "err S 1\n  12..13 expected an expression at name\n",
-    ),
-    (
-        " = 4",
-        "err S 2\n  2..8 Name-value arguments are not supported. Use #[my(...)]\n  - Missing field `name`\n",
-    ),
-];
-
-// Items of any kind, each with what is written of it.
-const ITEMS: [(&str, &str); 5] = [
-    (
         "/// x\n#[a::my(b)] #[my(name = \"a\")] pub enum E<T> where T: A { B(T), C = 1 }",
+        0,
         "ok E Opts {name: \"a\"}\n",
     ),
     (
         "#[::my(name = \"a\")] pub(crate) union r#type { a: A }",
+        0,
         "ok r#type Opts {name: \"a\"}\n",
     ),
     (
         "struct S<const N: usize>([u8; N]);",
+        0,
         "err S 1\n  - Missing field `name`\n",
     ),
     (
         "#[my(name = \"a\")] struct S { #[my(other)] a: A }\nstruct T;",
+        0,
         "ok S Opts {name: \"a\"}\nerr T 1\n  - Missing field `name`\n",
     ),
-    ("", ""),
-];
-
-// Second parts that are refused, each with the line.
-const NO_ITEMS: [(&str, &str); 5] = [
-    (
-        "#[my(n = 340282366920938463463374607431768211456)] struct S;",
-        "refused: syntax in part 2 at 9\n",
-    ),
-    ("struct S", "refused: syntax in part 2 at 0\n"),
+    ("", 0, ""),
     (
         "struct S; struct T {} fn f() {}",
+        3,
         "refused: syntax in part 2 at 22\n",
     ),
-    ("struct S; \"", "refused: syntax in part 2 at 10\n"),
-    ("struct S;\n%%\nx", "refused: unbuilt at 0..1\n"),
+    ("struct S; \"", 3, "refused: syntax in part 2 at 10\n"),
+    ("struct S;\n%%\nx", 3, "refused: bad table line 1\n"),
 ];
-
-// Inputs that are refused, with the line.
-const REFUSALS: [(&[u8], &str); 11] = [
-    (b"struct A;\n%%\n", "refused: unbuilt at 0..10\n"),
-    (b"struct A;\n", "refused: no parts\n"),
-    (b"%%\n%%\n%%\n", "refused: no parts\n"),
-    (b"%%\n\xFF", "refused: not UTF-8 at 3\n"),
-    (
-        b"struct A { a: u8 }\n%%\n%%\n",
-        "refused: unbuilt at 0..19\n",
-    ),
-    (b"", "refused: no parts\n"),
-    (
-        b"#[doc = \"x\n%%\n\"] struct D;\n%%\n",
-        "refused: syntax in part 1 at 8\n",
-    ),
-    (b"struct A { a }\n%%\n", "refused: syntax in part 1 at 0\n"),
-    (b"struct A; ]\n%%\n(\n", "refused: syntax in part 1 at 10\n"),
-    (
-        b"struct A;\n%%\nstruct\n",
-        "refused: syntax in part 2 at 0\n",
-    ),
-    (b"%%\n%%\nx", "refused: unbuilt at 0..0\n"),
-];
-
-fn input(alloc: Global, list: &str) -> Result<String, Fail> {
-    Ok(format!(in alloc; "{DECLARATION}#[my{list}] struct S;\n")?)
-}
-
-/// What is written of these subjects, and the program's number.
-fn written(alloc: Global, declaration: &str, subjects: &str) -> Result<(u8, Vec<u8>), Fail> {
-    let input = format!(in alloc; "{declaration}{subjects}")?;
-    end_of(alloc, &["run"], input.into_bytes(), 0, 0)
-}
-
-/// The program's number and what is written, where the tool runs on `bytes` and the read and the
-/// write of these numbers fail.
-fn end_of(
-    alloc: Global,
-    words: &[&str],
-    bytes: Vec<u8>,
-    failing_read: u64,
-    failing_write: u64,
-) -> Result<(u8, Vec<u8>), Fail> {
-    let mut all = Vec::new(alloc);
-    for word in words {
-        all.push(word.to_string(alloc)?)?;
-    }
-    let reads = Vec::from_slice(alloc, &[failing_read])?;
-    let writes = Vec::from_slice(alloc, &[failing_write])?;
-    let mut source = MemorySource::new(bytes, 65536, reads);
-    let mut sink = MemorySink::new(alloc, 8, 4096, writes)?;
-    let ended = run_tool(alloc, all.as_slice(), &mut source, &mut sink);
-    let text = Vec::from_slice(alloc, sink.bytes())?;
-    Ok((ended.status.exit_code(), text))
-}
 
 #[test]
-fn items_are_read(rt: HostRuntime) -> Result<(), Fail> {
+fn subjects(rt: HostRuntime) -> Tested<()> {
     let alloc = rt.alloc();
-    for (list, output) in LISTS {
-        let bytes = input(alloc, list)?.into_bytes();
-        let (number, text) = end_of(alloc, &["run"], bytes, 0, 0)?;
-        assert_eq!(rt; number, 0);
-        assert!(rt; text.as_slice() == output.as_bytes());
+    for (subjects, number, text) in SUBJECTS {
+        let input = format!(in alloc; "{DECLARATION}{subjects}")?;
+        must_end(alloc, input.as_str(), number, text)?;
     }
     Ok(())
 }
 
+// Inputs of other declarations and tables, with the number and what is written.
+const INPUTS: [(&str, u8, &str); 15] = [
+    ("struct A;\n%%\n", 3, "refused: unbuilt at 7..8\n"),
+    ("struct A;\n", 3, "refused: no parts\n"),
+    ("%%\n%%\n%%\n", 3, "refused: no parts\n"),
+    ("%%\n", 3, "refused: no receiver\n"),
+    ("struct A { a: u8 }\n%%\n%%\n", 3, "refused: no receiver\n"),
+    ("", 3, "refused: no parts\n"),
+    (
+        "#[doc = \"x\n%%\n\"] struct D;\n%%\n",
+        3,
+        "refused: syntax in part 1 at 8\n",
+    ),
+    (
+        "struct A { a }\n%%\n",
+        3,
+        "refused: syntax in part 1 at 0\n",
+    ),
+    (
+        "struct A; ]\n%%\n(\n",
+        3,
+        "refused: syntax in part 1 at 10\n",
+    ),
+    (
+        "struct A;\n%%\nstruct\n",
+        3,
+        "refused: syntax in part 2 at 0\n",
+    ),
+    (
+        "%%\n%%\nsnake_case variant Fast\n",
+        3,
+        "refused: bad table line 1\n",
+    ),
+    (
+        "\"\n%%\n%%\n\nPascal field one_two OneTwo\nx\n",
+        3,
+        "refused: bad table line 3\n",
+    ),
+    (
+        "#[derive(FromDeriveInput)] #[darling(attributes(my), rename_all = \"Pascal\")] struct A { one_two: u8 }\n%%\n#[my(OneTwo = 1)] struct S;\n%%\nPascal field one_two OneTwo\n",
+        0,
+        "ok S A {one_two: 1}\n",
+    ),
+    (
+        "#[derive(FromDeriveInput)] #[darling(attributes(my), rename_all = \"Pascal\")] struct A { one_two: u8 }\n%%\n#[my(OneTwo = 1)] struct S;\n",
+        3,
+        "refused: options of A under FromDeriveInput: 66..74 Unknown value: `Pascal`\n",
+    ),
+    (
+        "#[derive(FromField, FromDeriveInput)] struct A { b: u8, b: u8 }\n%%\n",
+        3,
+        "refused: unbuilt at 9..18\n",
+    ),
+];
+
 #[test]
-fn any_items_are_read(rt: HostRuntime) -> Result<(), Fail> {
-    let alloc = rt.alloc();
-    for (subjects, output) in ITEMS {
-        let (number, text) = written(alloc, DECLARATION, subjects)?;
-        assert_eq!(rt; number, 0, "{subjects}");
-        assert!(rt; text.as_slice() == output.as_bytes(), "{subjects}");
-    }
-    for (subjects, line) in NO_ITEMS {
-        let (number, text) = written(alloc, DECLARATION, subjects)?;
-        assert_eq!(rt; number, 3, "{subjects}");
-        assert!(rt; text.as_slice() == line.as_bytes(), "{subjects}");
+fn inputs(rt: HostRuntime) -> Tested<()> {
+    for (input, number, text) in INPUTS {
+        must_end(rt.alloc(), input, number, text)?;
     }
     Ok(())
 }
@@ -199,39 +169,37 @@ fn deep(alloc: Global, levels: usize) -> Result<String, Fail> {
 }
 
 #[test]
-fn more_than_128_open_delimiters_are_too_deep(rt: HostRuntime) -> Result<(), Fail> {
+fn more_than_128_open_delimiters_are_too_deep(rt: HostRuntime) -> Tested<()> {
     let alloc = rt.alloc();
-    let (number, text) = written(alloc, EMPTY, deep(alloc, 127)?.as_str())?;
-    assert_eq!(rt; number, 0);
-    assert!(rt; text.as_slice() == b"ok S Opts {}\n".as_slice());
-    let (number, text) = written(alloc, EMPTY, deep(alloc, 128)?.as_str())?;
-    assert_eq!(rt; number, 3);
-    assert!(rt; text.as_slice() == b"refused: too deep in part 2 at 130\n".as_slice());
-    let first = format!(in alloc; "\"\n%%\n{}", deep(alloc, 128)?.as_str())?;
-    let (_, text) = end_of(alloc, &["run"], first.into_bytes(), 0, 0)?;
-    assert!(rt; text.as_slice() == b"refused: too deep in part 2 at 130\n".as_slice());
-    Ok(())
+    let most = format!(in alloc; "{EMPTY}{}", deep(alloc, 127)?.as_str())?;
+    must_end(alloc, most.as_str(), 0, "ok S Opts {}\n")?;
+    let more = format!(in alloc; "{EMPTY}{}", deep(alloc, 128)?.as_str())?;
+    must_end(
+        alloc,
+        more.as_str(),
+        3,
+        "refused: too deep in part 2 at 130\n",
+    )?;
+    let wrong = format!(in alloc; "\"\n%%\n{}", deep(alloc, 128)?.as_str())?;
+    must_end(
+        alloc,
+        wrong.as_str(),
+        3,
+        "refused: too deep in part 2 at 130\n",
+    )
 }
 
 #[test]
-fn what_is_no_input_is_refused(rt: HostRuntime) -> Result<(), Fail> {
+fn words_faults_and_limits(rt: HostRuntime) -> Tested<()> {
     let alloc = rt.alloc();
-    for (bytes, line) in REFUSALS {
-        let bytes = Vec::from_slice(alloc, bytes)?;
-        let (number, text) = end_of(alloc, &["run"], bytes, 0, 0)?;
-        assert_eq!(rt; number, 3);
-        assert!(rt; text.as_slice() == line.as_bytes());
-    }
     let (number, text) = end_of(alloc, &["run", "extra"], Vec::new(alloc), 0, 0)?;
     assert_eq!(rt; number, 2);
     assert!(rt; text.as_slice() == b"refused: usage\n".as_slice());
-    Ok(())
-}
-
-#[test]
-fn faults_and_limits_are_told(rt: HostRuntime) -> Result<(), Fail> {
-    let alloc = rt.alloc();
-    let row = input(alloc, "(name = \"a\")")?;
+    let bytes = Vec::from_slice(alloc, b"%%\n\xFF".as_slice())?;
+    let (number, text) = end_of(alloc, &["run"], bytes, 0, 0)?;
+    assert_eq!(rt; number, 3);
+    assert!(rt; text.as_slice() == b"refused: not UTF-8 at 3\n".as_slice());
+    let row = format!(in alloc; "{DECLARATION}#[my(name = \"a\")] struct S;\n")?;
     let bytes = Vec::from_slice(alloc, row.as_bytes())?;
     let (number, text) = end_of(alloc, &["run"], bytes, 2, 0)?;
     assert_eq!(rt; number, 4);

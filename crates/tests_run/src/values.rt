@@ -1,7 +1,7 @@
 //! The texts of values, each by its variant.
 
-use darling_run::value_text;
 use machine_value::{Boxed, Fault, Items, Mem, Span, Style, Text, TokenStream, TryClone, Value};
+use run_text::value_text;
 use std::alloc::Global;
 use std::test::Fail;
 use tok_types::{Delimiter, Group, Ident, Literal, Punct, TokenTree};

@@ -1,6 +1,0 @@
-use Rattle.std.proofs.Common.{◌≡◌, ◌++◌, flat_map}
-use Rattle.darling_run.specs.ValueText.{quoted_char}
-use Rattle.darling_run.proofs.quoted.push_quoted_chars.Given as goal
-
-abbrev pub invariant-loop-c : goal.invariant-loop-c
-invariant-loop-c l = l.out ≡ l.initial.out ++ flat_map (quoted_char l.quote) l.yielded

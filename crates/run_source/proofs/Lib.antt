@@ -1,0 +1,5 @@
+pub mod PartLemmas
+pub mod FitLemmas
+pub mod ReceiverLemmas
+pub mod RunLemmas
+pub mod SourceLemmas

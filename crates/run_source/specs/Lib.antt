@@ -1,0 +1,13 @@
+pub mod Parts
+pub mod Receiver
+pub mod Meaning
+pub mod Claims
+pub mod Source
+pub use Rattle.law_options.specs.Elements
+pub use Rattle.law_options.specs.Texts
+pub use Rattle.run_accepted.specs.Accepted
+pub use Rattle.run_accepted.specs.Form
+pub use Rattle.run_accepted.specs.HostSays
+pub use Rattle.run_accepted.specs.Rejected
+pub use Rattle.run_accepted.specs.Values
+pub use Rattle.run_accepted.specs.declared.error.RunError

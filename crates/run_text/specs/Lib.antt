@@ -1,0 +1,2 @@
+pub mod ValueText
+pub use Rattle.error_fault.specs.FaultText
