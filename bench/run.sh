@@ -1,6 +1,6 @@
 #!/bin/sh
-# Measures the lexer or the parsers on long texts: `bench/run.sh lex` or `bench/run.sh parse`, or this side beside
-# proc_macro2, syn and the derive of darling: `bench/run.sh beside`. Words behind it choose the workloads.
+# Measures the lexer or the parsers on long texts: `bench/run.sh lex` or `bench/run.sh parse`, whole runs of the tool on
+# many items: `bench/run.sh run`, or this side beside proc_macro2, syn and the derive of darling: `bench/run.sh beside`. Words behind it choose the workloads.
 # `lex`: the processor seconds of a whole run for 1, 4 and 16 MB of each workload, and the peak memory. `parse`: the
 # processor seconds that a MB takes, to lex the text and to parse its tokens (a run that parses less a run that
 # lexes), the peak memory at 16 MB, and what the parser answers there.
@@ -130,10 +130,46 @@ beside() {
     done
 }
 
+# So many subjects of a receiver behind its declarations: `generated`, a name and a level, or `realistic`, that of the examples.
+subjects_of() {
+    case "$1" in
+    generated)
+        printf '#[derive(FromDeriveInput)]\n#[darling(attributes(my))]\nstruct Opts { name: String, level: u8 }\n%%%%\n'
+        yes '#[my(name = "n", level = 7)] struct S;
+#[my(name = "n", level = 300, extra)] struct S;
+#[my(level = 1)] struct S;
+#[my(name = "n", name = "b", level = "9")] struct S;' | head -n "$2"
+        ;;
+    realistic)
+        sed '/^%%/q' "$top/examples/realistic.txt"
+        yes "$(sed '1,/^%%/d' "$top/examples/realistic.txt")" | head -n "$2"
+        ;;
+    esac
+}
+
+# The processor seconds and the peak memory of a run on 1,000 subjects, 20,000, and as many as 16 MB have room for.
+runs() {
+    printf '| %-10s | %8s | %9s | %8s | %15s | %14s |\n' receiver subjects seconds memory 'us a subject' 'bytes a subject'
+    printf '|---|---|---|---|---|---|\n'
+    for receiver in ${*:-generated realistic}; do
+        subjects_of "$receiver" 20000 >"$kept/input"
+        most=$((16777216 / ($(wc -c <"$kept/input") / 20000 + 1)))
+        for count in 1000 20000 "$most"; do
+            subjects_of "$receiver" "$count" >"$kept/input"
+            /usr/bin/time -o "$kept/time" -f '%U %S %M' "$tool" run <"$kept/input" >"$kept/said"
+            awk -v receiver="$receiver" -v count="$count" '{
+                printf "| %-10s | %8d | %7.2f s | %5.0f MB | %15.1f | %14.0f |\n", receiver, count, $1 + $2, $3 / 1024,
+                    ($1 + $2) * 1000000 / count, $3 * 1024 / count
+            }' "$kept/time"
+        done
+    done
+}
+
 stage="${1:-}"
 case "$stage" in
 lex) shift && lexer "$@" ;;
 parse) shift && parsers "$@" ;;
 beside) shift && beside "$@" ;;
-*) echo "bench/run.sh lex|parse|beside [WORKLOAD..]" >&2 && exit 2 ;;
+run) shift && runs "$@" ;;
+*) echo "bench/run.sh lex|parse|run|beside [WORKLOAD..]" >&2 && exit 2 ;;
 esac
