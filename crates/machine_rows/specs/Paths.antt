@@ -53,9 +53,9 @@ by_row before None = meants.Nothing
 abbrev pub in_table : List PathSegment → Ident → Meant
 in_table before name = if name.raw then meants.Nothing else by_row before (looked_up names name.text)
 
--- two identifiers are the same by their texts and by whether they are raw
+-- two identifiers are the same by their texts: `r#` is no part of a name
 abbrev pub same_ident : Ident → Ident → Bool
-same_ident a b = (if a.raw then b.raw else not b.raw) && bytes_eq a.text b.text
+same_ident a b = bytes_eq a.text b.text
 
 abbrev pub declared_or : Meant → Option ℕ → Meant
 declared_or otherwise (Some place) = meants.Declared place

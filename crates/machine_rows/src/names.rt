@@ -14,7 +14,7 @@ pub trait Names {
     /// The names in their order.
     ghost idents: { Self → List Name };
 
-    /// The number of the first declaration of the name, from 0 on.
+    /// The number of the first declaration of the name, from 0 on. `r#` is no part of a name.
     fn place_of(&self, name: &Ident) -> Option<usize>
         ensures { result ≡ position (λ other. same_ident other name.now) (idents self.now) };
 }
@@ -46,5 +46,5 @@ fn declared_at(decls: &[DeriveInput], name: &Ident) -> Option<usize>
 fn same_ident(a: &Ident, b: &Ident) -> bool
     ensures { result ≡ same_ident a.now b.now }
 {
-    a.raw == b.raw && a.text.as_str() == b.text.as_str()
+    a.text.as_str() == b.text.as_str()
 }
