@@ -10,7 +10,11 @@ use Rattle.base_core.specs.declared.text.Text.{Text}
 use Rattle.machine_rows.specs.declared.row.Row.{Row}
 use Rattle.machine_rows.specs.declared.row.Row.TheOpen.{Row-F}
 use Rattle.machine_rows.specs.declared.row.Row.TheFolds.{rec-Row}
-use Rattle.machine_host.specs.Forms.{Form, IsUnit, IsSpan, IsFaults, IsHostOf, IsListOf, IsMapOf, IsOptOf, IsStructOf, IsVariantOf, HasNone, HasOne, HasTwo}
+use Rattle.machine_rows.specs.declared.wrapper.HashKey.{HashKey}
+use Rattle.machine_rows.specs.declared.wrapper.HashKey.TheVariants as hash
+use Rattle.machine_rows.specs.declared.wrapper.TreeKey.{TreeKey}
+use Rattle.machine_rows.specs.declared.wrapper.TreeKey.TheVariants as tree
+use Rattle.machine_host.specs.Forms.{DontFall, Form, Keys, Rise, IsUnit, IsSpan, IsFaults, IsHostOf, IsListOf, IsMapOf, IsOptOf, IsStructOf, IsVariantOf, HasNone, HasOne, HasTwo}
 use Rattle.machine_host.specs.Leaves.{FitsLeaf}
 use Rattle.machine_host.specs.Nodes.{IsMeta}
 
@@ -34,6 +38,17 @@ layer_name _ = []
 abbrev pub type_name : Type' → Text
 type_name ty = layer_name (out-Type ty)
 
+-- The keys of a map rise by their texts. Texts differ where keys do; of identifiers and paths, which are not their texts alone,
+-- several may have one.
+abbrev pub HashKeys : HashKey → Keys
+HashKeys hash.String = Rise
+HashKeys hash.Ident = DontFall
+HashKeys hash.Path = DontFall
+
+abbrev pub TreeKeys : TreeKey → Keys
+TreeKeys tree.String = Rise
+TreeKeys tree.Ident = DontFall
+
 -- what fits a row whose parts are fitted by `Inner`, and a declaration by `FitsDecl`
 abbrev pub FitsLayer : {X : Type 0} → (ℕ → Form) → Row-F X → (X → Form) → Form
 FitsLayer FitsDecl Row-F.Unit Inner = IsUnit
@@ -45,8 +60,8 @@ FitsLayer FitsDecl (Row-F.ResultMeta inner) Inner = IsResultOf (Inner inner) IsM
 FitsLayer FitsDecl (Row-F.Override inner) Inner = IsOverrideOf (Inner inner)
 FitsLayer FitsDecl (Row-F.SpannedValue inner) Inner = IsStructOf (codes "SpannedValue") style.Struct (HasTwo (codes "value") (Inner inner) (codes "span") IsSpan)
 FitsLayer FitsDecl (Row-F.WithOriginal inner) Inner = IsStructOf (codes "WithOriginal") style.Struct (HasTwo (codes "parsed") (Inner inner) (codes "original") IsMeta)
-FitsLayer FitsDecl (Row-F.HashMap key inner) Inner = IsMapOf (Inner inner)
-FitsLayer FitsDecl (Row-F.BTreeMap key inner) Inner = IsMapOf (Inner inner)
+FitsLayer FitsDecl (Row-F.HashMap key inner) Inner = IsMapOf (HashKeys key) (Inner inner)
+FitsLayer FitsDecl (Row-F.BTreeMap key inner) Inner = IsMapOf (TreeKeys key) (Inner inner)
 FitsLayer FitsDecl (Row-F.Vec inner) Inner = IsListOf (Inner inner)
 FitsLayer FitsDecl (Row-F.Declared number) Inner = FitsDecl number
 FitsLayer FitsDecl (Row-F.Host ty) Inner = IsHostOf (type_name ty)

@@ -1,6 +1,6 @@
 -- The forms of values: what a value is at its outermost layer.
 use Rattle.std.specs.Prelude.{◌≡◌, ℕ, Bool, List, [], ◌∷◌, map, All, IfSome}
-use Rattle.std.specs.List.Sorted.{IsStrictlySortedBy}
+use Rattle.std.specs.List.Sorted.{IsSorted, IsStrictlySortedBy}
 use Rattle.std.specs.Ordering.{nat_cmp}
 use Rattle.std.specs.Cmp.Lexicographic.{slice_cmp}
 use Rattle.base_core.specs.declared.text.Text.{Text}
@@ -70,13 +70,25 @@ list_layer Fits _ = ⊥
 abbrev pub IsListOf : Form → Form
 IsListOf Fits it = list_layer Fits (out-Value it)
 
-abbrev pub map_layer : Form → Value-F Value → Type 0
-map_layer Fits (Value-F.Map entries) = IsStrictlySortedBy (slice_cmp nat_cmp) (map (λ entry. entry.0) entries) × All (λ entry. Fits entry.1) entries
-map_layer Fits _ = ⊥
+-- what is asked of the texts of keys
+abbrev pub Keys : Type 1
+Keys = List Text → Type 0
 
--- a map of such values, whose keys rise
-abbrev pub IsMapOf : Form → Form
-IsMapOf Fits it = map_layer Fits (out-Value it)
+-- each text is greater than the one before it
+abbrev pub Rise : Keys
+Rise = IsStrictlySortedBy (slice_cmp nat_cmp)
+
+-- no text is less than the one before it
+abbrev pub DontFall : Keys
+DontFall = IsSorted (slice_cmp nat_cmp)
+
+abbrev pub map_layer : Keys → Form → Value-F Value → Type 0
+map_layer AreKeys Fits (Value-F.Map entries) = AreKeys (map (λ entry. entry.0) entries) × All (λ entry. Fits entry.1) entries
+map_layer AreKeys Fits _ = ⊥
+
+-- a map of such values, with such keys
+abbrev pub IsMapOf : Keys → Form → Form
+IsMapOf AreKeys Fits it = map_layer AreKeys Fits (out-Value it)
 
 abbrev pub opt_layer : Form → Value-F Value → Type 0
 opt_layer Fits (Value-F.Opt inner) = IfSome inner Fits

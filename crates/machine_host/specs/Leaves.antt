@@ -5,13 +5,14 @@ use Rattle.machine_rows.specs.declared.leaf.Leaf.{Leaf}
 use Rattle.machine_rows.specs.declared.leaf.Leaf.TheVariants as leaf
 use Rattle.machine_rows.specs.declared.leaf.VecItem.{VecItem}
 use Rattle.machine_rows.specs.declared.leaf.VecItem.TheVariants as vec
-use Rattle.machine_host.specs.Forms.{Form, IsBool, IsChar, IsText, IsSpan, IsOptOf, IsListOf, IsStructOf, HasNone}
+use Rattle.machine_host.specs.Forms.{Form, IsBool, IsChar, IsHostOf, IsText, IsSpan, IsOptOf, IsListOf, IsStructOf, HasNone}
 use Rattle.machine_host.specs.Integers.{IsInteger, IsNonZero, integer_of}
 use Rattle.machine_host.specs.Nodes.{IsIdent, IsIdentString, IsPath, IsExpr, IsPreservedStrExpr, IsCallable, IsExprArray, IsExprPath, IsExprRange, IsTypePath, IsParsed, IsLit, IsLitOf, IsMeta, IsPredicate, IsIdentWord, IsPathWord, IsListedPath, IsSetItem, IsListed}
 
--- an item of a `Vec` that is read as a whole; where each item is read on its own, a name is read as its type reads it
+-- An item of a `Vec` that is read as a whole, or a value that is read at the item's type alone; no type of the table reads one
+-- predicate, so there it is a value of the host's.
 abbrev pub FitsItem : VecItem → Form
-FitsItem vec.WherePredicate it = IsPredicate it
+FitsItem vec.WherePredicate it = IsPredicate it ⊎ IsHostOf (codes "WherePredicate") it ⊎ IsHostOf (codes "syn::WherePredicate") it
 FitsItem (vec.Lit kind) it = IsLitOf kind it
 FitsItem (vec.Unsigned width) it = IsInteger (integer_of width) it
 FitsItem vec.Ident it = IsIdentWord it ⊎ IsIdent it

@@ -5,6 +5,7 @@ use Rattle.std.specs.Option.{option_copied}
 use Rattle.std.specs.Str.{bytes_eq}
 use Rattle.std.proofs.lemmas.Option.{slice_get-map}
 use Rattle.base_core.specs.declared.text.Text.{Text}
+use Rattle.tok_types.specs.Ident.{ident_text}
 use Rattle.tok_types.specs.declared.ident.Ident.{Ident}
 use Rattle.node_expr.specs.Layers.{ExprLayer, ExprPathLayer}
 use Rattle.node_expr.specs.declared.expr.Expr.{out-Expr}
@@ -55,17 +56,17 @@ head-bare decls ty = ap (λ names. head_of names (erased_type ty)) (names-bare d
 
 -- ---- what is offered
 
-head_leaf-bare : (it : Head Type') → head_leaf (bared_head it) ≡ head_leaf it
+pub head_leaf-bare : (it : Head Type') → head_leaf (bared_head it) ≡ head_leaf it
 head_leaf-bare head.Unit = refl
 head_leaf-bare (head.Leaf it) = refl
 head_leaf-bare (head.Around it inner) = refl
 head_leaf-bare (head.Declared number) = refl
 head_leaf-bare head.Host = refl
 
-leaf_in-bare : (decls : List DeriveInput) (ty : Type') → leaf_in (erased_decls decls) (erased_type ty) ≡ leaf_in decls ty
+pub leaf_in-bare : (decls : List DeriveInput) (ty : Type') → leaf_in (erased_decls decls) (erased_type ty) ≡ leaf_in decls ty
 leaf_in-bare decls ty = ap head_leaf (head-bare decls ty) ∙ head_leaf-bare (head_of (decl_names decls) ty)
 
-path_layer-bare : (it : ExprPath) → layer_path (bare_expr (Expr-F.«Expr::Path» it)) ≡ option_map erased_path (layer_path (Expr-F.«Expr::Path» it))
+pub path_layer-bare : (it : ExprPath) → layer_path (bare_expr (Expr-F.«Expr::Path» it)) ≡ option_map erased_path (layer_path (Expr-F.«Expr::Path» it))
 path_layer-bare it =
     ap (λ (layer : ExprPathLayer). if is_none layer.qself then Some layer.path else None) (opened_expr_path it) ∙ by (out-ExprPath it).qself
   where
@@ -73,22 +74,22 @@ path_layer-bare it =
     by None = refl
     by (Some qself) = refl
 
-layer_path-bare : (layer : ExprLayer) → layer_path (bare_expr layer) ≡ option_map erased_path (layer_path layer)
+pub layer_path-bare : (layer : ExprLayer) → layer_path (bare_expr layer) ≡ option_map erased_path (layer_path layer)
 layer_path-bare (Expr-F.«Expr::Path» it) = path_layer-bare it
 layer_path-bare _ = refl
 
 abbrev erased_callable : Callable → Callable
 erased_callable it = record { call = erased_expr it.call }
 
-path_in-bare : (it : Callable) → path_in (erased_callable it) ≡ option_map erased_path (path_in it)
+pub path_in-bare : (it : Callable) → path_in (erased_callable it) ≡ option_map erased_path (path_in it)
 path_in-bare it = ap layer_path (opened_expr it.call) ∙ layer_path-bare (out-Expr it.call)
 
-offer_by-bare : (at : Use) (path : Option Path) (it : Option Leaf) → offer_by at (option_map erased_path path) it ≡ offer_by at path it
+pub offer_by-bare : (at : Use) (path : Option Path) (it : Option Leaf) → offer_by at (option_map erased_path path) it ≡ offer_by at path it
 offer_by-bare at None it = refl
 offer_by-bare at (Some path) None = refl
 offer_by-bare at (Some path) (Some it) = ap (λ text. chosen text it (offered_at at)) (path_text-bare path)
 
-call-bare : (call : Option (Bor Callable)) → option_and_then path_in (erased_call call) ≡ option_map erased_path (option_and_then path_in (option_copied call))
+pub call-bare : (call : Option (Bor Callable)) → option_and_then path_in (erased_call call) ≡ option_map erased_path (option_and_then path_in (option_copied call))
 call-bare None = refl
 call-bare (Some it) = path_in-bare it.now
 
@@ -116,15 +117,15 @@ module _ (declared : ℕ → Option Value) where
       ∙ head_default-bare (λ inner. default declared (row_at (map erased_ident decls) level inner)) (λ inner. default declared (row_at decls level inner)) (default-bare decls level) ty (head_of decls ty)
       ∙ sym (default-at declared decls level ty)
 
-type_default-bare : (decls : List DeriveInput) (declared : ℕ → Option Value) (ty : Type') → type_default (erased_decls decls) declared (erased_type ty) ≡ type_default decls declared ty
+pub type_default-bare : (decls : List DeriveInput) (declared : ℕ → Option Value) (ty : Type') → type_default (erased_decls decls) declared (erased_type ty) ≡ type_default decls declared ty
 unfolding row_of
 type_default-bare decls declared ty =
     ap (λ names. row_default declared none_of_host (row_of names (erased_type ty))) (names-bare decls) ∙ default-bare declared (decl_names decls) 256 ty
 
-member_name-bare : (field : Field) → member_name (erased_field field) ≡ member_name field
+pub member_name-bare : (field : Field) → member_name (erased_field field) ≡ member_name field
 member_name-bare field = by field.ident
   where
-    by : (ident : Option Ident) → unwrap_or (option_map (λ (it : Ident). it.text) (option_map erased_ident ident)) [] ≡ unwrap_or (option_map (λ (it : Ident). it.text) ident) []
+    by : (ident : Option Ident) → unwrap_or (option_map ident_text (option_map erased_ident ident)) [] ≡ unwrap_or (option_map ident_text ident) []
     by None = refl
     by (Some ident) = refl
 
@@ -141,7 +142,7 @@ module _ (bared plain : Type' → Option Value) (same : (ty : Type') → bared (
 
   fields-bare : (ident : Ident) (named : Option (List Field)) → option_and_then (struct_default bared (erased_ident ident)) (option_map (map erased_field) named) ≡ option_and_then (struct_default plain ident) named
   fields-bare ident None = refl
-  fields-bare ident (Some named) = ap (option_map (value.Struct ident.text style.Struct)) (members-bare named)
+  fields-bare ident (Some named) = ap (option_map (value.Struct (ident_text ident) style.Struct)) (members-bare named)
 
   decl-bare : (decl : Option DeriveInput) → decl_default bared (option_map erased_derive_input decl) ≡ decl_default plain decl
   decl-bare None = refl
@@ -170,7 +171,7 @@ default_below-bare decls (suc bound) number =
     ap (λ it. if number == bound then it else default_below (erased_decls decls) bound number) here
     ∙ ap (λ it. if number == bound then decl_default (type_default decls (default_below decls bound)) (slice_get decls bound) else it) (default_below-bare decls bound number)
 
-declared_in-bare : (it : Head Type') → declared_in (bared_head it) ≡ declared_in it
+pub declared_in-bare : (it : Head Type') → declared_in (bared_head it) ≡ declared_in it
 declared_in-bare head.Unit = refl
 declared_in-bare (head.Leaf it) = refl
 declared_in-bare (head.Around it inner) = refl

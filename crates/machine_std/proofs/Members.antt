@@ -3,6 +3,7 @@ use Rattle.std.proofs.Common.{◌≡◌, ◌∙◌, ℕ, suc, ◌+◌, ◌<◌, 
 use Rattle.std.specs.List.{list_all}
 use Rattle.std.proofs.lemmas.List.{append-nil, drop_all}
 use Rattle.base_core.specs.declared.text.Text.{Text}
+use Rattle.tok_types.specs.Ident.{ident_text}
 use Rattle.tok_types.specs.declared.ident.Ident.{Ident}
 use Rattle.node_expr.specs.declared.ty.«Type».{«Type» as Type'}
 use Rattle.node_core.specs.declared.data.Field.{Field}
@@ -68,4 +69,4 @@ module _ (default_of : Type' → Option Value) where
       ∙ ap (λ b. is_some (default_of field.ty) && b) (members-some fields)
 
   pub struct-some : (ident : Ident) (fields : List Field) → is_some (struct_default default_of ident fields) ≡ list_all (λ field. is_some (default_of field.ty)) fields
-  struct-some ident fields = is_some-map (value.Struct ident.text style.Struct) (members_of fields) ∙ members-some fields
+  struct-some ident fields = is_some-map (value.Struct (ident_text ident) style.Struct) (members_of fields) ∙ members-some fields

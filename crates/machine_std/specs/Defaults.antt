@@ -1,6 +1,7 @@
 -- The defaults of declarations: field by field, where every field's type has one.
 use Rattle.std.specs.Prelude.{ℕ, zero, suc, ◌==◌, if◌then◌else◌, List, [], ◌∷◌, map, slice_get, Option, Some, None, option_map, option_and_then}
 use Rattle.base_core.specs.declared.text.Text.{Text}
+use Rattle.tok_types.specs.Ident.{ident_text}
 use Rattle.tok_types.specs.declared.ident.Ident.{Ident}
 use Rattle.node_expr.specs.declared.ty.«Type».{«Type» as Type'}
 use Rattle.node_core.specs.declared.data.Field.{Field}
@@ -34,7 +35,7 @@ member_default default_of field = option_map (λ it. (member_name field, it)) (d
 
 -- the value of a struct, whose members are the fields' defaults
 abbrev pub struct_default : (Type' → Option Value) → Ident → List Field → Option Value
-struct_default default_of ident named = option_map (value.Struct ident.text style.Struct) (each_of (map (member_default default_of) named))
+struct_default default_of ident named = option_map (value.Struct (ident_text ident) style.Struct) (each_of (map (member_default default_of) named))
 
 abbrev pub named_of : Fields → Option (List Field)
 named_of (fields.Named it) = Some it.named

@@ -1,11 +1,12 @@
 -- The defaults fit their types. These are lemmas, which the laws of the host stand on.
-use Rattle.std.proofs.Common.{◌≡◌, ◌∙◌, ℕ, zero, suc, ◌==◌, Bool, true, false, List, [], ◌∷◌, inl, map, Option, Some, None, option_map, is_some, refl, ap, sym, subst, codes, lit<}
+use Rattle.std.proofs.Common.{◌≡◌, ◌∙◌, ℕ, zero, suc, arith, ◌==◌, Bool, true, false, List, [], ◌∷◌, inl, map, Option, Some, None, option_map, is_some, refl, ap, sym, subst, codes, lit<}
 use Rattle.std.specs.Prelude.{if◌then◌else◌, slice_get, option_and_then, unwrap_or}
 use Rattle.std.specs.List.{AllZip}
 use Rattle.std.specs.List.Sorted.{IsStrictlySortedBy}
 use Rattle.std.proofs.lemmas.Bool.{false≢true}
 use Rattle.std.proofs.lemmas.List.Elements.{All-nil}
 use Rattle.base_core.specs.declared.text.Text.{Text}
+use Rattle.tok_types.specs.Ident.{ident_text}
 use Rattle.tok_types.specs.declared.ident.Ident.{Ident}
 use Rattle.tok_types.specs.declared.span.Span.TheVariants.{CallSite}
 use Rattle.node_expr.specs.declared.ty.«Type».{«Type» as Type'}
@@ -36,9 +37,13 @@ use Rattle.machine_value.specs.declared.value.Value.TheOpen.{Value-F}
 use Rattle.machine_value.specs.declared.value.Value.TheVariants as value
 use Rattle.machine_cells.specs.Defaults.{layer_default, leaf_default}
 use Rattle.machine_cells.specs.Values.{given, ignored, natural, spanned}
-use Rattle.machine_host.specs.Decls.{Either, FitsBelow, FitsBody, FitsDecl, HasFields, IsMemberOf, decl_names, member_name}
-use Rattle.machine_host.specs.Fits.{FitsRow, IsOverrideOf}
-use Rattle.machine_host.specs.Forms.{Form, HasNone, HasTwo, IsBool, IsChar, IsInt, IsListOf, IsMapOf, IsOptOf, IsSpan, IsStructOf, IsText, IsUnit, bool_layer, char_layer, int_layer, list_layer, map_layer, opt_layer, span_layer, struct_layer, text_layer, unit_layer, variant_layer}
+use Rattle.machine_host.specs.Decls.{Either, FitsBelow, FitsBody, FitsDecl, FitsType, HasFields, IsMemberOf, decl_names, member_name}
+use Rattle.machine_rows.specs.declared.wrapper.HashKey.{HashKey}
+use Rattle.machine_rows.specs.declared.wrapper.HashKey.TheVariants as hash
+use Rattle.machine_rows.specs.declared.wrapper.TreeKey.{TreeKey}
+use Rattle.machine_rows.specs.declared.wrapper.TreeKey.TheVariants as tree
+use Rattle.machine_host.specs.Fits.{FitsRow, HashKeys, IsOverrideOf, TreeKeys}
+use Rattle.machine_host.specs.Forms.{DontFall, Form, HasNone, HasTwo, IsBool, IsChar, IsInt, IsListOf, IsMapOf, IsOptOf, IsSpan, IsStructOf, IsText, IsUnit, bool_layer, char_layer, int_layer, list_layer, map_layer, opt_layer, span_layer, struct_layer, text_layer, unit_layer, variant_layer}
 use Rattle.machine_host.specs.Integers.{InRange}
 use Rattle.machine_host.specs.Leaves.{FitsItem, FitsLeaf}
 use Rattle.machine_host.specs.Nodes.{IsListed, IsListedPath, IsSetItem}
@@ -65,46 +70,60 @@ fits_unit = subst unit_layer (sym (opened value.Unit Value-F.Unit value.rolls-Un
 pub fits_text : (text : Text) → IsText (value.Text text)
 fits_text text = subst text_layer (sym (opened (value.Text text) (Value-F.Text text) (value.rolls-Text text))) tt
 
-fits_bool : (b : Bool) → IsBool (value.Bool b)
+pub fits_bool : (b : Bool) → IsBool (value.Bool b)
 fits_bool b = subst bool_layer (sym (opened (value.Bool b) (Value-F.Bool b) (value.rolls-Bool b))) tt
 
-fits_char : (c : ℕ) → IsChar (value.Char c)
+pub fits_char : (c : ℕ) → IsChar (value.Char c)
 fits_char c = subst char_layer (sym (opened (value.Char c) (Value-F.Char c) (value.rolls-Char c))) tt
 
 pub fits_natural : (InRange : Bool → ℕ → Type 0) (n : ℕ) → InRange false n → IsInt InRange (natural n)
 fits_natural InRange n h = subst (int_layer InRange) (sym (opened (natural n) (Value-F.Int false n) (value.rolls-Int false n))) h
 
-fits_none : (Fits : Form) → IsOptOf Fits (value.Opt None)
+pub fits_none : (Fits : Form) → IsOptOf Fits (value.Opt None)
 fits_none Fits = subst (opt_layer Fits) (sym (opened (value.Opt None) (Value-F.Opt None) (value.rolls-Opt None))) tt
 
-fits_empty : (Fits : Form) → IsListOf Fits (value.List [])
+pub fits_empty : (Fits : Form) → IsListOf Fits (value.List [])
 fits_empty Fits = subst (list_layer Fits) (sym (opened (value.List []) (Value-F.List []) (value.rolls-List []))) (All-nil Fits)
 
-fits_no_entries : (Fits : Form) → IsMapOf Fits (value.Map [])
-unfolding IsStrictlySortedBy
-fits_no_entries Fits = subst (map_layer Fits) (sym (opened (value.Map []) (Value-F.Map []) (value.rolls-Map []))) (tt, All-nil (λ entry. Fits entry.1))
+pub fits_no_entries : (AreKeys : List Text → Type 0) (Fits : Form) → AreKeys [] → IsMapOf AreKeys Fits (value.Map [])
+fits_no_entries AreKeys Fits h = subst (map_layer AreKeys Fits) (sym (opened (value.Map []) (Value-F.Map []) (value.rolls-Map []))) (h, All-nil (λ entry. Fits entry.1))
 
-fits_span : IsSpan (value.Span (Some CallSite))
+-- the texts of no keys don't fall
+pub no_keys : DontFall []
+no_keys k d from below = let bad : ⊥ = omega (arith, below) in absurd bad
+
+pub no_hash_keys : (key : HashKey) → HashKeys key []
+unfolding IsStrictlySortedBy
+no_hash_keys hash.String = tt
+no_hash_keys hash.Ident = no_keys
+no_hash_keys hash.Path = no_keys
+
+pub no_tree_keys : (key : TreeKey) → TreeKeys key []
+unfolding IsStrictlySortedBy
+no_tree_keys tree.String = tt
+no_tree_keys tree.Ident = no_keys
+
+pub fits_span : IsSpan (value.Span (Some CallSite))
 fits_span = subst span_layer (sym (opened (value.Span (Some CallSite)) (Value-F.Span (Some CallSite)) (value.rolls-Span (Some CallSite)))) tt
 
-fits_ignored : IsStructOf (codes "Ignored") style.Unit HasNone ignored
+pub fits_ignored : IsStructOf (codes "Ignored") style.Unit HasNone ignored
 fits_ignored = subst (struct_layer (codes "Ignored") style.Unit HasNone) (sym (opened ignored (Value-F.Struct (codes "Ignored") style.Unit []) (value.rolls-Struct (codes "Ignored") style.Unit []))) (refl, refl, tt)
 
-fits_inherit : (Fits : Form) → IsOverrideOf Fits (given Inherit)
+pub fits_inherit : (Fits : Form) → IsOverrideOf Fits (given Inherit)
 fits_inherit Fits =
     inl (subst (variant_layer (codes "Override") (codes "Inherit") style.Unit HasNone)
     (sym (opened (given Inherit) (Value-F.Variant (codes "Override") (codes "Inherit") style.Unit []) (value.rolls-Variant (codes "Override") (codes "Inherit") style.Unit []))) (refl, refl, refl, tt))
 
-abbrev IsSpannedOf : Form → Form
+abbrev pub IsSpannedOf : Form → Form
 IsSpannedOf Fits = IsStructOf (codes "SpannedValue") style.Struct (HasTwo (codes "value") Fits (codes "span") IsSpan)
 
-fits_spanned : (Fits : Form) (it : Value) → Fits it → IsSpannedOf Fits (spanned it CallSite)
+pub fits_spanned : (Fits : Form) (it : Value) → Fits it → IsSpannedOf Fits (spanned it CallSite)
 fits_spanned Fits it h =
     let members : List (Text × Value) = (codes "value", it) ∷ (codes "span", value.Span (Some CallSite)) ∷ [] in
     subst (struct_layer (codes "SpannedValue") style.Struct (HasTwo (codes "value") Fits (codes "span") IsSpan))
     (sym (opened (spanned it CallSite) (Value-F.Struct (codes "SpannedValue") style.Struct members) (value.rolls-Struct (codes "SpannedValue") style.Struct members))) (refl, refl, ((refl, h), (refl, fits_span)))
 
-fits_struct : (name : Text) (HasMembers : List (Text × Value) → Type 0) (members : List (Text × Value)) → HasMembers members → IsStructOf name style.Struct HasMembers (value.Struct name style.Struct members)
+pub fits_struct : (name : Text) (HasMembers : List (Text × Value) → Type 0) (members : List (Text × Value)) → HasMembers members → IsStructOf name style.Struct HasMembers (value.Struct name style.Struct members)
 fits_struct name HasMembers members h =
     subst (struct_layer name style.Struct HasMembers) (sym (opened (value.Struct name style.Struct members) (Value-F.Struct name style.Struct members) (value.rolls-Struct name style.Struct members))) (refl, refl, h)
 
@@ -139,7 +158,7 @@ one_in_range integer.U64 = lit< tt
 one_in_range integer.U128 = lit< tt
 one_in_range integer.Usize = lit< tt
 
-leaf_fits : (it : Leaf) (made : Value) → leaf_default it ≡ Some made → FitsLeaf it made
+pub leaf_fits : (it : Leaf) (made : Value) → leaf_default it ≡ Some made → FitsLeaf it made
 leaf_fits leaf.Bool made e = given_fits IsBool (value.Bool false) made e (fits_bool false)
 leaf_fits leaf.Char made e = given_fits IsChar (value.Char 0) made e (fits_char 0)
 leaf_fits leaf.String made e = given_fits IsText (value.Text []) made e (fits_text [])
@@ -155,7 +174,7 @@ leaf_fits _ made e = absurd (some-none e)
 
 module _ (declared : ℕ → Option Value) (FitsNumber : ℕ → Form) (fits : (number : ℕ) (made : Value) → declared number ≡ Some made → FitsNumber number made) where
   -- what a row that holds one type has fits it, where what the type inside has does
-  around_fits : (it : Wrapper) (inner : Row) → ((made : Value) → default declared inner ≡ Some made → FitsRow FitsNumber inner made) → (made : Value)
+  pub around_fits : (it : Wrapper) (inner : Row) → ((made : Value) → default declared inner ≡ Some made → FitsRow FitsNumber inner made) → (made : Value)
       → layer_default declared none_of_host (around_layer it (default declared inner)) ≡ Some made → FitsRow FitsNumber (around it inner) made
   around_fits wrapper.Option inner inside made e =
       fits_at FitsNumber (row.Option inner) (row.Option inner) (Row-F.Option inner) made refl (row.rolls-Option inner) (given_fits (IsOptOf (FitsRow FitsNumber inner)) (value.Opt None) made e (fits_none (FitsRow FitsNumber inner)))
@@ -172,13 +191,13 @@ module _ (declared : ℕ → Option Value) (FitsNumber : ℕ → Form) (fits : (
       by (Some it) inside e = given_fits (IsSpannedOf (FitsRow FitsNumber inner)) (spanned it CallSite) made e (fits_spanned (FitsRow FitsNumber inner) it (inside it refl))
   around_fits wrapper.WithOriginal inner inside made e = absurd (some-none e)
   around_fits (wrapper.HashMap key) inner inside made e =
-      fits_at FitsNumber (row.HashMap key inner) (row.HashMap key inner) (Row-F.HashMap key inner) made refl (row.rolls-HashMap key inner) (given_fits (IsMapOf (FitsRow FitsNumber inner)) (value.Map []) made e (fits_no_entries (FitsRow FitsNumber inner)))
+      fits_at FitsNumber (row.HashMap key inner) (row.HashMap key inner) (Row-F.HashMap key inner) made refl (row.rolls-HashMap key inner) (given_fits (IsMapOf (HashKeys key) (FitsRow FitsNumber inner)) (value.Map []) made e (fits_no_entries (HashKeys key) (FitsRow FitsNumber inner) (no_hash_keys key)))
   around_fits (wrapper.BTreeMap key) inner inside made e =
-      fits_at FitsNumber (row.BTreeMap key inner) (row.BTreeMap key inner) (Row-F.BTreeMap key inner) made refl (row.rolls-BTreeMap key inner) (given_fits (IsMapOf (FitsRow FitsNumber inner)) (value.Map []) made e (fits_no_entries (FitsRow FitsNumber inner)))
+      fits_at FitsNumber (row.BTreeMap key inner) (row.BTreeMap key inner) (Row-F.BTreeMap key inner) made refl (row.rolls-BTreeMap key inner) (given_fits (IsMapOf (TreeKeys key) (FitsRow FitsNumber inner)) (value.Map []) made e (fits_no_entries (TreeKeys key) (FitsRow FitsNumber inner) (no_tree_keys key)))
   around_fits wrapper.Vec inner inside made e =
       fits_at FitsNumber (row.Vec inner) (row.Vec inner) (Row-F.Vec inner) made refl (row.rolls-Vec inner) (given_fits (IsListOf (FitsRow FitsNumber inner)) (value.List []) made e (fits_empty (FitsRow FitsNumber inner)))
 
-  head_fits : (names : List Ident) (level : ℕ) → ((ty : Type') (made : Value) → default declared (row_at names level ty) ≡ Some made → FitsRow FitsNumber (row_at names level ty) made)
+  pub head_fits : (names : List Ident) (level : ℕ) → ((ty : Type') (made : Value) → default declared (row_at names level ty) ≡ Some made → FitsRow FitsNumber (row_at names level ty) made)
       → (ty : Type') (it : Head Type') (made : Value) → default declared (row_by (row_at names level) ty it) ≡ Some made → FitsRow FitsNumber (row_by (row_at names level) ty it) made
   head_fits names level inside ty head.Unit made e =
       fits_at FitsNumber row.Unit row.Unit Row-F.Unit made refl row.rolls-Unit (given_fits IsUnit value.Unit made (sym (default-by declared (row_at names level) ty head.Unit) ∙ e) fits_unit)
@@ -190,7 +209,7 @@ module _ (declared : ℕ → Option Value) (FitsNumber : ℕ → Form) (fits : (
       fits_at FitsNumber (row.Declared number) (row.Declared number) (Row-F.Declared number) made refl (row.rolls-Declared number) (fits number made (sym (default-by declared (row_at names level) ty (head.Declared number)) ∙ e))
   head_fits names level inside ty head.Host made e = absurd (some-none (sym (default-by declared (row_at names level) ty head.Host) ∙ e))
 
-  row_fits : (names : List Ident) (level : ℕ) (ty : Type') (made : Value) → default declared (row_at names level ty) ≡ Some made → FitsRow FitsNumber (row_at names level ty) made
+  pub row_fits : (names : List Ident) (level : ℕ) (ty : Type') (made : Value) → default declared (row_at names level ty) ≡ Some made → FitsRow FitsNumber (row_at names level ty) made
   row_fits names zero ty made e = absurd (some-none (sym (default-by declared (row_at names zero) ty head.Host) ∙ e))
   row_fits names (suc level) ty made e = head_fits names level (row_fits names level) ty (head_of names ty) made e
 
@@ -219,15 +238,15 @@ module _ (default_of : Type' → Option Value) (FitsIn : Type' → Form) (fits :
       first_fits field named (member_default default_of field) (each_of (map (member_default default_of) named)) (member_fits field (default_of field.ty) (fits field.ty)) (members_fit named) members e
 
   struct_fits : (ident : Ident) (named : List Field) (found : Option (List (Text × Value))) → ((members : List (Text × Value)) → found ≡ Some members → AllZip (IsMemberOf FitsIn) named members)
-      → (made : Value) → option_map (value.Struct ident.text style.Struct) found ≡ Some made → IsStructOf ident.text style.Struct (λ members. AllZip (IsMemberOf FitsIn) named members) made
+      → (made : Value) → option_map (value.Struct (ident_text ident) style.Struct) found ≡ Some made → IsStructOf (ident_text ident) style.Struct (λ members. AllZip (IsMemberOf FitsIn) named members) made
   struct_fits ident named None inside made e = absurd (some-none e)
   struct_fits ident named (Some members) inside made e =
-      given_fits (IsStructOf ident.text style.Struct (λ members. AllZip (IsMemberOf FitsIn) named members)) (value.Struct ident.text style.Struct members) made e (fits_struct ident.text (λ members. AllZip (IsMemberOf FitsIn) named members) members (inside members refl))
+      given_fits (IsStructOf (ident_text ident) style.Struct (λ members. AllZip (IsMemberOf FitsIn) named members)) (value.Struct (ident_text ident) style.Struct members) made e (fits_struct (ident_text ident) (λ members. AllZip (IsMemberOf FitsIn) named members) members (inside members refl))
 
   body_fits : (ident : Ident) (it : «Data») (made : Value) → option_and_then (struct_default default_of ident) (named_in it) ≡ Some made → FitsBody FitsIn ident it made
   body_fits ident (body.Struct it) made e = by it.fields e
     where
-      by : (it : Fields) → option_and_then (struct_default default_of ident) (named_of it) ≡ Some made → IsStructOf ident.text (style_of it) (HasFields FitsIn it) made
+      by : (it : Fields) → option_and_then (struct_default default_of ident) (named_of it) ≡ Some made → IsStructOf (ident_text ident) (style_of it) (HasFields FitsIn it) made
       by (fields.Named it) e = struct_fits ident it.named (each_of (map (member_default default_of) it.named)) (members_fit it.named) made e
       by (fields.Unnamed it) e = absurd (some-none e)
       by fields.Unit e = absurd (some-none e)
@@ -239,7 +258,7 @@ module _ (default_of : Type' → Option Value) (FitsIn : Type' → Form) (fits :
   decl_fits (Some decl) made e = body_fits decl.ident decl.body made e
 
 abbrev InDecls : List DeriveInput → ℕ → Type' → Form
-InDecls decls bound ty = FitsRow (FitsBelow decls bound) (row_of (decl_names decls) ty)
+InDecls decls bound = FitsType (FitsBelow decls bound) (decl_names decls)
 
 either_fits : (b : Bool) (here other : Option Value) (Here Other : Form) → ((made : Value) → here ≡ Some made → Here made) → ((made : Value) → other ≡ Some made → Other made)
     → (made : Value) → (if b then here else other) ≡ Some made → Either b (Here made) (Other made)
@@ -252,5 +271,5 @@ below_fits decls zero number made e = absurd (some-none e)
 below_fits decls (suc bound) number made e =
     either_fits (number == bound) (decl_default (type_default decls (default_below decls bound)) (slice_get decls bound)) (default_below decls bound number)
     (FitsDecl (InDecls decls bound) (slice_get decls bound)) (FitsBelow decls bound number)
-    (decl_fits (type_default decls (default_below decls bound)) (InDecls decls bound) (type_fits (default_below decls bound) (FitsBelow decls bound) (below_fits decls bound) decls) (slice_get decls bound))
+    (decl_fits (type_default decls (default_below decls bound)) (InDecls decls bound) (λ ty made is. inl (type_fits (default_below decls bound) (FitsBelow decls bound) (below_fits decls bound) decls ty made is)) (slice_get decls bound))
     (below_fits decls bound number) made e

@@ -1,5 +1,5 @@
 -- The laws of the program's host, which its implementation cites.
-use Rattle.std.proofs.Common.{◌≡◌, ◌∙◌, ℕ, suc, ◌^◌, Bool, true, false, if◌then◌else◌, ◌&&◌, ◌++◌, nat_lt, List, [], ◌∷◌, length, map, Option, Some, None, is_none, is_some, refl, ap, sym, subst, codes, cond, IsTrue, not}
+use Rattle.std.proofs.Common.{◌≡◌, ◌∙◌, ℕ, suc, inl, ◌^◌, Bool, true, false, if◌then◌else◌, ◌&&◌, ◌++◌, nat_lt, List, [], ◌∷◌, length, map, Option, Some, None, is_none, is_some, refl, ap, sym, subst, codes, cond, IsTrue, not}
 use Rattle.std.specs.Prelude.{option_and_then, unwrap_or}
 use Rattle.std.specs.Str.{bytes_eq}
 use Rattle.std.specs.List.{join_by}
@@ -146,7 +146,7 @@ proper_in Here There Absent f (said.Faults fault more) h = tt
 
 leaf_fits_type : (decls : List DeriveInput) (ty : Type') (kind : Leaf) → leaf_in decls ty ≡ Some kind → (it : Datum) → FitsLeaf kind it → Fits decls ty it
 leaf_fits_type decls ty kind e it h =
-    fits_at (FitsAmong decls) (row_of (decl_names decls) ty) (row.Leaf kind) (Row-F.Leaf kind) it (row_of-leaf (decl_names decls) ty kind e) (row.rolls-Leaf kind) h
+    inl (fits_at (FitsAmong decls) (row_of (decl_names decls) ty) (row.Leaf kind) (Row-F.Leaf kind) it (row_of-leaf (decl_names decls) ty kind e) (row.rolls-Leaf kind) h)
 
 -- ---- the four laws
 
@@ -163,8 +163,8 @@ default_by : (decls : List DeriveInput) (ty : Type') (number : ℕ) → declared
     → IsTrue (is_some made) → Fits decls ty (unwrap_or made value.Unit)
 default_by decls ty number e None is h = absurd (false≢true h)
 default_by decls ty number e (Some made) is h =
-    fits_at (FitsAmong decls) (row_of (decl_names decls) ty) (row.Declared number) (Row-F.Declared number) made (row_of-number (decl_names decls) ty number e) (row.rolls-Declared number)
-    (below_fits decls (suc number) number made is)
+    inl (fits_at (FitsAmong decls) (row_of (decl_names decls) ty) (row.Declared number) (Row-F.Declared number) made (row_of-number (decl_names decls) ty number e) (row.rolls-Declared number)
+    (below_fits decls (suc number) number made is))
 
 default_fits : (decls : List DeriveInput) (ty : Type') (found : Option ℕ) → declared_in (head_of (decl_names decls) ty) ≡ found → IsTrue (is_some (option_and_then (default_among decls) found))
     → Fits decls ty (unwrap_or (option_and_then (default_among decls) found) value.Unit)

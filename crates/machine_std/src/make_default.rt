@@ -9,6 +9,7 @@ ghost use Rattle.machine_host.specs.Decls.{decl_names, member_name};
 ghost use Rattle.machine_rows.specs.Heads.{seen_head};
 ghost use Rattle.machine_rows.specs.Rows.{row_at};
 ghost use Rattle.node_expr.specs.declared.ty.«Type».{«Type» as TypeSeen};
+ghost use Rattle.tok_types.specs.Ident.{ident_text};
 ghost use Rattle.tok_types.specs.declared.span.Span.TheVariants.{CallSite};
 ghost use Rattle.machine_std.specs.Defaults as spec;
 ghost use Rattle.machine_std.specs.Defaults.{none_of_host};
@@ -17,7 +18,7 @@ ghost use Rattle.machine_std.specs.Rests.{around_layer, head_default};
 use base_core::{Items, Text};
 use machine_rows::{Head, Leaf, Wrapper, head_of};
 use machine_value::Value;
-use node_core::{Data, DeriveInput, Field, Fields, Ident, Mem, Span, Style, TryClone, Type};
+use node_core::{Data, DeriveInput, Field, Fields, Ident, Mem, Span, Style, Type};
 use std::alloc::{AllocError, Global};
 
 /// How deep a type is looked into.
@@ -214,15 +215,15 @@ fn name_of(alloc: Global, field: &Field) -> Mem<Text>
     ensures { IfOk result (λ name. name ≡ member_name field.now) }
 {
     match &field.ident {
-        Some(ident) => ident.text.try_clone(alloc),
+        Some(ident) => ident.to_text(alloc),
         None => Ok(Text::new(alloc)),
     }
 }
 
 fn struct_of(alloc: Global, ident: &Ident, fields: Items<(Text, Value)>) -> Mem<Option<Value>>
-    ensures { IfOk result (λ made. made ≡ Some (Value.Struct ident.now.text Style.Struct fields)) }
+    ensures { IfOk result (λ made. made ≡ Some (Value.Struct (ident_text ident.now) Style.Struct fields)) }
 {
-    let name = ident.text.try_clone(alloc)?;
+    let name = ident.to_text(alloc)?;
     let style = Style::Struct;
     Ok(Some(Value::Struct {
         name,

@@ -70,7 +70,8 @@ const RUN: &str =
 #[derive(FromDeriveInput)] struct A { n: u8 } | #[my(n = 1)] struct S; => - Missing field `n`
 #[derive(FromMeta)] struct B { x: u8, #[darling(default)] y: u8 } #[derive(FromDeriveInput)] #[darling(attributes(my))] struct A { b: B, #[darling(flatten)] c: B } | #[my(b(x = 1), x = 2, y = 3)] struct S; => A {b: B {x: 1, y: 0}, c: B {x: 2, y: 3}}
 #[derive(FromMeta)] struct B { x: u8, #[darling(default)] y: u8 } #[derive(FromDeriveInput)] #[darling(attributes(my))] struct A { #[darling(multiple)] b: Vec<B> } | #[my(b(x = 1), b(y = 2))] struct S; => 15..23 Missing field `x` at b[1]
-#[derive(FromDeriveInput)] #[darling(attributes(my))] struct A { #[darling(with = meta::path_text)] s: String, #[darling(map = "text::trim")] t: String, #[darling(skip)] u: u8 } | #[my(s, t = " a ")] struct S; => A {s: "s", t: "a", u: 0}"##;
+#[derive(FromDeriveInput)] #[darling(attributes(my))] struct A { #[darling(with = meta::path_text)] s: String, #[darling(map = "text::trim")] t: String, #[darling(skip)] u: u8 } | #[my(s, t = " a ")] struct S; => A {s: "s", t: "a", u: 0}
+#[derive(FromDeriveInput)] #[darling(attributes(my), default)] struct r#A { r#type: u8, m: u8 } | #[my(m = 1)] struct S; => r#A {r#type: 0, m: 1}"##;
 
 #[test]
 fn items_that_are_read(rt: HostRuntime) -> Tested<()> {

@@ -90,14 +90,18 @@ struct Later { it: u8 }
 struct Pair(u8, u8);
 struct Nothing;
 enum Mode { Fast }
-union Both { a: u8 }";
+union Both { a: u8 }
+struct r#Raw { r#type: u8 }";
 
 // Types, and their defaults among the declarations.
 const DEFAULTS: &str = r#"Empty => Empty { }
 Limits => Limits { min: 0 max: none }
 All => All { a: false b: '\0' c: "" d: list of 0 e: none f: Override::Inherit g: map of 0 h: () i: list of 0 }
 Nested => Nested { one: Limits { min: 0 max: none } two: Limits { min: 0 max: none } three: SpannedValue { value: Empty { } span: call } }
-Later => Later { it: 0 }"#;
+Later => Later { it: 0 }
+r#Empty => Empty { }
+Raw => r#Raw { r#type: 0 }
+r#Raw => r#Raw { r#type: 0 }"#;
 
 // Types without a default of the host's.
 const NO_DEFAULTS: &str = "TagHeld
@@ -114,7 +118,6 @@ Tag
 String
 Box<Empty>
 Empty<u8>
-r#Empty
 a::Empty
 Unknown";
 

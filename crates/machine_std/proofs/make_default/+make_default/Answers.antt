@@ -1,4 +1,5 @@
 use Rattle.std.proofs.Common.{◌≡◌, ◌<◌, ◌-◌, ◌+◌, ◌∙◌, drop, IfOk, Option, subst, ap, sym, arith, option_map}
+use Rattle.tok_types.specs.Ident.{ident_text}
 use Rattle.machine_value.specs.declared.value.Value.{Value}
 use Rattle.machine_value.specs.declared.value.Value.TheVariants as value
 use Rattle.node_core.specs.declared.style.Style.TheVariants as style
@@ -33,13 +34,13 @@ pub struct_default-returns-in-None : goal.struct_default-returns-in-None
 unfolding row_of
 struct_default-returns-in-None t c =
     let here = type_default c.args.decls.now (default_below c.args.decls.now c.args.below) in
-    sym (ap (option_map (value.Struct c.args.ident.now.text style.Struct))
+    sym (ap (option_map (value.Struct (ident_text c.args.ident.now) style.Struct))
     (c.loop-field.invariant ∙ followed_by-none here c.loop-field.members c.args.fields.now c.loop-field.field-index c.field-item.result c.loop-field-test.true c.field-item.is (sym c.in-None.is ∙ c.in_ok-value.ensures)))
 
 pub struct_default-returns : goal.struct_default-returns
 struct_default-returns t c =
     let here = type_default c.args.decls.now (default_below c.args.decls.now c.args.below) in
-    let whole = ap (option_map (value.Struct c.args.ident.now.text style.Struct)) (c.loop-field.invariant ∙ followed_by-end here c.loop-field.members c.args.fields.now c.loop-field.field-index c.loop-field-test.false) in
+    let whole = ap (option_map (value.Struct (ident_text c.args.ident.now) style.Struct)) (c.loop-field.invariant ∙ followed_by-end here c.loop-field.members c.args.fields.now c.loop-field.field-index c.loop-field-test.false) in
     subst (λ (it : Option Value). IfOk c.struct_of.result (λ made. made ≡ it)) (sym whole) c.struct_of.ensures
 
 pub struct_default-loop-field-preserved : goal.struct_default-loop-field-preserved
