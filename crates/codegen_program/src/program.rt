@@ -5,7 +5,7 @@ use node_core::{DeriveInput, Generics, Ident, Items, Mem, Path, TryClone};
 use std::alloc::Global;
 
 /// The traits that a receiver derives.
-#[derive(Clone, Copy, PartialEq, Eq)]
+#[derive(Clone, Copy, Debug, PartialEq, Eq)]
 pub enum Derive {
     FromMeta,
     FromAttributes,

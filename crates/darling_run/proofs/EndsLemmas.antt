@@ -9,7 +9,7 @@ use Rattle.darling_run.specs.declared.tool.Ended.{Ended}
 use Rattle.darling_run.specs.Status.{refusal_text}
 use Rattle.darling_run.specs.Report.{report_text}
 use Rattle.darling_run.specs.Input.{IsRefused, IsRunnable}
-use Rattle.darling_run.specs.Ended.{limit, IsRun, Reading, Writing, WereRead, Causes, Reports, Answered, text_of, status_of, report_of, Wrote, WrotePrefix, IsWritten, in_full, in_part, not_at_all, EndsAs, Ends}
+use Rattle.darling_run.specs.Ended.{limit, IsRunCommand, Reading, Writing, WereRead, Causes, Reports, Answered, text_of, status_of, report_of, Wrote, WrotePrefix, IsWritten, in_full, in_part, not_at_all, EndsAs, Ends}
 use Rattle.darling_run.proofs.InputLemmas.{IfSome-at, IsRefused-unique, report_is_runnable, runnable_is_not_refused}
 
 -- a fact of the value of an option, from a fact of each value that it may have
@@ -27,52 +27,31 @@ module _ (host : HostSays) (words : List (List ℕ)) (reading : Reading) where
 
   -- why there is no report
   data Cause (status : Status) : Type 0 where
-    by_words : status ≡ Usage → ¬ IsRun words → Cause status
-    by_source : status ≡ ReadFault → HasRisen reading.faults reading.faults_after → Cause status
-    by_length : status ≡ TooLong → IfSome reading.left (λ told. limit < length told) → Cause status
-    by_bytes : (bytes : List ℕ) → WereRead reading bytes → IsRefused host bytes status → Cause status
+    by_words : status ≡ Usage → ¬ IsRunCommand words → Cause status
+    by_source : IsRunCommand words → status ≡ ReadFault → HasRisen reading.faults reading.faults_after → Cause status
+    by_length : IsRunCommand words → status ≡ TooLong → IfSome reading.left (λ told. limit < length told) → Cause status
+    by_bytes : IsRunCommand words → (bytes : List ℕ) → WereRead reading bytes → IsRefused host bytes status → Cause status
     by_memory : status ≡ NoMemory → Cause status
 
   cause_of : (status : Status) → Causes host words reading status → Cause status
   cause_of Usage is = by_words refl is
-  cause_of ReadFault is = by_source refl is.1
-  cause_of TooLong is = by_length refl is.1
+  cause_of ReadFault is = by_source is.0 refl is.1
+  cause_of TooLong is = by_length is.0 refl is.1
   cause_of NoMemory is = by_memory refl
-  cause_of (NotText at) is = by_bytes is.1.0 is.1.1 is.1.2
-  cause_of NoParts is = by_bytes is.1.0 is.1.1 is.1.2
-  cause_of (BadTable line) is = by_bytes is.1.0 is.1.1 is.1.2
-  cause_of (TooDeep number at) is = by_bytes is.1.0 is.1.1 is.1.2
-  cause_of (Syntax number at) is = by_bytes is.1.0 is.1.1 is.1.2
-  cause_of (Unbuilt span) is = by_bytes is.1.0 is.1.1 is.1.2
-  cause_of (DuplicateName span) is = by_bytes is.1.0 is.1.1 is.1.2
-  cause_of (Rejected it) is = by_bytes is.1.0 is.1.1 is.1.2
-  cause_of (Unsupported form span) is = by_bytes is.1.0 is.1.1 is.1.2
-  cause_of (UnknownType span) is = by_bytes is.1.0 is.1.1 is.1.2
-  cause_of (UnknownCallable span) is = by_bytes is.1.0 is.1.1 is.1.2
-  cause_of NoReceiver is = by_bytes is.1.0 is.1.1 is.1.2
+  cause_of (NotText at) is = by_bytes is.0 is.1.0 is.1.1 is.1.2
+  cause_of NoParts is = by_bytes is.0 is.1.0 is.1.1 is.1.2
+  cause_of (BadTable line) is = by_bytes is.0 is.1.0 is.1.1 is.1.2
+  cause_of (TooDeep number at) is = by_bytes is.0 is.1.0 is.1.1 is.1.2
+  cause_of (Syntax number at) is = by_bytes is.0 is.1.0 is.1.1 is.1.2
+  cause_of (Unbuilt span) is = by_bytes is.0 is.1.0 is.1.1 is.1.2
+  cause_of (DuplicateName span) is = by_bytes is.0 is.1.0 is.1.1 is.1.2
+  cause_of (Rejected it) is = by_bytes is.0 is.1.0 is.1.1 is.1.2
+  cause_of (Unsupported form span) is = by_bytes is.0 is.1.0 is.1.1 is.1.2
+  cause_of (UnknownType span) is = by_bytes is.0 is.1.0 is.1.1 is.1.2
+  cause_of (UnknownCallable span) is = by_bytes is.0 is.1.0 is.1.1 is.1.2
+  cause_of NoReceiver is = by_bytes is.0 is.1.0 is.1.1 is.1.2
   cause_of Done is = absurd is.1.2
   cause_of WriteFault is = absurd is.1.2
-
-  -- but for the words and memory, a cause needs the one command
-  is_run_by : (status : Status) → Causes host words reading status → (status ≡ Usage) ⊎ ((status ≡ NoMemory) ⊎ IsRun words)
-  is_run_by Usage is = inl refl
-  is_run_by NoMemory is = inr (inl refl)
-  is_run_by ReadFault is = inr (inr is.0)
-  is_run_by TooLong is = inr (inr is.0)
-  is_run_by (NotText at) is = inr (inr is.0)
-  is_run_by NoParts is = inr (inr is.0)
-  is_run_by (BadTable line) is = inr (inr is.0)
-  is_run_by (TooDeep number at) is = inr (inr is.0)
-  is_run_by (Syntax number at) is = inr (inr is.0)
-  is_run_by (Unbuilt span) is = inr (inr is.0)
-  is_run_by (DuplicateName span) is = inr (inr is.0)
-  is_run_by (Rejected it) is = inr (inr is.0)
-  is_run_by (Unsupported form span) is = inr (inr is.0)
-  is_run_by (UnknownType span) is = inr (inr is.0)
-  is_run_by (UnknownCallable span) is = inr (inr is.0)
-  is_run_by NoReceiver is = inr (inr is.0)
-  is_run_by Done is = inr (inr is.0)
-  is_run_by WriteFault is = inr (inr is.0)
 
   told_is_read : (told bytes : List ℕ) → reading.left ≡ Some told → WereRead reading bytes → told ≡ bytes
   told_is_read told bytes e read =
@@ -92,16 +71,19 @@ module _ (host : HostSays) (words : List (List ℕ)) (reading : Reading) where
   runnable_as told bytes e read r =
       let P : List ℕ → Type 0 = λ xs. IsRunnable host xs in subst P (told_is_read told bytes e read) r
 
-  usage_of : (answer : Result Report Status) → Answered host words reading answer → ¬ IsRun words → AnswersAs answer Usage
-  usage_of (Ok report) a words_differ = absurd (words_differ a.0)
-  usage_of (Err status) a words_differ = by_run (is_run_by status a)
-    where
-      by_run : (status ≡ Usage) ⊎ ((status ≡ NoMemory) ⊎ IsRun words) → AnswersAs (Err status) Usage
-      by_run (inl e) = inl e
-      by_run (inr (inl e)) = inr (inl e)
-      by_run (inr (inr run)) = absurd (words_differ run)
+  -- the words are another command
+  usage_by : (status : Status) → ¬ IsRunCommand words → Cause status → AnswersAs (Err status) Usage
+  usage_by status words_differ (by_words e other) = inl e
+  usage_by status words_differ (by_source also e risen) = absurd (words_differ also)
+  usage_by status words_differ (by_length also e is) = absurd (words_differ also)
+  usage_by status words_differ (by_bytes also bytes read r) = absurd (words_differ also)
+  usage_by status words_differ (by_memory e) = inr (inl e)
 
-  module _ (run : IsRun words) (told : List ℕ) (left : reading.left ≡ Some told) where
+  usage_of : (answer : Result Report Status) → Answered host words reading answer → ¬ IsRunCommand words → AnswersAs answer Usage
+  usage_of (Ok report) a words_differ = absurd (words_differ a.0)
+  usage_of (Err status) a words_differ = usage_by status words_differ (cause_of status a)
+
+  module _ (run : IsRunCommand words) (told : List ℕ) (left : reading.left ≡ Some told) where
     short : length told ≤ limit → IfSome reading.left (λ it. limit < length it) → ⊥
     short within long =
         let longer : limit < length told = IfSome-at reading.left told (λ it. limit < length it) left long in
@@ -109,9 +91,9 @@ module _ (host : HostSays) (words : List (List ℕ)) (reading : Reading) where
 
     too_long_by : (status : Status) → limit < length told → Cause status → AnswersAs (Err status) TooLong
     too_long_by status long (by_words e words_differ) = absurd (words_differ run)
-    too_long_by status long (by_source e risen) = inr (inr (e, risen))
-    too_long_by status long (by_length e is) = inl e
-    too_long_by status long (by_bytes bytes read r) = absurd (not_long told bytes left read long)
+    too_long_by status long (by_source also e risen) = inr (inr (e, risen))
+    too_long_by status long (by_length also e is) = inl e
+    too_long_by status long (by_bytes also bytes read r) = absurd (not_long told bytes left read long)
     too_long_by status long (by_memory e) = inr (inl e)
 
     too_long_of : (answer : Result Report Status) → Answered host words reading answer → limit < length told → AnswersAs answer TooLong
@@ -120,9 +102,9 @@ module _ (host : HostSays) (words : List (List ℕ)) (reading : Reading) where
 
     refuses_by : (status other : Status) → length told ≤ limit → IsRefused host told other → Cause status → AnswersAs (Err status) other
     refuses_by status other within r (by_words e words_differ) = absurd (words_differ run)
-    refuses_by status other within r (by_source e risen) = inr (inr (e, risen))
-    refuses_by status other within r (by_length e long) = absurd (short within long)
-    refuses_by status other within r (by_bytes bytes read is) = inl (IsRefused-unique host told status other (refused_as told bytes status left read is) r)
+    refuses_by status other within r (by_source also e risen) = inr (inr (e, risen))
+    refuses_by status other within r (by_length also e long) = absurd (short within long)
+    refuses_by status other within r (by_bytes also bytes read is) = inl (IsRefused-unique host told status other (refused_as told bytes status left read is) r)
     refuses_by status other within r (by_memory e) = inr (inl e)
 
     refuses_of : (answer : Result Report Status) → Answered host words reading answer → length told ≤ limit
@@ -134,9 +116,9 @@ module _ (host : HostSays) (words : List (List ℕ)) (reading : Reading) where
 
     complete_by : (status : Status) → length told ≤ limit → IsRunnable host told → Cause status → AnswersAs (Err status) Done
     complete_by status within is (by_words e words_differ) = absurd (words_differ run)
-    complete_by status within is (by_source e risen) = inr (inr (e, risen))
-    complete_by status within is (by_length e long) = absurd (short within long)
-    complete_by status within is (by_bytes bytes read r) = absurd (runnable_is_not_refused host bytes status (runnable_as told bytes left read is) r)
+    complete_by status within is (by_source also e risen) = inr (inr (e, risen))
+    complete_by status within is (by_length also e long) = absurd (short within long)
+    complete_by status within is (by_bytes also bytes read r) = absurd (runnable_is_not_refused host bytes status (runnable_as told bytes left read is) r)
     complete_by status within is (by_memory e) = inr (inl e)
 
     complete_of : (answer : Result Report Status) → Answered host words reading answer → length told ≤ limit → IsRunnable host told → AnswersAs answer Done

@@ -17,8 +17,8 @@ abbrev pub limit : ℕ
 limit = MAX_LEN
 
 -- the words are the one command
-abbrev pub IsRun : List (List ℕ) → Type 0
-IsRun words = words ≡ codes "run" ∷ []
+abbrev pub IsRunCommand : List (List ℕ) → Type 0
+IsRunCommand words = words ≡ codes "run" ∷ []
 
 -- a source before and after the run: what it told to be left, and its count of faults
 pub record Reading : Type 0 where
@@ -42,16 +42,16 @@ WereRead reading bytes =
 
 -- why a run with the host has no report: the words, the source, or the bytes that were read
 abbrev pub Causes : HostSays → List (List ℕ) → Reading → Status → Type 0
-Causes host words reading Usage = ¬ IsRun words
-Causes host words reading ReadFault = IsRun words × HasRisen reading.faults reading.faults_after
-Causes host words reading TooLong = IsRun words × IfSome reading.left (λ told. limit < length told)
+Causes host words reading Usage = ¬ IsRunCommand words
+Causes host words reading ReadFault = IsRunCommand words × HasRisen reading.faults reading.faults_after
+Causes host words reading TooLong = IsRunCommand words × IfSome reading.left (λ told. limit < length told)
 Causes host words reading NoMemory = Unit {0}
-Causes host words reading status = IsRun words × ((bytes : List ℕ) × WereRead reading bytes × IsRefused host bytes status)
+Causes host words reading status = IsRunCommand words × ((bytes : List ℕ) × WereRead reading bytes × IsRefused host bytes status)
 
 -- the bytes that were read have this report
 abbrev pub Reports : HostSays → List (List ℕ) → Reading → Report → Type 0
 Reports host words reading report =
-    IsRun words × ((bytes : List ℕ) × WereRead reading bytes × IsReport host bytes report)
+    IsRunCommand words × ((bytes : List ℕ) × WereRead reading bytes × IsReport host bytes report)
 
 -- a report, or why there is none
 abbrev pub Answered : HostSays → List (List ℕ) → Reading → Result Report Status → Type 0
@@ -107,7 +107,7 @@ pub record Ends (host : HostSays) (words : List (List ℕ)) (reading : Reading) 
   -- memory runs out before anything is written
   pub no_memory : ended.status ≡ NoMemory → (ended.report ≡ None) × (writing.taken_after ≡ writing.taken)
   -- each cause is answered, in this order
-  pub usage : ¬ IsRun words → EndsAs reading writing ended Usage
-  pub too_long : IsRun words → IfSome reading.left (λ told. limit < length told → EndsAs reading writing ended TooLong)
-  pub refuses : IsRun words → IfSome reading.left (λ told. length told ≤ limit → (status : Status) → IsRefused host told status → EndsAs reading writing ended status)
-  pub complete : IsRun words → IfSome reading.left (λ told. length told ≤ limit → IsRunnable host told → EndsAs reading writing ended Done)
+  pub usage : ¬ IsRunCommand words → EndsAs reading writing ended Usage
+  pub too_long : IsRunCommand words → IfSome reading.left (λ told. limit < length told → EndsAs reading writing ended TooLong)
+  pub refuses : IsRunCommand words → IfSome reading.left (λ told. length told ≤ limit → (status : Status) → IsRefused host told status → EndsAs reading writing ended status)
+  pub complete : IsRunCommand words → IfSome reading.left (λ told. length told ≤ limit → IsRunnable host told → EndsAs reading writing ended Done)

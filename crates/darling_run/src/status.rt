@@ -8,7 +8,7 @@ use run_source::{Form, Mem, Rejected, RunError, Span};
 use std::alloc::{AllocError, Global};
 
 /// How a run ended. Where several refusals would fit, the first of this list that does is named.
-#[derive(Drop)]
+#[derive(Debug, Drop)]
 pub enum Status {
     /// The report was written.
     Done,

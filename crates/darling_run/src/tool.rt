@@ -32,7 +32,7 @@ impl TryClone for Ended {
     }
 }
 
-ghost use Rattle.darling_run.specs.Ended.{IsRun, Answered, IsWritten, Ends, text_of, status_of, report_of};
+ghost use Rattle.darling_run.specs.Ended.{IsRunCommand, Answered, IsWritten, Ends, text_of, status_of, report_of};
 ghost use Rattle.darling_run.specs.declared.status.Status.TheVariants.{NoMemory};
 
 /// Runs the tool: reads the source to its end, runs the last declaration's parser over each item with the functions of the
@@ -98,7 +98,7 @@ fn answer<S: Source, H: Host>(
 }
 
 fn is_run(words: &[String]) -> bool
-    ensures { IsTrue result ↔ IsRun (map string_bytes words.now) }
+    ensures { IsTrue result ↔ IsRunCommand (map string_bytes words.now) }
 {
     match words {
         [word] => is_text(word, "run"),

@@ -4,7 +4,7 @@ use Rattle.tok_types.specs.declared.span.Span.{Span}
 use Rattle.node_core.specs.declared.derive.DeriveInput.{DeriveInput}
 use Rattle.codegen_program.specs.declared.program.Program.{Program}
 use Rattle.machine_host.specs.HostSays.{HostSays}
-use Rattle.machine_forms.specs.Names as names
+use Rattle.machine_forms.specs.Names.{repeated_names}
 use Rattle.machine_forms.specs.Places.{earliest}
 use Rattle.machine_forms.specs.Refusals.{first_in_text}
 use Rattle.machine_forms.specs.declared.unfit.Unfit.{Unfit}
@@ -23,10 +23,6 @@ use Rattle.run_accepted.specs.declared.error.RunError.TheVariants as error
 -- where a declaration names a derive again
 abbrev pub derives_named_again : DeriveInput → List Span
 derives_named_again decl = repeated_derives (derives_of decl.attrs)
-
--- where declarations, or the fields or variants of one body, have a name that stands before
-abbrev pub repeated_names : List DeriveInput → List Span
-repeated_names decls = names.repeated_names decls
 
 -- the first place in the text where a name or a derive stands twice
 abbrev pub duplicate : List DeriveInput → Option Span

@@ -1,8 +1,9 @@
 //! Which declarations can be run with a host.
 
-ghost use Rattle.std.specs.Prelude.{◌≡◌, ◌<◌, ◌^◌, ◌++◌, flat_map, length, IfOk, OnOk};
+ghost use Rattle.std.specs.Prelude.{◌≡◌, ◌<◌, ◌^◌, ◌++◌, length, IfOk, OnOk};
 ghost use Rattle.std.specs.List.{All};
 ghost use Rattle.run_compile.specs.Unbuilt.{IsBuilt};
+ghost use Rattle.machine_forms.specs.Names as names;
 ghost use Rattle.run_accepted.specs.Accepted as spec;
 
 use crate::error::RunError;
@@ -81,7 +82,7 @@ fn push_derives(alloc: Global, decl: &DeriveInput, spans: &mut Items<Span>) -> M
 
 /// Adds the places where declarations, fields and variants have a name that stands before.
 fn push_names(alloc: Global, decls: &[DeriveInput], spans: &mut Items<Span>) -> Mem<()>
-    ensures { OnOk result (spans.new ≡ spans.old ++ spec.repeated_names decls.now) }
+    ensures { OnOk result (spans.new ≡ spans.old ++ names.repeated_names decls.now) }
 {
     let repeated = repeated_names(alloc, decls)?;
     push_all(repeated.as_slice(), spans)

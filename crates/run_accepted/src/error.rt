@@ -10,7 +10,7 @@ use std::alloc::{AllocError, AllocFailed, Global};
 
 /// Why texts can't be run. Where several of these would fit, the first of this list that does is named, at its first place
 /// in the text.
-#[derive(Drop)]
+#[derive(Debug, Drop)]
 pub enum RunError {
     /// More than 128 delimiters are open at byte `at` of the part, counted from 1.
     TooDeep { part: u32, at: u32 },

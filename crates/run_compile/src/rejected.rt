@@ -8,6 +8,7 @@ use node_core::Ident;
 use std::alloc::{AllocError, AllocFailed, Global};
 
 /// A declaration whose options have faults under a derive.
+#[derive(Debug)]
 pub struct Rejected {
     pub decl: Ident,
     pub derive: Derive,
@@ -36,7 +37,7 @@ impl Drop for Rejected {
 }
 
 /// Why declarations compile to no program.
-#[derive(Drop)]
+#[derive(Debug, Drop)]
 pub enum CompileFail {
     /// The first declaration and derive whose options have faults.
     Rejected(Rejected),

@@ -1,24 +1,18 @@
 -- What a text is read to: items, or where it is refused.
 use Rattle.std.specs.Prelude.{◌≡◌, ℕ, ◌⊎◌, List, drop, chars, Some, None}
-use Rattle.tok_types.specs.declared.span.Span.{Span}
-use Rattle.tok_types.specs.declared.span.Span.TheVariants.{CallSite, At}
 use Rattle.tok_types.specs.declared.tree.TokenStream.{TokenStream, out-TokenStream}
 use Rattle.tok_types.specs.declared.tree.TokenTree.{TokenTree}
 use Rattle.tok_core.specs.Spells.{Spells}
 use Rattle.tok_core.specs.Endings.{EndsAt, IsWithin, deep, wrong}
 use Rattle.syn_grammar.specs.Input.{first_span}
 use Rattle.syn_items.specs.Trees.{IsItemFront, items_of}
+use Rattle.run_accepted.specs.Places.{start_of}
 use Rattle.run_source.specs.declared.part.Part.{Part}
 use Rattle.run_source.specs.declared.part.Part.TheVariants as part
 
 -- the text, which has the number `source`, spells these tokens, and they keep the limit
 abbrev pub HasTokens : ℕ → List ℕ → TokenStream → Type 0
 HasTokens source text tokens = Spells source (chars text) tokens × IsWithin tokens
-
--- the byte at which a span starts
-abbrev pub start_of : Span → ℕ
-start_of CallSite = 0
-start_of (At source start end) = start
 
 -- the byte at which the first of the tokens starts
 abbrev pub start_at : List TokenTree → ℕ

@@ -1,6 +1,7 @@
 //! A text as a list of items.
 
 ghost use Rattle.std.specs.Prelude.{◌≡◌, ◌≤◌, length, IfOk, Some};
+ghost use Rattle.run_accepted.specs.Places as places;
 ghost use Rattle.run_source.specs.Parts as spec;
 ghost use Rattle.run_source.specs.Source as source;
 
@@ -107,7 +108,7 @@ fn start_of(trees: &[TokenTree]) -> u32
 }
 
 fn start(span: Span) -> u32
-    ensures { result ≡ spec.start_of span }
+    ensures { result ≡ places.start_of span }
 {
     match span {
         Span::CallSite => 0,
