@@ -1,0 +1,140 @@
+-- What is accepted can be run, as options leave it.
+use Rattle.std.proofs.Common.{◌≡◌, ◌∙◌, ℕ, Bool, true, List, [], ◌∷◌, map, Option, Some, None, option_map, slice_get, IsTrue, All, refl, sym, ap, subst}
+use Rattle.std.specs.List.{AllByRecursion}
+use Rattle.std.proofs.lemmas.List.Elements.{recursion_from_All}
+use Rattle.std.proofs.lemmas.Option.{slice_get-map}
+use Rattle.tok_types.specs.declared.span.Span.{Span}
+use Rattle.node_core.specs.declared.derive.DeriveInput.{DeriveInput}
+use Rattle.codegen_core.specs.Compiled.{compiled_meta}
+use Rattle.codegen_program.specs.declared.program.Derive.TheVariants as derive
+use Rattle.codegen_program.specs.declared.program.Program.{Program}
+use Rattle.run_accepted.specs.HostSays.{HostSays}
+use Rattle.law_asks.specs.Decls.{member_name}
+use Rattle.law_asks.specs.Made.{named_type}
+use Rattle.run_accepted.specs.Places.{earliest, earliest_of}
+use Rattle.law_asks.specs.Refusals.{first_in_text, first_row}
+use Rattle.run_accepted.specs.Units.{is_receiver}
+use Rattle.law_asks.specs.FormsRefusals.{Refusals}
+use Rattle.law_asks.specs.Unsupported.{Unsupported}
+use Rattle.run_accepted.specs.Unfitness.{refusals}
+use Rattle.law_asks.specs.Decl.{Decl}
+use Rattle.law_options.specs.Machine.{unit_type}
+use Rattle.run_compile.specs.Attributes.{without_attributes}
+use Rattle.run_compile.specs.Members.{fields_of}
+use Rattle.run_compile.specs.Stages.{meta_reader, options_of}
+use Rattle.run_compile.specs.Unbuilt.{IsBuilt, has_named_fields}
+use Rattle.run_compile.specs.Values.{Rules}
+use Rattle.run_compile.proofs.BuiltLemmas.{named}
+use Rattle.run_accepted.specs.Accepted.{IsAccepted}
+use Rattle.run_accepted.proofs.PlaceLemmas.{none_first}
+use Rattle.law_options.specs.Meant.{meant_items}
+use Rattle.law_options.specs.Texts.{input_decl, item_decls}
+use Rattle.law_options.proofs.Declared.{input_options_are, item_options_are}
+use Rattle.law_options.proofs.Idents.{no_ident}
+use Rattle.law_asks.specs.Compiles.{IsInputUnit}
+use Rattle.law_asks.specs.FitsClaims.{AreSound, has_names}
+use Rattle.law_asks.specs.Sound.{AreNamed, Differ, IsSound}
+use Rattle.law_asks.specs.Asked.{IsMet, IsOf}
+use Rattle.law_accepted.specs.Claims.{AcceptedIsSound, HasTextFields, IsTextField}
+use Rattle.law_asks.proofs.Asks.{input_is_met, items_are_met}
+use Rattle.law_accepted.proofs.Lists.{at_place, two_at}
+use Rattle.law_accepted.proofs.Names.{members_differ, names_are}
+use Rattle.law_accepted.proofs.Options.{input_is, items_are}
+use Rattle.law_accepted.proofs.Pairs.{input_made, item_made}
+
+-- where no row is first, no type and no callable is unknown
+no_rows : (name : Option Span) (form : Option Unsupported) (type callable : Option Span) (has_receiver : Bool)
+    → first_row name form type callable has_receiver ≡ None → (type ≡ None) × (callable ≡ None)
+no_rows (Some name) form type callable has_receiver none = absurd cc
+no_rows None (Some it) type callable has_receiver none = absurd cc
+no_rows None None (Some type) callable has_receiver none = absurd cc
+no_rows None None None (Some callable) has_receiver none = absurd cc
+no_rows None None None None has_receiver none = (refl, refl)
+
+none_unknown : (it : Refusals) → first_in_text it ≡ None → (it.unknown_types ≡ []) × (it.unknown_callables ≡ [])
+none_unknown it none =
+    let both =
+    no_rows (earliest it.duplicate_names) (earliest_of (λ (it : Unsupported). it.span) it.unsupported) (earliest it.unknown_types) (earliest it.unknown_callables) it.has_receiver none in
+    (none_first (λ (span : Span). span) it.unknown_types both.0, none_first (λ (span : Span). span) it.unknown_callables both.1)
+
+-- what is of a declaration of the program, and met there, can be run
+sound_by : (host : HostSays) (program : Program) (declared : DeriveInput) (decl : Decl) (reads : Bool) → slice_get program.decls decl.number ≡ Some declared → IsOf declared decl
+    → IsMet host program decl reads → IsSound host program decl reads
+sound_by host program declared decl reads stands is met =
+    record {
+      declared = declared;
+      is_declared = stands;
+      named = is.named;
+      is_struct = is.is_struct;
+      name = is.name;
+      type = is.type;
+      members = is.members;
+      fields = met.fields;
+      differ = is.differ;
+      default = met.default;
+      transform = met.transform;
+    }
+
+module _ (host : HostSays) (rules : Rules) (decls : List DeriveInput) (program : Program) (built : All IsBuilt decls) (idents : All HasTextFields decls)
+    (is : IsAccepted host rules decls program) where
+  known : ((refusals host program).unknown_types ≡ []) × ((refusals host program).unknown_callables ≡ [])
+  known = none_unknown (refusals host program) is.fits
+
+  bare_at : (number : ℕ) (decl : DeriveInput) → slice_get decls number ≡ Some decl → slice_get program.decls number ≡ Some (without_attributes decl)
+  bare_at number decl stands =
+      ap (λ bare. slice_get bare number) is.sound.compiled.bare ∙ slice_get-map without_attributes decls number ∙ ap (option_map without_attributes) stands
+
+  module _ (number : ℕ) (decl : DeriveInput) (stands : slice_get decls number ≡ Some decl) where
+    is_named : has_named_fields decl.body ≡ true
+    is_named = named decl (at_place IsBuilt decls number decl built stands)
+
+    have_idents : AllByRecursion IsTextField (fields_of decl.body)
+    have_idents = recursion_from_All IsTextField (fields_of decl.body) (at_place HasTextFields decls number decl idents stands)
+
+    names_differ : Differ (map member_name (fields_of decl.body))
+    names_differ = members_differ decls is.sound.single number decl stands is_named have_idents
+
+  -- items are read as a declaration that can be run
+  items_sound : AreSound host program (item_decls rules decls)
+  items_sound number it found =
+      let (made, same) = item_made rules decls program.units is.sound.options is.sound.compiled.units number it found in
+      let decl = made.decl in
+      let meant = meant_items number (derive.FromMeta ∷ []) (options_of (meta_reader rules decl) decl) in
+      let bare = bare_at number decl made.stands in
+      let whole = items_are rules number decl (is_named number decl made.stands) (have_idents number decl made.stands) (names_differ number decl made.stands) made.faultless in
+      let (left, left_is, compiled) = made.made in
+      let met =
+      items_are_met host program made.unit meant (without_attributes decl) left made.among made.numbered (compiled ∙ ap (compiled_meta left) (sym made.numbered))
+      (item_options_are rules decl left number (derive.FromMeta ∷ []) left_is) known.0 known.1 bare whole in
+      let P : Decl → Type 0 = λ some. (some.number ≡ number) × IsSound host program some true in
+      subst P (sym same) (refl, sound_by host program (without_attributes decl) meant true bare whole met)
+
+  -- items of a text are read as a declaration that can be run
+  input_sound : (number : ℕ) (decl : DeriveInput) → slice_get decls number ≡ Some decl → IsTrue (is_receiver program.units number)
+      → IsSound host program (input_decl rules number decl) (has_names (input_decl rules number decl).attributes)
+  input_sound number decl stands receives =
+      let made = input_made rules decls program.units is.sound.options is.sound.compiled.units number receives in
+      let own = made.decl in
+      let meant = input_decl rules number own in
+      let bare = bare_at number own made.stands in
+      let whole = input_is rules number own (is_named number own made.stands) (have_idents number own made.stands) (names_differ number own made.stands) made.faultless in
+      let (left, left_is, compiled) = made.made in
+      let unit_is : IsInputUnit made.unit meant = (
+        left,
+        compiled,
+        input_options_are rules own left number (derive.FromDeriveInput ∷ []) left_is (left_is.ident ∙ no_ident rules own (at_place IsBuilt decls number own built made.stands)),
+        ap unit_type compiled ∙ ap (λ ident. named_type ident.text) left_is.base.ident,
+      ) in
+      let met =
+      input_is_met host program made.unit meant (without_attributes own) made.among made.numbered unit_is known.0 known.1 bare whole in
+      let P : DeriveInput → Type 0 = λ some. IsSound host program (input_decl rules number some) (has_names (input_decl rules number some).attributes) in
+      subst P (two_at decls number own decl made.stands stands) (sound_by host program (without_attributes own) meant (has_names meant.attributes) bare whole met)
+
+  all_sound : AreNamed program.decls
+      × AreSound host program (item_decls rules decls)
+      × ((number : ℕ) (decl : DeriveInput) → slice_get decls number ≡ Some decl → IsTrue (is_receiver program.units number)
+      → IsSound host program (input_decl rules number decl) (has_names (input_decl rules number decl).attributes))
+  all_sound = (subst AreNamed (sym is.sound.compiled.bare) (names_are decls is.sound.single), items_sound, input_sound)
+
+pub accepted_is_sound : AcceptedIsSound
+accepted_is_sound host rules decls program built idents is = all_sound host rules decls program built idents is

@@ -1,0 +1,88 @@
+-- Lists: things at places, the first that passes a test, and lists whose things stand in a relation one by one.
+use Rattle.std.proofs.Common.{◌≡◌, ◌∙◌, ◌+◌, ◌||◌, ℕ, zero, suc, Bool, true, false, cond, not, nat_lt, List, [], ◌∷◌, flat_map, length, take, position, slice_get, Some, None, All, Contains, refl, sym, ap, ap₂, subst, arith}
+use Rattle.std.specs.List.{AllByRecursion, AllZip, list_any, position_or_len}
+use Rattle.std.proofs.lemmas.Bool.{cond-false, cond-true, not_from_false, not_from_true, or_from, or_parts}
+use Rattle.std.proofs.lemmas.Bool.Decides.{Decides-ltb}
+use Rattle.std.proofs.lemmas.Option.{get_or_from_slice_get, none-some, same_Some, slice_get_within}
+use mathlib.Core.List.{append-eq-nil_iff}
+use Rattle.run_accepted.specs.Places.{places_from}
+
+module _ {A : Type 0} where
+  -- what holds of each thing holds of the one at a place
+  pub at_place : (P : A → Type 0) (things : List A) (place : ℕ) (thing : A) → All P things → slice_get things place ≡ Some thing → P thing
+  at_place P things place thing all stands =
+      subst P (get_or_from_slice_get things place thing thing stands) (all place thing (slice_get_within things place thing stands))
+
+  pub contained : (things : List A) (place : ℕ) (thing : A) → slice_get things place ≡ Some thing → Contains things thing
+  contained things place thing stands = (place, slice_get_within things place thing stands, get_or_from_slice_get things place thing thing stands)
+
+  pub two_at : (things : List A) (place : ℕ) (one other : A) → slice_get things place ≡ Some one → slice_get things place ≡ Some other → one ≡ other
+  two_at things place one other is also = same_Some one other (sym is ∙ also)
+
+-- where no thing has a place in the text, the one of this number has none
+module _ {A B : Type 0} (places_of : ℕ → A → List B) where
+  pub none_at : (at : ℕ) (things : List A) → places_from places_of at things ≡ [] → (place number : ℕ) (thing : A) → number ≡ at + place
+      → slice_get things place ≡ Some thing → places_of number thing ≡ []
+  none_at at [] none place number thing is stands = absurd (none-some thing stands)
+  none_at at (first ∷ things) none zero number thing is stands =
+      let both = (append-eq-nil_iff {p = places_of at first} {q = places_from places_of (at + 1) things}).0 none in
+      let same : number ≡ at = omega (arith, is) in
+      ap₂ places_of same (sym (same_Some first thing stands)) ∙ both.0
+  none_at at (first ∷ things) none (suc place) number thing is stands =
+      let both = (append-eq-nil_iff {p = places_of at first} {q = places_from places_of (at + 1) things}).0 none in
+      let next : number ≡ at + 1 + place = omega (arith, is) in
+      none_at (at + 1) things both.1 place number thing next stands
+
+module _ {A B : Type 0} (made : A → List B) where
+  -- where nothing is made of things, nothing is made of any
+  pub none_made : (things : List A) → flat_map made things ≡ [] → AllByRecursion (λ thing. made thing ≡ []) things
+  none_made [] none = tt
+  none_made (thing ∷ things) none =
+      let both = (append-eq-nil_iff {p = made thing} {q = flat_map made things}).0 none in
+      (both.0, none_made things both.1)
+
+module _ {A : Type 0} (test : A → Bool) where
+  prefix_is : (things : List A) (place : ℕ) (thing : A) → slice_get things place ≡ Some thing → test thing ≡ true
+      → list_any test (take place things) ≡ false → position_or_len test things ≡ place
+  prefix_is [] place thing stands passes none = absurd (none-some thing stands)
+  prefix_is (first ∷ things) zero thing stands passes none =
+      cond-false (not (test first)) (1 + position_or_len test things) 0 (not_from_true (test first) (ap test (same_Some first thing stands) ∙ passes))
+  prefix_is (first ∷ things) (suc place) thing stands passes none =
+      let both = or_parts (test first) (list_any test (take place things)) none in
+      let rest : position_or_len test things ≡ place = prefix_is things place thing stands passes both.1 in
+      let more : 1 + position_or_len test things ≡ suc place = omega (arith, rest) in
+      cond-true (not (test first)) (1 + position_or_len test things) 0 (not_from_false (test first) both.0) ∙ more
+
+  -- the first that passes stands at the place before which none passes
+  pub first_at : (things : List A) (place : ℕ) (thing : A) → slice_get things place ≡ Some thing → test thing ≡ true
+      → list_any test (take place things) ≡ false → position test things ≡ Some place
+  first_at things place thing stands passes none =
+      let within : nat_lt place (length things) ≡ true = (Decides-ltb place (length things)).1 (slice_get_within things place thing stands) in
+      ap (λ n. cond (nat_lt n (length things)) (Some n) None) (prefix_is things place thing stands passes none)
+      ∙ cond-true (nat_lt place (length things)) (Some place) None within
+
+  -- where none at any place passes, none does
+  pub none_passes : (things : List A) → ((place : ℕ) (thing : A) → slice_get things place ≡ Some thing → test thing ≡ false) → list_any test things ≡ false
+  none_passes [] fails = refl
+  none_passes (first ∷ things) fails =
+      or_from (test first) (list_any test things) (fails zero first refl) (none_passes things (λ place thing stands. fails (suc place) thing stands))
+
+  at_first : (first : A) (things : List A) (passes : Bool) → test first ≡ passes → (passes || list_any test things) ≡ true
+      → (list_any test things ≡ true → (place : ℕ) × (thing : A) × (slice_get things place ≡ Some thing) × (test thing ≡ true))
+      → (place : ℕ) × (thing : A) × (slice_get (first ∷ things) place ≡ Some thing) × (test thing ≡ true)
+  at_first first things true is some rest = (zero, first, refl, is)
+  at_first first things false is some rest = let (place, thing, stands, passes) = rest some in (suc place, thing, stands, passes)
+
+  -- where one passes, it stands at a place
+  pub passes_at : (things : List A) → list_any test things ≡ true → (place : ℕ) × (thing : A) × (slice_get things place ≡ Some thing) × (test thing ≡ true)
+  passes_at [] some = absurd cc
+  passes_at (first ∷ things) some = at_first first things (test first) refl some (passes_at things)
+
+module _ {A B : Type 0} (R : A → B → Type 0) where
+  -- at the place of a thing stands one of the other list
+  pub opposite : (xs : List A) (ys : List B) (place : ℕ) (y : B) → AllZip R xs ys → slice_get ys place ≡ Some y → (x : A) × (slice_get xs place ≡ Some x) × R x y
+  opposite [] [] place y zip stands = absurd (none-some y stands)
+  opposite [] (other ∷ ys) place y zip stands = absurd zip
+  opposite (x ∷ xs) [] place y zip stands = absurd zip
+  opposite (x ∷ xs) (other ∷ ys) zero y zip stands = (x, refl, subst (R x) (same_Some other y stands) zip.0)
+  opposite (x ∷ xs) (other ∷ ys) (suc place) y zip stands = opposite xs ys place y zip.1 stands

@@ -1,0 +1,40 @@
+-- A value of what an item means under accepted declarations fits the last of them.
+use Rattle.std.proofs.Common.{◌≡◌, ◌∙◌, ◌-◌, List, length, nat_lt, IsTrue, ap, subst}
+use Rattle.std.proofs.lemmas.Bool.{and_parts}
+use Rattle.std.proofs.lemmas.List.{length-map}
+use Rattle.node_core.specs.declared.derive.DeriveInput.{DeriveInput}
+use Rattle.codegen_program.specs.declared.program.Program.{Program}
+use Rattle.law_asks.specs.Decls.{FitsAmong}
+use Rattle.run_accepted.specs.HostSays.{HostSays}
+use Rattle.law_asks.specs.Setting.{Setting}
+use Rattle.run_accepted.specs.Units.{is_receiver}
+use Rattle.run_accepted.specs.Unfitness.{refusals}
+use Rattle.law_asks.specs.Declarations.{declared_meaning}
+use Rattle.run_compile.specs.Attributes.{without_attributes}
+use Rattle.run_compile.specs.Values.{Rules}
+use Rattle.run_accepted.specs.Accepted.{IsAccepted}
+use Rattle.run_accepted.proofs.FitLemmas.{has_receiver}
+use Rattle.law_options.specs.Texts.{input_decl, item_decls}
+use Rattle.law_asks.specs.Reads.{OnValue}
+use Rattle.law_asks.proofs.Declared.{declared_fits}
+use Rattle.law_accepted.specs.Claims.{AcceptedFits}
+use Rattle.law_accepted.proofs.Accepted.{accepted_is_sound}
+
+-- the last of accepted declarations is one that items of a text are read as
+last_receives : (host : HostSays) (rules : Rules) (decls : List DeriveInput) (program : Program) → IsAccepted host rules decls program
+    → IsTrue (is_receiver program.units (length decls - 1))
+last_receives host rules decls program is =
+    let has = and_parts (nat_lt 0 (length program.decls)) (is_receiver program.units (length program.decls - 1)) (has_receiver (refusals host program) is.fits) in
+    let count : length program.decls ≡ length decls = ap length is.sound.compiled.bare ∙ length-map decls without_attributes in
+    subst (λ n. IsTrue (is_receiver program.units (n - 1))) count has.1
+
+pub accepted_fits : AcceptedFits
+accepted_fits host rules decls program last subject lawful built idents is stands =
+    let here = length decls - 1 in
+    let meant = input_decl rules here last in
+    let items = item_decls rules decls in
+    let (named, items_sound, inputs_sound) = accepted_is_sound host rules decls program built idents is in
+    let fits = declared_fits host program items meant subject lawful named items_sound (inputs_sound here last stands (last_receives host rules decls program is)) in
+    let P : List DeriveInput → Type 0 = λ bare.
+    OnValue (FitsAmong bare here) (let setting : Setting = record { host = host; decls = bare } in declared_meaning setting items meant subject) in
+    subst P is.sound.compiled.bare fits

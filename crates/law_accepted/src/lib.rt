@@ -1,0 +1,14 @@
+//! Laws of accepted declarations: they can be run, and a value of what an item means fits the last of them.
+#![tactic(auto)]
+
+ghost use Rattle.law_accepted.specs.Claims.{AcceptedFits, AcceptedIsSound};
+
+/// What is accepted can be run, as options leave it.
+pub fn what_is_accepted_can_be_run()
+    ensures { AcceptedIsSound }
+{}
+
+/// A value of what an item means fits the receiver, by the laws of the host.
+pub fn a_meant_value_fits_the_receiver()
+    ensures { AcceptedFits }
+{}

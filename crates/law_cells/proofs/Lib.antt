@@ -1,0 +1,15 @@
+pub mod Outcomes
+pub mod Forms
+pub mod Values
+pub mod Calls
+pub mod Plain
+pub mod Streams
+pub mod Printed
+pub mod Nodes
+pub mod Integers
+pub mod Lists
+pub mod Leaves
+pub mod Sorting
+pub mod Maps
+pub mod Wrappers
+pub use Rattle.machine_host.proofs.Fitting

@@ -1,0 +1,22 @@
+pub mod Reads
+pub use Rattle.machine_cells.specs.Defaults
+pub use Rattle.machine_cells.specs.Dispatch
+pub use Rattle.machine_cells.specs.RowCells
+pub use Rattle.machine_cells.specs.Values
+pub use Rattle.machine_host.specs.Decls
+pub use Rattle.machine_host.specs.Erased
+pub use Rattle.machine_host.specs.Fits
+pub use Rattle.machine_host.specs.Forms
+pub use Rattle.machine_host.specs.Integers
+pub use Rattle.machine_host.specs.ItemErased
+pub use Rattle.machine_host.specs.Lawful
+pub use Rattle.machine_host.specs.Leaves
+pub use Rattle.machine_host.specs.Made
+pub use Rattle.machine_host.specs.Nodes as HostNodes
+pub use Rattle.machine_host.specs.declared.place.Use
+pub use Rattle.machine_host.specs.declared.said.Said
+pub use Rattle.meta_nested.specs.Nested
+pub use Rattle.meta_nested.specs.Nodes
+pub use Rattle.meta_nested.specs.declared.nested.NestedMeta
+pub use Rattle.util_core.specs.Cells
+pub use Rattle.util_core.specs.declared.over_ride.Override

@@ -1,0 +1,30 @@
+-- What is claimed of declarations that can be run.
+use Rattle.std.specs.Prelude.{◌≡◌, ℕ, Bool, true, false, List, [], ◌∷◌, Some}
+use Rattle.base_core.specs.declared.text.Text.{Text}
+use Rattle.node_core.specs.declared.derive.DeriveInput.{DeriveInput}
+use Rattle.codegen_program.specs.declared.program.Program.{Program}
+use Rattle.law_cells.specs.Decls.{FitsAmong}
+use Rattle.machine_std.specs.HostSays.{HostSays}
+use Rattle.machine_std.specs.Lawful.{IsLawful}
+use Rattle.meaning_core.specs.Machine.{setting_of}
+use Rattle.meaning_core.specs.Decl.{Decl}
+use Rattle.meaning_core.specs.Declarations.{declared_meaning, meta_decl}
+use Rattle.law_cells.specs.Reads.{OnValue}
+use Rattle.law_fits.specs.Sound.{AreNamed, IsSound}
+
+-- each declaration that is read from items has its number and can be run
+abbrev pub AreSound : HostSays → Program → List Decl → Type 0
+AreSound host program decls = (number : ℕ) (it : Decl) → meta_decl decls number ≡ Some it → (it.number ≡ number) × IsSound host program it true
+
+-- there are names of attributes, whose items are read
+abbrev pub has_names : List Text → Bool
+has_names [] = false
+has_names (name ∷ names) = true
+
+-- What an item means under a declaration that can be run, by the laws of the host, is a value that fits the declaration, where
+-- it is a value.
+abbrev pub DeclaredFits : Type 0
+DeclaredFits =
+    (host : HostSays) (program : Program) (decls : List Decl) (decl : Decl) (subject : DeriveInput)
+    → IsLawful host → AreNamed program.decls → AreSound host program decls → IsSound host program decl (has_names decl.attributes)
+    → OnValue (FitsAmong program.decls decl.number) (declared_meaning (setting_of host program) decls decl subject)

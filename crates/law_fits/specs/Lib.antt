@@ -1,0 +1,17 @@
+pub mod Sound
+pub mod Earlier
+pub mod Claims
+pub use Rattle.law_cells.specs.Decls
+pub use Rattle.law_cells.specs.Lawful
+pub use Rattle.law_cells.specs.Made
+pub use Rattle.law_cells.specs.Reads
+pub use Rattle.machine_fit.specs.Callables
+pub use Rattle.machine_fit.specs.Fields
+pub use Rattle.machine_fit.specs.Fits
+pub use Rattle.machine_fit.specs.Types
+pub use Rattle.meaning_core.specs.Decl
+pub use Rattle.meaning_core.specs.Declarations
+pub use Rattle.meaning_core.specs.EntryFaults
+pub use Rattle.meaning_core.specs.EntrySteps
+pub use Rattle.meaning_core.specs.Reading
+pub use Rattle.meaning_core.specs.Setting
