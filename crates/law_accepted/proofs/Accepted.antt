@@ -1,9 +1,13 @@
 -- What is accepted can be run, as options leave it.
-use Rattle.std.proofs.Common.{◌≡◌, ◌∙◌, ℕ, Bool, true, List, [], ◌∷◌, map, Option, Some, None, option_map, slice_get, IsTrue, All, refl, sym, ap, subst}
+use Rattle.std.proofs.Common.{◌≡◌, ◌∙◌, ℕ, Bool, true, List, [], ◌∷◌, map, Some, None, option_map, slice_get, IsTrue, All, refl, sym, ap, subst}
 use Rattle.std.specs.List.{AllByRecursion}
 use Rattle.std.proofs.lemmas.List.Elements.{recursion_from_All}
 use Rattle.std.proofs.lemmas.Option.{slice_get-map}
 use Rattle.tok_types.specs.declared.span.Span.{Span}
+use Rattle.node_core.specs.declared.data.Fields.{Fields}
+use Rattle.node_core.specs.declared.data.Fields.TheVariants as fields
+use Rattle.node_core.specs.declared.data.«Data».{«Data»}
+use Rattle.node_core.specs.declared.data.«Data».TheVariants as body
 use Rattle.node_core.specs.declared.derive.DeriveInput.{DeriveInput}
 use Rattle.codegen_core.specs.Compiled.{compiled_meta}
 use Rattle.codegen_program.specs.declared.program.Derive.TheVariants as derive
@@ -12,7 +16,7 @@ use Rattle.run_accepted.specs.HostSays.{HostSays}
 use Rattle.law_asks.specs.Decls.{member_name}
 use Rattle.law_asks.specs.Made.{named_type}
 use Rattle.run_accepted.specs.Places.{earliest, earliest_of}
-use Rattle.law_asks.specs.Refusals.{first_in_text, first_row}
+use Rattle.law_asks.specs.Refusals.{first_in_text}
 use Rattle.run_accepted.specs.Units.{is_receiver}
 use Rattle.law_asks.specs.FormsRefusals.{Refusals}
 use Rattle.law_asks.specs.Unsupported.{Unsupported}
@@ -20,12 +24,14 @@ use Rattle.run_accepted.specs.Unfitness.{refusals}
 use Rattle.law_asks.specs.Decl.{Decl}
 use Rattle.law_options.specs.Machine.{unit_type}
 use Rattle.run_compile.specs.Attributes.{without_attributes}
-use Rattle.run_compile.specs.Members.{fields_of}
+use Rattle.run_compile.specs.Members.{fields_of, listed_fields}
 use Rattle.run_compile.specs.Stages.{meta_reader, options_of}
-use Rattle.run_compile.specs.Unbuilt.{IsBuilt, has_named_fields}
+use Rattle.run_compile.specs.Unbuilt.{IsBuilt, are_named, has_named_fields}
 use Rattle.run_compile.specs.Values.{Rules}
 use Rattle.run_compile.proofs.BuiltLemmas.{named}
 use Rattle.run_accepted.specs.Accepted.{IsAccepted}
+use Rattle.run_accepted.proofs.FitLemmas.{no_rows}
+use Rattle.run_accepted.proofs.ListLemmas.{at_place}
 use Rattle.run_accepted.proofs.PlaceLemmas.{none_first}
 use Rattle.law_options.specs.Meant.{meant_items}
 use Rattle.law_options.specs.Texts.{input_decl, item_decls}
@@ -35,27 +41,20 @@ use Rattle.law_asks.specs.Compiles.{IsInputUnit}
 use Rattle.law_asks.specs.FitsClaims.{AreSound, has_names}
 use Rattle.law_asks.specs.Sound.{AreNamed, Differ, IsSound}
 use Rattle.law_asks.specs.Asked.{IsMet, IsOf}
-use Rattle.law_accepted.specs.Claims.{AcceptedIsSound, HasTextFields, IsTextField}
+use Rattle.law_fields.specs.Fields.{AreTextFields, HasTextFields, IsTextBody, IsTextField}
+use Rattle.law_accepted.specs.Claims.{AcceptedIsSound}
 use Rattle.law_asks.proofs.Asks.{input_is_met, items_are_met}
-use Rattle.law_accepted.proofs.Lists.{at_place, two_at}
+use Rattle.law_accepted.proofs.Lists.{two_at}
 use Rattle.law_accepted.proofs.Names.{members_differ, names_are}
 use Rattle.law_accepted.proofs.Options.{input_is, items_are}
 use Rattle.law_accepted.proofs.Pairs.{input_made, item_made}
 
--- where no row is first, no type and no callable is unknown
-no_rows : (name : Option Span) (form : Option Unsupported) (type callable : Option Span) (has_receiver : Bool)
-    → first_row name form type callable has_receiver ≡ None → (type ≡ None) × (callable ≡ None)
-no_rows (Some name) form type callable has_receiver none = absurd cc
-no_rows None (Some it) type callable has_receiver none = absurd cc
-no_rows None None (Some type) callable has_receiver none = absurd cc
-no_rows None None None (Some callable) has_receiver none = absurd cc
-no_rows None None None None has_receiver none = (refl, refl)
-
+-- where nothing stands against a program, no type and no callable is unknown
 none_unknown : (it : Refusals) → first_in_text it ≡ None → (it.unknown_types ≡ []) × (it.unknown_callables ≡ [])
 none_unknown it none =
-    let both =
+    let rows =
     no_rows (earliest it.duplicate_names) (earliest_of (λ (it : Unsupported). it.span) it.unsupported) (earliest it.unknown_types) (earliest it.unknown_callables) it.has_receiver none in
-    (none_first (λ (span : Span). span) it.unknown_types both.0, none_first (λ (span : Span). span) it.unknown_callables both.1)
+    (none_first (λ (span : Span). span) it.unknown_types rows.2, none_first (λ (span : Span). span) it.unknown_callables rows.3)
 
 -- what is of a declaration of the program, and met there, can be run
 sound_by : (host : HostSays) (program : Program) (declared : DeriveInput) (decl : Decl) (reads : Bool) → slice_get program.decls decl.number ≡ Some declared → IsOf declared decl
@@ -75,6 +74,17 @@ sound_by host program declared decl reads stands is met =
       transform = met.transform;
     }
 
+-- fields in braces that a text declares
+listed_are : (it : Fields) → are_named it ≡ true → AreTextFields it → AllByRecursion IsTextField (listed_fields it)
+listed_are (fields.Named it) named have = recursion_from_All IsTextField it.named have
+listed_are (fields.Unnamed it) named have = absurd cc
+listed_are fields.Unit named have = absurd cc
+
+named_are : (it : «Data») → has_named_fields it ≡ true → IsTextBody it → AllByRecursion IsTextField (fields_of it)
+named_are (body.Struct it) named have = listed_are it.fields named have
+named_are (body.Enum it) named have = absurd cc
+named_are (body.Union it) named have = absurd cc
+
 module _ (host : HostSays) (rules : Rules) (decls : List DeriveInput) (program : Program) (built : All IsBuilt decls) (idents : All HasTextFields decls)
     (is : IsAccepted host rules decls program) where
   known : ((refusals host program).unknown_types ≡ []) × ((refusals host program).unknown_callables ≡ [])
@@ -89,7 +99,7 @@ module _ (host : HostSays) (rules : Rules) (decls : List DeriveInput) (program :
     is_named = named decl (at_place IsBuilt decls number decl built stands)
 
     have_idents : AllByRecursion IsTextField (fields_of decl.body)
-    have_idents = recursion_from_All IsTextField (fields_of decl.body) (at_place HasTextFields decls number decl idents stands)
+    have_idents = named_are decl.body is_named (at_place HasTextFields decls number decl idents stands)
 
     names_differ : Differ (map member_name (fields_of decl.body))
     names_differ = members_differ decls is.sound.single number decl stands is_named have_idents

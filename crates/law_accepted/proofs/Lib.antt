@@ -6,3 +6,4 @@ pub mod Options
 pub mod Pairs
 pub mod Accepted
 pub mod Receiver
+pub mod Report

@@ -1,6 +1,6 @@
--- Lists: things at places, the first that passes a test, and lists whose things stand in a relation one by one.
-use Rattle.std.proofs.Common.{◌≡◌, ◌∙◌, ◌+◌, ◌||◌, ℕ, zero, suc, Bool, true, false, cond, not, nat_lt, List, [], ◌∷◌, flat_map, length, take, position, slice_get, Some, None, All, Contains, refl, sym, ap, ap₂, subst, arith}
-use Rattle.std.specs.List.{AllByRecursion, AllZip, list_any, position_or_len}
+-- Lists: things at places, and the first that passes a test.
+use Rattle.std.proofs.Common.{◌≡◌, ◌∙◌, ◌+◌, ℕ, zero, suc, Bool, true, false, cond, not, nat_lt, List, [], ◌∷◌, flat_map, length, take, position, slice_get, Some, None, Contains, refl, sym, ap, ap₂, arith}
+use Rattle.std.specs.List.{AllByRecursion, list_any, position_or_len}
 use Rattle.std.proofs.lemmas.Bool.{cond-false, cond-true, not_from_false, not_from_true, or_from, or_parts}
 use Rattle.std.proofs.lemmas.Bool.Decides.{Decides-ltb}
 use Rattle.std.proofs.lemmas.Option.{get_or_from_slice_get, none-some, same_Some, slice_get_within}
@@ -8,11 +8,6 @@ use mathlib.Core.List.{append-eq-nil_iff}
 use Rattle.run_accepted.specs.Places.{places_from}
 
 module _ {A : Type 0} where
-  -- what holds of each thing holds of the one at a place
-  pub at_place : (P : A → Type 0) (things : List A) (place : ℕ) (thing : A) → All P things → slice_get things place ≡ Some thing → P thing
-  at_place P things place thing all stands =
-      subst P (get_or_from_slice_get things place thing thing stands) (all place thing (slice_get_within things place thing stands))
-
   pub contained : (things : List A) (place : ℕ) (thing : A) → slice_get things place ≡ Some thing → Contains things thing
   contained things place thing stands = (place, slice_get_within things place thing stands, get_or_from_slice_get things place thing thing stands)
 
@@ -66,23 +61,3 @@ module _ {A : Type 0} (test : A → Bool) where
   none_passes [] fails = refl
   none_passes (first ∷ things) fails =
       or_from (test first) (list_any test things) (fails zero first refl) (none_passes things (λ place thing stands. fails (suc place) thing stands))
-
-  at_first : (first : A) (things : List A) (passes : Bool) → test first ≡ passes → (passes || list_any test things) ≡ true
-      → (list_any test things ≡ true → (place : ℕ) × (thing : A) × (slice_get things place ≡ Some thing) × (test thing ≡ true))
-      → (place : ℕ) × (thing : A) × (slice_get (first ∷ things) place ≡ Some thing) × (test thing ≡ true)
-  at_first first things true is some rest = (zero, first, refl, is)
-  at_first first things false is some rest = let (place, thing, stands, passes) = rest some in (suc place, thing, stands, passes)
-
-  -- where one passes, it stands at a place
-  pub passes_at : (things : List A) → list_any test things ≡ true → (place : ℕ) × (thing : A) × (slice_get things place ≡ Some thing) × (test thing ≡ true)
-  passes_at [] some = absurd cc
-  passes_at (first ∷ things) some = at_first first things (test first) refl some (passes_at things)
-
-module _ {A B : Type 0} (R : A → B → Type 0) where
-  -- at the place of a thing stands one of the other list
-  pub opposite : (xs : List A) (ys : List B) (place : ℕ) (y : B) → AllZip R xs ys → slice_get ys place ≡ Some y → (x : A) × (slice_get xs place ≡ Some x) × R x y
-  opposite [] [] place y zip stands = absurd (none-some y stands)
-  opposite [] (other ∷ ys) place y zip stands = absurd zip
-  opposite (x ∷ xs) [] place y zip stands = absurd zip
-  opposite (x ∷ xs) (other ∷ ys) zero y zip stands = (x, refl, subst (R x) (same_Some other y stands) zip.0)
-  opposite (x ∷ xs) (other ∷ ys) (suc place) y zip stands = opposite xs ys place y zip.1 stands

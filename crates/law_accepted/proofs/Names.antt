@@ -31,7 +31,7 @@ use Rattle.run_accepted.specs.Accepted.{derives_named_again, duplicate}
 use Rattle.run_accepted.proofs.NameLemmas.{same_names}
 use Rattle.run_accepted.proofs.PlaceLemmas.{none_first}
 use Rattle.law_asks.specs.Sound.{AreNamed, Differ}
-use Rattle.law_accepted.specs.Claims.{IsTextField}
+use Rattle.law_fields.specs.Fields.{IsTextField}
 use Rattle.law_accepted.proofs.Lists.{first_at, none_at, none_passes}
 use Rattle.law_accepted.proofs.Rows.{named_row}
 use Rattle.law_accepted.proofs.Texts.{written_apart}

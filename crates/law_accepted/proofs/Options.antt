@@ -37,7 +37,7 @@ use Rattle.law_options.specs.Texts.{input_decl}
 use Rattle.law_asks.specs.Sound.{Differ, IsFieldOf, named_fields, named_of}
 use Rattle.law_asks.specs.Asked.{IsOf}
 use Rattle.law_accepted.proofs.Lists.{none_made}
-use Rattle.law_accepted.specs.Claims.{IsTextField}
+use Rattle.law_fields.specs.Fields.{IsTextField}
 
 -- ---- fields
 

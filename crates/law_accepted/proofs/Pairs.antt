@@ -1,9 +1,9 @@
 -- Declarations with their derives: those whose options have no faults, and the units that are made of them.
-use Rattle.std.proofs.Common.{◌≡◌, ◌∙◌, ◌+◌, ◌==◌, ◌&&◌, ℕ, zero, suc, Bool, true, false, List, [], ◌∷◌, flat_map, slice_get, Option, Some, None, if◌then◌else◌, IsTrue, All, Contains, refl, sym, ap, subst₂, arith, eqb-true}
+use Rattle.std.proofs.Common.{◌≡◌, ◌∙◌, ◌==◌, ◌&&◌, ℕ, zero, suc, Bool, true, false, List, [], ◌∷◌, flat_map, slice_get, Option, Some, None, if◌then◌else◌, IsTrue, All, Contains, refl, sym, subst₂, eqb-true}
 use Rattle.std.specs.List.{AllByRecursion, AllZip}
 use Rattle.std.specs.Option.{option_or}
 use Rattle.std.proofs.lemmas.Bool.{and_parts}
-use Rattle.std.proofs.lemmas.List.Elements.{All-append, All-from_recursion, All-map, All-nil}
+use Rattle.std.proofs.lemmas.List.Elements.{All-from_recursion}
 use Rattle.std.proofs.lemmas.Option.{none-some, same_Some}
 use Rattle.node_core.specs.declared.derive.DeriveInput.{DeriveInput}
 use Rattle.error_fault.specs.declared.fault.Fault.{Fault}
@@ -14,31 +14,18 @@ use Rattle.run_accepted.specs.Units.{is_input, is_of, is_receiver}
 use Rattle.law_asks.specs.Decl.{Decl}
 use Rattle.law_asks.specs.Declarations.{meta_decl}
 use Rattle.run_compile.specs.Compiled.{IsUnit, IsUnitUnder}
-use Rattle.run_compile.specs.Derives.{derives_of}
-use Rattle.run_compile.specs.Pairs.{Pair, faults_under, pair, pairs_from, pairs_of, rejected, rejected_with}
+use Rattle.run_compile.specs.Pairs.{Pair, faults_under, pair, pairs_from, rejected, rejected_with}
 use Rattle.run_compile.specs.Stages.{meta_reader, options_of}
 use Rattle.run_compile.specs.Values.{Rules}
 use Rattle.run_compile.specs.declared.rejected.Rejected.{Rejected}
 use Rattle.law_options.specs.Meant.{meant_items}
 use Rattle.law_options.specs.Texts.{item_decls, pair_decls}
-use Rattle.law_accepted.proofs.Lists.{at_place, contained, opposite, passes_at}
+use Rattle.run_accepted.proofs.ListLemmas.{at_place, opposite}
+use Rattle.run_accepted.proofs.UnitLemmas.{Stands, all_stand, derive_is, number_is}
+use Rattle.run_source.proofs.ReceiverLemmas.{first_passes}
+use Rattle.law_accepted.proofs.Lists.{contained}
 
 -- ---- pairs
-
--- the declaration of a pair stands at its number
-abbrev Stands : List DeriveInput → Pair → Type 0
-Stands decls it = slice_get decls it.number ≡ Some it.decl
-
-pairs_stand : (all : List DeriveInput) (number : ℕ) (decls : List DeriveInput)
-    → ((place at : ℕ) → at ≡ number + place → slice_get all at ≡ slice_get decls place) → All (Stands all) (pairs_from number decls)
-pairs_stand all number [] rest = All-nil (Stands all)
-pairs_stand all number (decl ∷ decls) rest =
-    All-append (Stands all) (pairs_of number decl) (pairs_from (suc number) decls)
-    (All-map (Stands all) (λ it. pair number decl it.derive) (derives_of decl.attrs) (λ k other lt. rest 0 number (omega arith)))
-    (pairs_stand all (suc number) decls (λ place at is. rest (suc place) at (omega arith)))
-
-all_stand : (decls : List DeriveInput) → All (Stands decls) (pairs_from 0 decls)
-all_stand decls = pairs_stand decls 0 decls (λ place at is. let same : at ≡ place = omega arith in ap (slice_get decls) same)
 
 -- nothing is wrong with the options of a pair
 abbrev IsFaultless : Rules → Pair → Type 0
@@ -81,23 +68,6 @@ record IsAt (rules : Rules) (pairs : List Pair) (units : List Unit') (More : Pai
   more : More it
 
 module _ (rules : Rules) where
-  -- a unit has the number of its pair
-  number_is : (number : ℕ) (decl : DeriveInput) (it : Derive) (unit : Unit') → IsUnitUnder rules number decl it unit → unit.decl ≡ number
-  number_is number decl derive.FromMeta unit (left, is, compiled) = ap (λ (it : Unit'). it.decl) compiled
-  number_is number decl derive.FromDeriveInput unit (left, is, compiled) = ap (λ (it : Unit'). it.decl) compiled
-  number_is number decl _ unit is = absurd is
-
-  -- a unit by which items of a text are read is made under `FromDeriveInput`
-  derive_is : (number : ℕ) (decl : DeriveInput) (it : Derive) (unit : Unit') → IsUnitUnder rules number decl it unit → is_input unit.derive ≡ true → it ≡ derive.FromDeriveInput
-  derive_is number decl derive.FromMeta unit (left, is, compiled) reads =
-      let not : is_input unit.derive ≡ false = ap (λ (it : Unit'). is_input it.derive) compiled in
-      cc
-  derive_is number decl derive.FromDeriveInput unit is reads = refl
-  derive_is number decl derive.FromAttributes unit is reads = absurd is
-  derive_is number decl derive.FromField unit is reads = absurd is
-  derive_is number decl derive.FromTypeParam unit is reads = absurd is
-  derive_is number decl derive.FromVariant unit is reads = absurd is
-
   later : (More : Pair → Type 0) (first : Pair) (unit : Unit') (pairs : List Pair) (units : List Unit') → IsAt rules pairs units More → IsAt rules (first ∷ pairs) (unit ∷ units) More
   later More first unit pairs units at =
       record { place = suc at.place; it = at.it; unit = at.unit; of_pair = at.of_pair; of_unit = at.of_unit; made = at.made; more = at.more }
@@ -160,7 +130,7 @@ module _ (rules : Rules) where
           faultless = at_place (IsFaultless rules) (pairs_from 0 decls) at.place it (all_faultless rules (pairs_from 0 decls) none) at.of_pair;
           unit = at.unit;
           among = contained units at.place at.unit at.of_unit;
-          numbered = number_is it.number it.decl it.derive at.unit at.made;
+          numbered = number_is rules it.number it.decl it.derive at.unit at.made;
           made = at.made;
         }
 
@@ -186,9 +156,9 @@ module _ (rules : Rules) where
     -- so has one that items of a text are read as
     pub input_made : (number : ℕ) → IsTrue (is_receiver units number) → IsMade rules decls units number derive.FromDeriveInput
     input_made number receives =
-        let (place, unit, of_unit, passes) = passes_at (λ (unit : Unit'). is_of number unit && is_input unit.derive) units receives in
+        let (place, unit, first, of_unit, passes) = first_passes (λ (unit : Unit'). is_of number unit && is_input unit.derive) units receives in
         let (it, of_pair, made) = opposite (IsUnit rules) (pairs_from 0 decls) units place unit zip of_unit in
         let parts = and_parts (is_of number unit) (is_input unit.derive) passes in
         let at = made_at (λ other. Unit {0}) (record { place = place; it = it; unit = unit; of_pair = of_pair; of_unit = of_unit; made = made; more = tt }) in
-        subst₂ (IsMade rules decls units) (sym (number_is it.number it.decl it.derive unit made) ∙ eqb-true unit.decl number parts.0)
-        (derive_is it.number it.decl it.derive unit made parts.1) at
+        subst₂ (IsMade rules decls units) (sym (number_is rules it.number it.decl it.derive unit made) ∙ eqb-true unit.decl number parts.0)
+        (derive_is rules it.number it.decl it.derive unit made parts.1) at

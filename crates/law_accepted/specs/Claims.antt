@@ -1,32 +1,22 @@
 -- What is claimed of accepted declarations.
-use Rattle.std.specs.Prelude.{◌≡◌, ◌≤◌, ◌-◌, ℕ, List, length, map, Some, All, IsSomeAnd, IsTrue, slice_get}
-use Rattle.tok_types.specs.Ident.{IsToken}
-use Rattle.node_core.specs.declared.data.Field.{Field}
+use Rattle.std.specs.Prelude.{◌≡◌, ◌-◌, ℕ, List, length, map, Some, All, IsTrue, slice_get}
 use Rattle.node_core.specs.declared.derive.DeriveInput.{DeriveInput}
-use Rattle.syn_grammar.specs.Depth.{type_depth}
-use Rattle.syn_grammar.specs.Grammar.{max_depth}
 use Rattle.codegen_program.specs.declared.program.Program.{Program}
 use Rattle.law_asks.specs.Decls.{FitsAmong}
 use Rattle.run_accepted.specs.HostSays.{HostSays}
 use Rattle.law_asks.specs.Lawful.{IsLawful}
 use Rattle.run_accepted.specs.Units.{is_receiver}
 use Rattle.run_compile.specs.Attributes.{without_attributes}
-use Rattle.run_compile.specs.Members.{fields_of}
 use Rattle.run_compile.specs.Unbuilt.{IsBuilt}
 use Rattle.run_compile.specs.Values.{Rules}
 use Rattle.law_options.specs.Texts.{input_decl, item_decls, text_meaning}
 use Rattle.run_accepted.specs.Accepted.{IsAccepted}
+use Rattle.run_source.specs.Source.{IsReport}
+use Rattle.run_source.specs.declared.report.Report.{Report}
+use Rattle.law_fields.specs.Fields.{HasTextFields}
 use Rattle.law_asks.specs.Reads.{OnValue}
 use Rattle.law_asks.specs.FitsClaims.{AreSound, has_names}
 use Rattle.law_asks.specs.Sound.{AreNamed, IsSound}
-
--- the field has a name, which is an identifier of some text, and a type that is no deeper than one of a text
-abbrev pub IsTextField : Field → Type 0
-IsTextField field = IsSomeAnd field.ident IsToken × (type_depth field.ty ≤ max_depth)
-
--- the fields of the declaration are such
-abbrev pub HasTextFields : DeriveInput → Type 0
-HasTextFields decl = All IsTextField (fields_of decl.body)
 
 -- What is accepted can be run: names are those of declarations, and options leave each declaration so.
 abbrev pub AcceptedIsSound : Type 0
@@ -45,3 +35,10 @@ AcceptedFits =
     → IsLawful host → All IsBuilt decls → All HasTextFields decls → IsAccepted host rules decls program
     → slice_get decls (length decls - 1) ≡ Some last
     → OnValue (FitsAmong (map without_attributes decls) (length decls - 1)) (text_meaning host rules decls (length decls - 1) last subject)
+
+-- The values among the outcomes of a report fit the last of its declarations, by the laws of the host.
+abbrev pub ReportFits : Type 0
+ReportFits =
+    (host : HostSays) (rules : Rules) (first second : List ℕ) (report : Report)
+    → IsLawful host → IsReport host rules first second report
+    → All (OnValue (FitsAmong (map without_attributes report.declarations) (length report.declarations - 1))) report.outcomes

@@ -1,7 +1,8 @@
-//! Laws of accepted declarations: they can be run, and a value of what an item means fits the last of them.
+//! Laws of accepted declarations: they can be run, and a value of what an item means fits the last of them, as does each
+//! value of a report.
 #![tactic(auto)]
 
-ghost use Rattle.law_accepted.specs.Claims.{AcceptedFits, AcceptedIsSound};
+ghost use Rattle.law_accepted.specs.Claims.{AcceptedFits, AcceptedIsSound, ReportFits};
 
 /// What is accepted can be run, as options leave it.
 pub fn what_is_accepted_can_be_run()
@@ -11,4 +12,9 @@ pub fn what_is_accepted_can_be_run()
 /// A value of what an item means fits the receiver, by the laws of the host.
 pub fn a_meant_value_fits_the_receiver()
     ensures { AcceptedFits }
+{}
+
+/// Each value of a report fits the receiver, by the laws of the host.
+pub fn the_values_of_a_report_fit_the_receiver()
+    ensures { ReportFits }
 {}

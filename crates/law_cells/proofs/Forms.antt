@@ -1,5 +1,5 @@
 -- The forms of values that are shown.
-use Rattle.std.proofs.Common.{subst, sym, refl, ℕ, suc, ℤ, pos, negsuc, Bool, true, false, List, [], map, All, Option, Some, None, codes}
+use Rattle.std.proofs.Common.{subst, sym, ℕ, suc, ℤ, pos, negsuc, Bool, true, false, List, [], map, All, Option, Some, None, codes}
 use Rattle.std.proofs.lemmas.List.Elements.{All-map, All-weaker}
 use Rattle.base_core.specs.declared.text.Text.{Text}
 use Rattle.tok_types.specs.declared.span.Span.{Span}
@@ -8,7 +8,8 @@ use Rattle.node_core.specs.declared.style.Style.TheVariants as style
 use Rattle.machine_value.specs.declared.value.Value.{Value}
 use Rattle.machine_value.specs.declared.value.Value.TheVariants as value
 use Rattle.machine_cells.specs.Values.{flag, ignored, integer, natural}
-use Rattle.machine_host.specs.Forms.{Form, HasNone, IsBool, IsChar, IsInt, IsListOf, IsOptOf, IsSpan, IsStructOf, IsSyntaxOf, IsText, bool_layer, char_layer, int_layer, list_layer, opt_layer, span_layer, struct_layer, syntax_layer, text_layer}
+use Rattle.machine_host.specs.Forms.{Form, HasNone, IsBool, IsChar, IsInt, IsListOf, IsOptOf, IsSpan, IsStructOf, IsSyntaxOf, IsText, bool_layer, char_layer, int_layer, list_layer, syntax_layer, text_layer}
+use Rattle.law_cells.proofs.Values.{is_opt, is_span, is_struct}
 
 pub fits_bool : (b : Bool) → IsBool (value.Bool b)
 fits_bool b = subst bool_layer (sym (value.outs-Bool b)) tt
@@ -19,15 +20,12 @@ fits_char c = subst char_layer (sym (value.outs-Char c)) tt
 pub fits_text : (text : Text) → IsText (value.Text text)
 fits_text text = subst text_layer (sym (value.outs-Text text)) tt
 
-fits_span : (span : Span) → IsSpan (value.Span (Some span))
-fits_span span = subst span_layer (sym (value.outs-Span (Some span))) tt
-
 pub fits_flag : (place : Option Span) → IsOptOf IsSpan (flag place)
-fits_flag None = subst (opt_layer IsSpan) (sym (value.outs-Opt None)) tt
-fits_flag (Some span) = subst (opt_layer IsSpan) (sym (value.outs-Opt (Some (value.Span (Some span))))) (fits_span span)
+fits_flag None = is_opt IsSpan None tt
+fits_flag (Some span) = is_opt IsSpan (Some (value.Span (Some span))) (is_span (Some span))
 
 pub fits_ignored : IsStructOf (codes "Ignored") style.Unit HasNone ignored
-fits_ignored = subst (struct_layer (codes "Ignored") style.Unit HasNone) (sym (value.outs-Struct (codes "Ignored") style.Unit [])) (refl, refl, tt)
+fits_ignored = is_struct (codes "Ignored") style.Unit HasNone [] tt
 
 -- a number with a sign whose sign and distance from zero are such
 abbrev pub OfInteger : (Bool → ℕ → Type 0) → ℤ → Type 0

@@ -9,7 +9,7 @@ use Rattle.machine_forms.specs.declared.refusals.Unsupported.{Unsupported}
 use Rattle.run_accepted.proofs.PlaceLemmas.{none_first}
 
 -- where no row is first, none has a place
-no_rows : (name : Option Span) (form : Option Unsupported) (type callable : Option Span) (has_receiver : Bool)
+pub no_rows : (name : Option Span) (form : Option Unsupported) (type callable : Option Span) (has_receiver : Bool)
     → first_row name form type callable has_receiver ≡ None → (name ≡ None) × (form ≡ None) × (type ≡ None) × (callable ≡ None)
 no_rows (Some name) form type callable has_receiver none = absurd (cc)
 no_rows None (Some form) type callable has_receiver none = absurd (cc)

@@ -5,3 +5,4 @@ pub mod DeriveLemmas
 pub mod TwinLemmas
 pub mod RefusalLemmas
 pub mod FitLemmas
+pub mod UnitLemmas

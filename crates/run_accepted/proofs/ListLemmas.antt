@@ -1,6 +1,11 @@
--- Lists that are mapped and filtered, and lists whose elements stand in a relation one by one.
-use Rattle.std.proofs.Common.{◌≡◌, ◌∙◌, Bool, true, false, cond, List, [], ◌∷◌, map, filter, Option, refl, sym, ap, true≢false}
+-- Lists: elements at places, lists that are mapped and filtered, and lists whose elements stand in a relation one by one.
+use Rattle.std.proofs.Common.{◌≡◌, ◌∙◌, ℕ, zero, suc, Bool, true, false, cond, List, [], ◌∷◌, map, filter, slice_get, Option, Some, All, refl, sym, ap, subst, true≢false}
 use Rattle.std.specs.List.{AllZip, cons_option, filter_map}
+use Rattle.std.proofs.lemmas.Option.{get_or_from_slice_get, none-some, same_Some, slice_get_within}
+
+-- what holds of each element holds of the one at a place
+pub at_place : {A : Type 0} (P : A → Type 0) (xs : List A) (place : ℕ) (x : A) → All P xs → slice_get xs place ≡ Some x → P x
+at_place P xs place x all stands = subst P (get_or_from_slice_get xs place x x stands) (all place x (slice_get_within xs place x stands))
 
 pub filter_map-map : {A B C : Type 0} (choose : B → Option C) (make : A → B) (its : List A) → filter_map choose (map make its) ≡ filter_map (λ it. choose (make it)) its
 filter_map-map choose make [] = refl
@@ -41,3 +46,11 @@ module _ {A B : Type 0} (R : A → B → Type 0) where
   AllZip-of_map S make weaker [] (y ∷ ys) are = absurd are
   AllZip-of_map S make weaker (x ∷ xs) [] are = absurd are
   AllZip-of_map S make weaker (x ∷ xs) (y ∷ ys) are = (weaker x y are.0, AllZip-of_map S make weaker xs ys are.1)
+
+  -- at the place of an element stands one of the other list
+  pub opposite : (xs : List A) (ys : List B) (place : ℕ) (y : B) → AllZip R xs ys → slice_get ys place ≡ Some y → (x : A) × (slice_get xs place ≡ Some x) × R x y
+  opposite [] [] place y are stands = absurd (none-some y stands)
+  opposite [] (other ∷ ys) place y are stands = absurd are
+  opposite (x ∷ xs) [] place y are stands = absurd are
+  opposite (x ∷ xs) (other ∷ ys) zero y are stands = (x, refl, subst (R x) (same_Some other y stands) are.0)
+  opposite (x ∷ xs) (other ∷ ys) (suc place) y are stands = opposite xs ys place y are.1 stands

@@ -1,12 +1,11 @@
 -- The receiver of accepted declarations, and what it makes of an item.
-use Rattle.std.proofs.Common.{◌≡◌, ◌∙◌, ◌<◌, ◌+◌, ◌-◌, ◌==◌, ◌&&◌, ◌||◌, ℕ, zero, suc, Bool, true, false, cond, nat_lt, List, [], ◌∷◌, length, position, slice_get, Option, Some, None, option_and_then, option_map, refl, sym, ap, subst, arith}
-use Rattle.std.specs.List.{All, AllZip, find, list_any, position_or_len}
+use Rattle.std.proofs.Common.{◌≡◌, ◌∙◌, ◌<◌, ◌+◌, ◌-◌, ◌==◌, ◌&&◌, ◌||◌, ℕ, Bool, true, false, cond, nat_lt, List, [], ◌∷◌, length, position, slice_get, Option, Some, None, option_and_then, option_map, refl, sym, ap, subst₂, arith}
+use Rattle.std.specs.List.{AllZip, find, list_any, position_or_len}
 use Rattle.std.proofs.lemmas.Bool.{and_parts, cond-true}
 use Rattle.std.proofs.lemmas.Bool.Decides.{Decides-eqb, Decides-ltb, nat_tests}
 use Rattle.std.proofs.lemmas.List.{length-map}
-use Rattle.std.proofs.lemmas.List.Elements.{All-append, All-map, All-nil}
 use Rattle.std.proofs.lemmas.List.Folds.{find_at}
-use Rattle.std.proofs.lemmas.Option.{get_or_from_slice_get, slice_get_within}
+use Rattle.std.proofs.lemmas.Option.{slice_get_within}
 use Rattle.node_core.specs.declared.derive.DeriveInput.{DeriveInput}
 use Rattle.codegen_program.specs.declared.program.Derive.{Derive}
 use Rattle.codegen_program.specs.declared.program.Derive.TheVariants as derive
@@ -19,30 +18,18 @@ use Rattle.law_options.specs.HostSays.{HostSays}
 use Rattle.law_options.specs.Values.{Rules}
 use Rattle.law_options.specs.Attributes.{without_attributes}
 use Rattle.law_options.specs.Unbuilt.{IsBuilt}
-use Rattle.law_options.specs.Derives.{derives_of}
 use Rattle.law_options.specs.Compiled.{IsUnit, IsUnitUnder}
-use Rattle.law_options.specs.Pairs.{Pair, pair, pairs_from, pairs_of}
+use Rattle.law_options.specs.Pairs.{pair, pairs_from}
 use Rattle.run_accepted.specs.Accepted.{unfitness}
 use Rattle.run_accepted.proofs.FitLemmas.{has_receiver}
+use Rattle.run_accepted.proofs.ListLemmas.{at_place, opposite}
+use Rattle.run_accepted.proofs.UnitLemmas.{Stands, all_stand, derive_is, number_is}
 use Rattle.run_source.specs.Receiver.{is_receiver, receiver}
 use Rattle.law_options.specs.Texts.{text_meaning}
 use Rattle.law_options.proofs.Programs.{program_is_meant}
 use Rattle.run_source.specs.Claims.{AcceptedIsMeant}
 
 -- items of lists
-
--- what holds of each item holds of the one at a place
-at_place : {X : Type 0} (P : X → Type 0) (xs : List X) (place : ℕ) (x : X) → All P xs → slice_get xs place ≡ Some x → P x
-at_place P xs place x all at = subst P (get_or_from_slice_get xs place x x at) (all place x (slice_get_within xs place x at))
-
--- at the place of an item stands one of the other list
-opposite : {X Y : Type 0} (R : X → Y → Type 0) (xs : List X) (ys : List Y) (place : ℕ) (y : Y) → AllZip R xs ys → slice_get ys place ≡ Some y
-    → (x : X) × (slice_get xs place ≡ Some x) × R x y
-opposite R [] [] place y zip at = absurd cc
-opposite R [] (other ∷ ys) place y zip at = absurd zip
-opposite R (x ∷ xs) [] place y zip at = absurd zip
-opposite R (x ∷ xs) (other ∷ ys) zero y zip at = let same : other ≡ y = cc in (x, refl, subst (R x) same zip.0)
-opposite R (x ∷ xs) (other ∷ ys) (suc place) y zip at = opposite R xs ys place y zip.1 at
 
 found_by : {X : Type 0} (test : X → Bool) (x : X) (passes any : Bool) (later : Option X) → test x ≡ passes → (passes || any) ≡ true
     → (any ≡ true → (y : X) × (later ≡ Some y) × (test y ≡ true)) → (y : X) × (cond passes (Some x) later ≡ Some y) × (test y ≡ true)
@@ -55,7 +42,7 @@ found test [] some = absurd cc
 found test (x ∷ xs) some = found_by test x (test x) (list_any test xs) (find test xs) refl some (λ later. found test xs later)
 
 -- where an item passes, the first that does stands at a place
-first_passes : {X : Type 0} (test : X → Bool) (xs : List X) → list_any test xs ≡ true
+pub first_passes : {X : Type 0} (test : X → Bool) (xs : List X) → list_any test xs ≡ true
     → (place : ℕ) × (x : X) × (position test xs ≡ Some place) × (slice_get xs place ≡ Some x) × (test x ≡ true)
 first_passes test xs some =
     let place = position_or_len test xs in
@@ -86,43 +73,18 @@ first_receiver host program none =
     (λ unit. ap (λ last. last && is_input unit.derive) (is_last unit.decl count some)))
     ∙ has.1)
 
--- the declaration of a unit
-
--- the declaration of a pair stands at its number
-abbrev Stands : List DeriveInput → Pair → Type 0
-Stands decls it = slice_get decls it.number ≡ Some it.decl
-
-pairs_stand : (all : List DeriveInput) (number : ℕ) (decls : List DeriveInput)
-    → ((place at : ℕ) → at ≡ number + place → slice_get all at ≡ slice_get decls place) → All (Stands all) (pairs_from number decls)
-pairs_stand all number [] rest = All-nil (Stands all)
-pairs_stand all number (decl ∷ decls) rest =
-    All-append (Stands all) (pairs_of number decl) (pairs_from (suc number) decls)
-    (All-map (Stands all) (λ it. pair number decl it.derive) (derives_of decl.attrs) (λ k other lt. rest 0 number (omega arith)))
-    (pairs_stand all (suc number) decls (λ place at is. rest (suc place) at (omega arith)))
-
--- a unit by which items of a text are read is made of a pair of its number, under `FromDeriveInput`
-reads_texts : (rules : Rules) (number : ℕ) (decl : DeriveInput) (it : Derive) (unit : Unit') → IsUnitUnder rules number decl it unit
-    → is_input unit.derive ≡ true → (unit.decl ≡ number) × IsUnitUnder rules number decl derive.FromDeriveInput unit
-reads_texts rules number decl derive.FromMeta unit (left, is, compiled) reads =
-    let not : is_input unit.derive ≡ false = ap (λ (it : Unit'). is_input it.derive) compiled in
-    absurd cc
-reads_texts rules number decl derive.FromDeriveInput unit (left, is, compiled) reads = (ap (λ (it : Unit'). it.decl) compiled, (left, is, compiled))
-reads_texts rules number decl derive.FromAttributes unit is reads = absurd is
-reads_texts rules number decl derive.FromField unit is reads = absurd is
-reads_texts rules number decl derive.FromTypeParam unit is reads = absurd is
-reads_texts rules number decl derive.FromVariant unit is reads = absurd is
-
--- it is made of the declaration of its number
+-- a unit is made of the declaration of its number
 made_of : (rules : Rules) (decls : List DeriveInput) (units : List Unit') (place : ℕ) (unit : Unit') → AllZip (IsUnit rules) (pairs_from 0 decls) units
     → slice_get units place ≡ Some unit → is_input unit.derive ≡ true
     → (decl : DeriveInput) × (slice_get decls unit.decl ≡ Some decl) × IsUnit rules (pair unit.decl decl derive.FromDeriveInput) unit
 made_of rules decls units place unit zip at reads =
     let (it, at_pair, made) = opposite (IsUnit rules) (pairs_from 0 decls) units place unit zip at in
-    let (same, under) = reads_texts rules it.number it.decl it.derive unit made reads in
-    let all : All (Stands decls) (pairs_from 0 decls) =
-    pairs_stand decls 0 decls (λ place at is. let same : at ≡ place = omega arith in ap (slice_get decls) same) in
-    let P : ℕ → Type 0 = λ number. IsUnitUnder rules number it.decl derive.FromDeriveInput unit in
-    (it.decl, ap (slice_get decls) same ∙ at_place (Stands decls) (pairs_from 0 decls) place it all at_pair, subst P (sym same) under)
+    let same = number_is rules it.number it.decl it.derive unit made in
+    let P : ℕ → Derive → Type 0 = λ number under. IsUnitUnder rules number it.decl under unit in (
+      it.decl,
+      ap (slice_get decls) same ∙ at_place (Stands decls) (pairs_from 0 decls) place it (all_stand decls) at_pair,
+      subst₂ P (sym same) (derive_is rules it.number it.decl it.derive unit made reads) made,
+    )
 
 pub accepted_is_meant : AcceptedIsMeant
 accepted_is_meant host rules decls program built is =
