@@ -20,7 +20,7 @@ use Rattle.syn_items.specs.declared.look.ItemStart.TheVariants as begin
 use Rattle.syn_items.specs.declared.lists.While.TheVariants as while
 use Rattle.syn_items.specs.Fields.{fields_named, named_field, variants}
 use Rattle.syn_items.specs.Generics.{any_type}
-use Rattle.syn_items.specs.Items.{body_of, data_by, enum_body, is_tuple_struct, item, item_start, items, other_struct, tuple_struct, union_body}
+use Rattle.syn_items.specs.Items.{body_of, data_by, enum_body, is_tuple_struct, item, item_of, item_start, items, other_struct, tuple_struct, union_body}
 use Rattle.syn_items.specs.Lists.{goes_on}
 use Rattle.syn_items.specs.Trees.{items_of}
 use Rattle.tok_core.specs.Spells.{Spells}
@@ -102,14 +102,7 @@ unfolding item
 item-found input has = seen-at first_span (λ start. words-at has (attributes-goes input) (λ attrs one u _. words-at u (visibility-goes one) (λ vis two v _.
     seen-at item_start (λ begins. words-at v (skip-at two) (λ keyword three w _. words-at w (take_as-at name_of three) (λ ident four x _.
     words-at x (params-stood four) (λ generics five y _. then-at (body_of-found begins five y) (λ found six h. so-at (upto-at start six) (λ span seven.
-    pure-at (record {
-      attrs = attrs;
-      vis = vis;
-      ident = ident;
-      generics = record { params = generics.0; where_clause = found.0; span = generics.1 };
-      body = found.1;
-      span = span;
-    }) seven (record { said = h.said }))))))))))
+    pure-at (item_of attrs vis ident generics found span) seven (record { said = h.said }))))))))))
 
 -- of all items that the tokens of a text are
 pub spelled_items : (source : ℕ) (text : List ℕ) (tokens : TokenStream) (items : List DeriveInput) → Spells source (chars text) tokens → items_of tokens ≡ Some items → All HasTextFields items

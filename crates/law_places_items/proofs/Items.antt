@@ -13,7 +13,7 @@ use Rattle.syn_grammar.specs.Words.{name_of}
 use Rattle.syn_items.specs.declared.look.ItemStart.{ItemStart}
 use Rattle.syn_items.specs.declared.look.ItemStart.TheVariants as begin
 use Rattle.syn_items.specs.Fields.{variants}
-use Rattle.syn_items.specs.Items.{item_start, tuple_struct, other_struct, enum_body, union_body, data_by, is_tuple_struct, body_of, item}
+use Rattle.syn_items.specs.Items.{item_start, tuple_struct, other_struct, enum_body, union_body, data_by, is_tuple_struct, body_of, item_of, item}
 use Rattle.law_places.proofs.Onward.{StoodHere, here-stood, onward-at, close_on-at, take-less, group-single, expect-single, single-stood, mark-none, name-none}
 use Rattle.law_places.proofs.Steps.{Goes, any-at, refuse-at, pure-at, pure-goes, then-at, so-at, map-at, if-at, seen-at, skip-at, expect-at}
 use Rattle.law_places_items.proofs.Attributes.{attributes-goes}
@@ -67,11 +67,4 @@ item-stood input = here-stood (λ start _. onward-at (attributes-goes input) (λ
     seen-at item_start (λ begins. onward-at (skip-at two) (λ keyword three u _.
     onward-at (take-less name_of name-none three) (λ ident four v less. onward-at (params-stood four) (λ generics five w _.
     onward-at (body_of-goes begins five) (λ found six x _.
-    close_on-at start (length input.rest) (λ span. record {
-      attrs = attrs;
-      vis = vis;
-      ident = ident;
-      generics = record { params = generics.0; where_clause = found.0; span = generics.1 };
-      body = found.1;
-      span = span;
-    }) six (omega arith) (λ span. refl)))))))))
+    close_on-at start (length input.rest) (item_of attrs vis ident generics found) six (omega arith) (λ span. refl)))))))))

@@ -14,7 +14,7 @@ use Rattle.syn_items.specs.declared.look.ItemStart.{ItemStart}
 use Rattle.syn_items.specs.declared.look.ItemStart.TheVariants as begin
 use Rattle.syn_items.specs.declared.lists.While.TheVariants as while
 use Rattle.syn_items.specs.Generics.{params}
-use Rattle.syn_items.specs.Items.{body_of, item, item_start, items}
+use Rattle.syn_items.specs.Items.{body_of, item, item_of, item_start, items}
 use Rattle.syn_items.specs.Lists.{goes_on}
 use Rattle.print_core.specs.Items.{attributes_tokens, derive_input_tokens, visibility_tokens}
 use Rattle.print_core.specs.Marks.{Trees, word as printed_word}
@@ -77,14 +77,7 @@ union-word = record { one = word-length (codes "union"); begun = union-begun }
 module _ (parts : AllRoundTrip (within max_depth)) where
   -- what comes behind the visibility
   abbrev item_rest : Span → List Attribute → Visibility → ItemStart → Parser DeriveInput
-  item_rest start attrs vis begins = skip >>= (λ keyword. take_as name_of >>= (λ ident. params >>= (λ generics. body_of begins >>= (λ found. upto start >>= (λ span. pure (record {
-    attrs = attrs;
-    vis = vis;
-    ident = ident;
-    generics = record { params = generics.0; where_clause = found.0; span = generics.1 };
-    body = found.1;
-    span = span;
-  }))))))
+  item_rest start attrs vis begins = skip >>= (λ keyword. take_as name_of >>= (λ ident. params >>= (λ generics. body_of begins >>= (λ found. upto start >>= (λ span. pure (item_of attrs vis ident generics found span))))))
 
   abbrev Env : Type 0
   Env = ((Unit {0} × Span) × List Attribute) × Visibility
@@ -102,8 +95,7 @@ module _ (parts : AllRoundTrip (within max_depth)) where
         then-rest {Second = BeginsBody} (λ place. params-back parts) (λ generics.
         sure-rest {Second = Any} {V = Keyword begins} (λ place. body_of-back parts begins) (body-keyword begins).of (λ found known.
         close-rest start (λ q. q.0.0.0.0.1)
-        (λ span. record { attrs = attrs; vis = vis; ident = name; generics = record { params = generics.0; where_clause = found.0; span = generics.1 }; body = found.1; span = span })
-        (λ q span. record { attrs = q.0.0.0.1; vis = q.0.0.1; ident = name; generics = record { params = q.0.1.0; where_clause = q.1.0; span = q.0.1.1 }; body = q.1.1; span = span })
+        (item_of attrs vis name generics found) (λ q span. item_of q.0.0.0.1 q.0.0.1 name q.0.1 q.1 span)
         (λ span. rw (known span, append-nil, append_assoc, append_assoc, append_assoc, append_assoc) refl)
         (λ span other q ok. rw (ok.0.0.0.1, ok.0.0.1, ok.0.1, ap (λ (it : Body). it.0) ok.1, ap (λ (it : Body). it.1) ok.1) refl))
         (λ rest tail f. tt) (λ rest tail f. f))
@@ -115,14 +107,7 @@ module _ (parts : AllRoundTrip (within max_depth)) where
     none-rest = record { of = λ input after found e. absurd (none.of input after found e) }
       where
         none : Always (λ (it : DeriveInput). ⊥) (item_rest start attrs vis begin.Nothing)
-        none = then-always skip (λ keyword. then-always (take_as name_of) (λ ident. then-always params (λ generics. so-always {next = λ found. upto start >>= (λ span. pure (record {
-          attrs = attrs;
-          vis = vis;
-          ident = ident;
-          generics = record { params = generics.0; where_clause = found.0; span = generics.1 };
-          body = found.1;
-          span = span;
-        }))} no-body (λ found none. absurd none))))
+        none = then-always skip (λ keyword. then-always (take_as name_of) (λ ident. then-always params (λ generics. so-always {next = λ found. upto start >>= (λ span. pure (item_of attrs vis ident generics found span))} no-body (λ found none. absurd none))))
 
     item_by : (begins : ItemStart) → ItemRest begins
     item_by begin.Struct = item-rest begin.Struct struct-word

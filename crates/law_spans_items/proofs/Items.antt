@@ -12,7 +12,7 @@ use Rattle.syn_grammar.specs.Words.{next_word}
 use Rattle.syn_items.specs.declared.lists.While.TheVariants as while
 use Rattle.syn_items.specs.declared.look.ItemStart.{ItemStart}
 use Rattle.syn_items.specs.declared.look.ItemStart.TheVariants as begin
-use Rattle.syn_items.specs.Items.{is_union, start_by, item_start, tuple_struct, other_struct, enum_body, union_body, data_by, is_tuple_struct, body_of, item, items}
+use Rattle.syn_items.specs.Items.{is_union, start_by, item_start, tuple_struct, other_struct, enum_body, union_body, data_by, is_tuple_struct, body_of, item_of, item, items}
 use Rattle.law_spans.specs.Erased.{erased_ident, erased_tree}
 use Rattle.law_spans.specs.IgnoresSpans.{IgnoresSpans}
 use Rattle.law_spans.proofs.Paths.{name-blind}
@@ -93,8 +93,7 @@ item-blind = here-blind (λ start there s. then-blind attributes-blind (λ attrs
     so-blind (test-blind item_start item_start item_start-bare) (λ begins. so-blind skip-blind (λ keyword.
     then-blind name-blind (λ ident ident' i. then-blind params-blind (λ generics generics' g. then-blind (body_of-blind begins) (λ found found' f.
     close-blind start there s
-    (λ span. record { attrs = attrs; vis = vis; ident = ident; generics = record { params = generics.0; where_clause = found.0; span = generics.1 }; body = found.1; span = span })
-    (λ span. record { attrs = attrs'; vis = vis'; ident = ident'; generics = record { params = generics'.0; where_clause = found'.0; span = generics'.1 }; body = found'.1; span = span })
+    (item_of attrs vis ident generics found) (item_of attrs' vis' ident' generics' found')
     (λ span. rw (← a, ← v, ← i, ← g, ← f) refl)))))))))
 
 pub items-blind : IgnoresSpans (map erased_derive_input) items items

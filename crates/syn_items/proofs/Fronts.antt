@@ -7,7 +7,6 @@ use Rattle.tok_types.specs.declared.tree.Delimiter.TheVariants as delimiter
 use Rattle.tok_types.specs.declared.tree.TokenTree.{TokenTree}
 use Rattle.node_expr.specs.declared.path.Path.{Path}
 use Rattle.node_core.specs.declared.attr.Attribute.{Attribute}
-use Rattle.node_core.specs.declared.data.«Data».{«Data»}
 use Rattle.node_core.specs.declared.data.«Data».TheVariants as body
 use Rattle.node_core.specs.declared.data.Fields.TheVariants as fields
 use Rattle.node_core.specs.declared.data.FieldsNamed.{FieldsNamed}
@@ -15,7 +14,6 @@ use Rattle.node_core.specs.declared.data.FieldsUnnamed.{FieldsUnnamed}
 use Rattle.node_core.specs.declared.data.Visibility.{Visibility}
 use Rattle.node_core.specs.declared.data.Visibility.TheVariants as made
 use Rattle.node_core.specs.declared.derive.DeriveInput.{DeriveInput}
-use Rattle.node_core.specs.declared.generics.GenericParam.{GenericParam}
 use Rattle.node_core.specs.declared.generics.GenericParam.TheVariants as param
 use Rattle.node_core.specs.declared.generics.TypeParam.{TypeParam}
 use Rattle.node_core.specs.declared.generics.WhereClause.{WhereClause}
@@ -43,7 +41,7 @@ use Rattle.syn_items.specs.declared.look.ItemStart.TheVariants as begin
 use Rattle.syn_items.specs.Attributes.{meta, attribute, attributes}
 use Rattle.syn_items.specs.Fields.{named_fields, unnamed_fields, fields_named, fields_unnamed, variants}
 use Rattle.syn_items.specs.Generics.{lifetimes, bounds, any_type, behind, outlived, bounded, type_default, expr_of_name, lifetime_param, type_param, const_value, const_default, const_param, param_by, generic_param, params, lifetime_predicate, colon_bounds, type_predicate, where_predicate, ends_where, predicates_from, where_clause, maybe_where}
-use Rattle.syn_items.specs.Items.{item_start, tuple_struct, other_struct, enum_body, union_body, data_by, is_tuple_struct, body_of, item}
+use Rattle.syn_items.specs.Items.{item_start, tuple_struct, other_struct, enum_body, union_body, data_by, is_tuple_struct, body_of, item_of, item}
 use Rattle.syn_items.specs.Visibility.{restriction_in, public_by, visibility}
 use Rattle.syn_items.proofs.Ends.{ends-front, closing-front, eat_comma-front, each_while-front}
 
@@ -315,16 +313,6 @@ unfolding item_start next_word ident_of
 same-start tree rest tail = refl
 
 -- what stands behind the name of an item
-abbrev item_of : List Attribute → Visibility → Ident → (List GenericParam × Span) → (Option WhereClause × «Data») → Span → DeriveInput
-item_of attrs vis ident generics found span = record {
-  attrs = attrs;
-  vis = vis;
-  ident = ident;
-  generics = record { params = generics.0; where_clause = found.0; span = generics.1 };
-  body = found.1;
-  span = span;
-}
-
 abbrev behind_name : ItemStart → Span → List Attribute → Visibility → Ident → Parser DeriveInput
 behind_name begins start attrs vis ident = params >>= (λ generics. body_of begins >>= (λ found. upto start >>= (λ span. pure (item_of attrs vis ident generics found span))))
 

@@ -6,7 +6,6 @@ use Rattle.tok_types.specs.declared.span.Span.{Span}
 use Rattle.tok_types.specs.declared.tree.Delimiter.{Delimiter}
 use Rattle.tok_types.specs.declared.tree.Delimiter.TheVariants as delimiter
 use Rattle.tok_types.specs.declared.tree.Group.{out-Group}
-use Rattle.tok_types.specs.declared.tree.TokenStream.{TokenStream}
 use Rattle.tok_types.specs.declared.tree.TokenTree.{TokenTree, out-TokenTree}
 use Rattle.tok_types.specs.declared.tree.TokenTree.TheOpen.{TokenTree-F}
 use Rattle.node_make.specs.Make.{make_path, make_segment}

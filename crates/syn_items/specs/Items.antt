@@ -1,12 +1,16 @@
 -- Items: structs, enums and unions.
 use Rattle.std.specs.Prelude.{Bool, true, false, if◌then◌else◌, List, codes, Option, Some, None}
 use Rattle.tok_types.specs.declared.ident.Ident.{Ident}
+use Rattle.tok_types.specs.declared.span.Span.{Span}
 use Rattle.tok_types.specs.declared.tree.Delimiter.TheVariants as delimiter
 use Rattle.tok_types.specs.declared.tree.TokenTree.{TokenTree}
+use Rattle.node_core.specs.declared.attr.Attribute.{Attribute}
 use Rattle.node_core.specs.declared.data.«Data».{«Data»}
 use Rattle.node_core.specs.declared.data.«Data».TheVariants as body
 use Rattle.node_core.specs.declared.data.Fields.TheVariants as made
+use Rattle.node_core.specs.declared.data.Visibility.{Visibility}
 use Rattle.node_core.specs.declared.derive.DeriveInput.{DeriveInput}
+use Rattle.node_core.specs.declared.generics.GenericParam.{GenericParam}
 use Rattle.node_core.specs.declared.generics.WhereClause.{WhereClause}
 use Rattle.syn_grammar.specs.declared.word.Word.{Word}
 use Rattle.syn_grammar.specs.declared.word.Word.TheVariants as word
@@ -95,6 +99,17 @@ body_of begins = do
 
 -- ---- a whole item
 
+-- the item that its parts are, its parameters with their place and its body with the `where` clause
+abbrev pub item_of : List Attribute → Visibility → Ident → (List GenericParam × Span) → (Option WhereClause × «Data») → Span → DeriveInput
+item_of attrs vis ident generics found span = record {
+  attrs = attrs;
+  vis = vis;
+  ident = ident;
+  generics = record { params = generics.0; where_clause = found.0; span = generics.1 };
+  body = found.1;
+  span = span;
+}
+
 -- `#[attr] pub struct Name<T> where .. { a: T }`
 unfoldable pub item : Parser DeriveInput
 item = do
@@ -107,14 +122,7 @@ item = do
   generics ← params
   found ← body_of begins
   span ← upto start
-  pure (record {
-    attrs = attrs;
-    vis = vis;
-    ident = ident;
-    generics = record { params = generics.0; where_clause = found.0; span = generics.1 };
-    body = found.1;
-    span = span;
-  })
+  pure (item_of attrs vis ident generics found span)
 
 -- items without marks between them, to the end
 abbrev pub items : Parser (List DeriveInput)
