@@ -7,10 +7,9 @@ use Rattle.tok_types.specs.declared.tree.TokenStream.{out-TokenStream}
 use Rattle.tok_types.specs.declared.tree.TokenTree.{TokenTree, out-TokenTree, roll-TokenTree, the_lemmas}
 use Rattle.tok_types.specs.declared.tree.TokenTree.TheOpen.{TokenTree-F}
 use Rattle.tok_core.specs.Flat.{Flat, token, ident, opening, closing, start_of, end_of, flat_tree, flat_trees}
-use Rattle.syn_grammar.specs.declared.word.Word.{Word}
-use Rattle.syn_grammar.specs.declared.word.Word.TheVariants as word
 use Rattle.syn_grammar.specs.Token.{Layer, contents_in, contents_of, ident_in, ident_of}
-use Rattle.syn_grammar.specs.Words.{name_at, name_of, next_word}
+use Rattle.syn_grammar.specs.Words.{name_of}
+use Rattle.law_places.proofs.Tokens.{name-ident}
 use Rattle.law_fields.proofs.Words.{AreWords}
 
 words-before : (fs gs : List Flat) → AreWords (fs ++ gs) → AreWords fs
@@ -52,12 +51,7 @@ ident-word (tree ∷ trees) found e h = by (out-TokenTree tree) e (first-words t
 
 -- a name at the front
 pub name-word : (trees : List TokenTree) (found : Ident) → name_of trees ≡ Some found → AreWords (flat_trees trees) → IsToken found
-unfolding name_of
-name-word trees found e h = ident-word trees found (by (next_word trees) e) h
-  where
-    by : (which : Word) → name_at which (ident_of trees) ≡ Some found → ident_of trees ≡ Some found
-    by word.Name e = e
-    by _ e = absurd cc
+name-word trees found e h = ident-word trees found (name-ident trees found e) h
 
 -- those in the group at the front
 pub words-within : (trees : List TokenTree) → AreWords (flat_trees trees) → AreWords (flat_trees (contents_of trees))

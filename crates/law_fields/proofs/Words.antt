@@ -1,5 +1,5 @@
 -- The tokens of a text are words: an identifier among them has a name that an identifier can have.
-use Rattle.std.proofs.Common.{◌≡◌, ℕ, Bool, true, false, ◌&&◌, ◌==◌, List, [], ◌∷◌, ◌++◌, refl, ap, sym, ◌∙◌, subst, codes, rules}
+use Rattle.std.proofs.Common.{◌≡◌, ℕ, Bool, true, false, ◌&&◌, ◌==◌, List, [], ◌∷◌, refl, ap, sym, ◌∙◌, subst, codes, rules}
 use Rattle.std.proofs.lemmas.Bool.{and_parts, and_right, eqb-true, both_ways}
 use Rattle.std.specs.List.{AllByRecursion, list_all, slice_index}
 use Rattle.std.specs.Str.{chars}
@@ -17,6 +17,7 @@ use Rattle.tok_scan.specs.declared.kind.Kind.{Kind}
 use Rattle.tok_scan.specs.declared.kind.Kind.TheVariants as kind
 use Rattle.tok_core.specs.Flat.{Flat, token, ident, lifetime, punct, literal, opening, closing, flat_stream, flat_trees}
 use Rattle.tok_core.specs.Spells.{Piece, Spells, Stand, ident_of, kept, token_of, tokens_of}
+use Rattle.law_lexed.proofs.Placed.{all_append}
 use Rattle.law_fields.proofs.Characters.{name-chars}
 
 -- nothing is said of other tokens than identifiers
@@ -30,10 +31,6 @@ IsWord (closing d place) = Unit {0}
 
 abbrev pub AreWords : List Flat → Type 0
 AreWords = AllByRecursion IsWord
-
-words-joined : (fs gs : List Flat) → AreWords fs → AreWords gs → AreWords (fs ++ gs)
-words-joined [] gs h k = k
-words-joined (f ∷ fs) gs h k = (h.0, words-joined fs gs h.1 k)
 
 -- ---- one piece
 
@@ -79,7 +76,7 @@ piece-words source (kind.Close d) text after start end h = (tt, tt)
 pieces-words : (source : ℕ) (ps : List Piece) (from to : ℕ) (text rest : Characters) → Stand from text ps to rest → AreWords (tokens_of source ps)
 pieces-words source [] from to text rest s = tt
 pieces-words source (p ∷ ps) from to text rest s =
-    words-joined (token_of source p.kind (kept p.kind p.text p.after) p.start p.end) (tokens_of source ps)
+    all_append IsWord (token_of source p.kind (kept p.kind p.text p.after) p.start p.end) (tokens_of source ps)
     (piece-words source p.kind p.text p.after p.start p.end s.2.piece) (pieces-words source ps p.end to p.after rest s.3)
 
 stream-trees : (tokens : TokenStream) → flat_stream tokens ≡ flat_trees (out-TokenStream tokens).trees

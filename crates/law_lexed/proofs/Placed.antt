@@ -13,7 +13,7 @@ IsPlaced source (token it) = Unit {0}
 IsPlaced source (opening d place) = (start : ℕ) × (place ≡ Some (source, start))
 IsPlaced source (closing d place) = (end : ℕ) × (place ≡ Some (source, end))
 
-all_append : (P : Flat → Type 0) (fs gs : List Flat) → AllByRecursion P fs → AllByRecursion P gs → AllByRecursion P (fs ++ gs)
+pub all_append : (P : Flat → Type 0) (fs gs : List Flat) → AllByRecursion P fs → AllByRecursion P gs → AllByRecursion P (fs ++ gs)
 all_append P [] gs h k = k
 all_append P (f ∷ fs) gs h k = (h.0, all_append P fs gs h.1 k)
 

@@ -55,7 +55,7 @@ literal-place (tree ∷ trees) found e = go (out-TokenTree tree) e
     go (TokenTree-F.Group it) e = absurd cc
 
 -- a name is the identifier that comes next
-name-ident : (trees : List TokenTree) (found : Ident) → name_of trees ≡ Some found → ident_of trees ≡ Some found
+pub name-ident : (trees : List TokenTree) (found : Ident) → name_of trees ≡ Some found → ident_of trees ≡ Some found
 unfolding name_of
 name-ident trees found e = go (next_word trees) e
   where
