@@ -14,9 +14,10 @@ use Rattle.machine_cells.specs.Values.{integer, natural}
 use Rattle.machine_rows.specs.declared.leaf.Integer.{Integer}
 use Rattle.machine_rows.specs.declared.leaf.Integer.TheVariants as width
 use Rattle.machine_host.specs.Integers.{InRange, InRangeButZero, IsInteger, IsNonZero, below_zero, from_zero}
+use Rattle.machine_host.proofs.Values.{is_int}
 use Rattle.law_cells.specs.Reads.{OnValue, Reads}
 use Rattle.law_cells.proofs.Calls.{Gives, reads, shown_reads}
-use Rattle.law_cells.proofs.Forms.{OfInteger, fits_integer, fits_natural}
+use Rattle.law_cells.proofs.Forms.{OfInteger, fits_integer}
 use Rattle.law_cells.proofs.Outcomes.{bound, is_known, some_unless, some_where, unless, where_true}
 
 -- both tests hold
@@ -106,7 +107,7 @@ from_up_to : (it : Integer) (number : ℕ) → 0 < from_zero it → number ≤ f
 from_up_to it number some le = omega (arith, some, le)
 
 pub fits_up_to : (it : Integer) → 0 < from_zero it → (number : ℕ) → number ≤ from_zero it - 1 → IsInteger it (natural number)
-fits_up_to it some number le = fits_natural (InRange it) number (from_up_to it number some le)
+fits_up_to it some number le = is_int (InRange it) false number (from_up_to it number some le)
 
 unsigned_reads : (it : Integer) → 0 < from_zero it → Reads (IsInteger it) (shown_cells natural (unsigned_cells (from_zero it - 1)))
 unsigned_reads it some =
@@ -148,7 +149,7 @@ non_zero_unsigned_reads : (it : Integer) → 0 < from_zero it → Reads (IsNonZe
 non_zero_unsigned_reads it some =
     let most = from_zero it - 1 in
     let Says = ButZero (IsUpTo most) (λ n. n == 0) in
-    shown_reads Says (IsNonZero it) natural (non_zero_unsigned_cells most) (λ number h. fits_natural (InRangeButZero it) number (above_zero number h.0, from_up_to it number some h.1))
+    shown_reads Says (IsNonZero it) natural (non_zero_unsigned_cells most) (λ number h. is_int (InRangeButZero it) false number (above_zero number h.0, from_up_to it number some h.1))
     (reads Says (non_zero_unsigned_cells most) (non_zero_give (IsUpTo most) (λ n. n == 0) (unsigned_of most) (unsigned_in most) (unsigned_of_says most) (unsigned_in_says most)))
 
 off_zero : (it : Integer) → from_zero it ≡ below_zero it → (number : ℤ) → int_eq number (pos 0) ≡ false → OfInteger (Within (from_zero it)) number → OfInteger (InRangeButZero it) number

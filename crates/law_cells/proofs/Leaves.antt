@@ -1,5 +1,5 @@
 -- What the types of the table read that hold no other.
-use Rattle.std.proofs.Common.{refl, inl, ◌<◌, ◌-◌, Some, codes, lit<}
+use Rattle.std.proofs.Common.{refl, inl, ◌<◌, ◌-◌, Some, codes, lit<, []}
 use Rattle.tok_types.specs.Ident.{ident_text}
 use Rattle.node_core.specs.declared.style.Style.TheVariants as style
 use Rattle.node_expr.specs.declared.expr.Expr.TheOpen.{Expr-F, Type-F}
@@ -48,9 +48,10 @@ use Rattle.machine_host.specs.Forms.{HasNone, IsBool, IsChar, IsListOf, IsOptOf,
 use Rattle.machine_host.specs.Integers.{IsInteger, from_zero, integer_of}
 use Rattle.machine_host.specs.Leaves.{FitsItem}
 use Rattle.machine_host.specs.Nodes.{IsIdentWord, IsListed, IsLitOf, IsParsed, IsPathWord, IsPredicate, IsSetItem}
+use Rattle.machine_host.proofs.Values.{is_bool, is_char, is_struct, is_text}
 use Rattle.law_cells.specs.Reads.{LeavesRead, Reads}
 use Rattle.law_cells.proofs.Calls.{shown_any}
-use Rattle.law_cells.proofs.Forms.{fits_bool, fits_char, fits_flag, fits_ignored, fits_text}
+use Rattle.law_cells.proofs.Forms.{fits_flag}
 use Rattle.law_cells.proofs.Integers.{IsUpTo, fits_up_to, integers_read, non_zeros_read, unsigned_give}
 use Rattle.law_cells.proofs.Lists.{each_reads, integer_list_reads, literals_read, names_read, sets_read, weaker_lists}
 use Rattle.law_cells.proofs.Nodes.{nodes_read, syntax_reads}
@@ -128,10 +129,10 @@ punctuated_read listed.FnArg = nodes_read row.fn_args_cells (λ it. it.items) fn
 -- ---- the table
 
 pub leaves_read : LeavesRead
-leaves_read leaf.Bool = shown_any IsBool value.Bool row.bool_cells fits_bool
-leaves_read leaf.Char = shown_any IsChar value.Char row.char_cells fits_char
-leaves_read leaf.String = shown_any IsText value.Text row.text_cells fits_text
-leaves_read leaf.PathBuf = shown_any IsText value.Text row.text_cells fits_text
+leaves_read leaf.Bool = shown_any IsBool value.Bool row.bool_cells is_bool
+leaves_read leaf.Char = shown_any IsChar value.Char row.char_cells is_char
+leaves_read leaf.String = shown_any IsText value.Text row.text_cells is_text
+leaves_read leaf.PathBuf = shown_any IsText value.Text row.text_cells is_text
 leaves_read (leaf.Integer it) = integers_read it
 leaves_read (leaf.NonZero it) = non_zeros_read it
 leaves_read leaf.Flag = shown_any (IsOptOf IsSpan) flag flag_cells fits_flag
@@ -153,4 +154,4 @@ leaves_read leaf.PathList = each_reads path_word plain
 leaves_read (leaf.Punctuated it) = punctuated_read it
 leaves_read leaf.Callable = syntax_reads callable_cells expr_tokens expr_tokens (λ it. refl)
 leaves_read leaf.Meta = syntax_reads row.meta_cells meta_tokens meta_tokens (λ it. refl)
-leaves_read leaf.Ignored = shown_any (IsStructOf (codes "Ignored") style.Unit HasNone) (λ (it : Unit {0}). ignored) (record no_cells { meta = λ it. Some (Value tt) }) (λ it. fits_ignored)
+leaves_read leaf.Ignored = shown_any (IsStructOf (codes "Ignored") style.Unit HasNone) (λ (it : Unit {0}). ignored) (record no_cells { meta = λ it. Some (Value tt) }) (λ it. is_struct (codes "Ignored") style.Unit HasNone [] tt)

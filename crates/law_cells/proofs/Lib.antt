@@ -1,6 +1,5 @@
 pub mod Outcomes
 pub mod Forms
-pub mod Values
 pub mod Calls
 pub mod Plain
 pub mod Streams
@@ -13,3 +12,4 @@ pub mod Sorting
 pub mod Maps
 pub mod Wrappers
 pub use Rattle.machine_host.proofs.Fitting
+pub use Rattle.machine_host.proofs.Values

@@ -30,11 +30,11 @@ use Rattle.machine_cells.specs.Texts.{by_text}
 use Rattle.machine_cells.specs.Wrapped.{hash_map_cells, tree_map_cells}
 use Rattle.machine_host.specs.Fits.{HashKeys, TreeKeys}
 use Rattle.machine_host.specs.Forms.{DontFall, Form, IsMapOf, Keys, Rise}
+use Rattle.machine_host.proofs.Values.{is_map}
 use Rattle.law_cells.specs.Reads.{IsListed, OnValue, Reads}
 use Rattle.law_cells.proofs.Outcomes.{in_field}
 use Rattle.law_cells.proofs.Plain.{reads_plain}
 use Rattle.law_cells.proofs.Sorting.{Differs, Fresh, IsAny, IsBelow, IsUpto, Lie, Places, dont_fall, each_by_text, in_order, lie_by_text, rise, rising}
-use Rattle.law_cells.proofs.Values.{is_map}
 
 -- ---- lists of which nothing is left
 

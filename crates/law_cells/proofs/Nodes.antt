@@ -17,10 +17,11 @@ use Rattle.machine_cells.specs.Shown.{shown_cells}
 use Rattle.machine_cells.specs.Values.{syntax, syntax_list}
 use Rattle.machine_host.specs.Forms.{IsListOf}
 use Rattle.machine_host.specs.Nodes.{IsAmong, IsOf, IsRead, IsReadAs}
+use Rattle.machine_host.proofs.Values.{is_syntax}
 use Rattle.law_cells.specs.Reads.{IsListed, OnValue, Reads}
 use Rattle.law_cells.proofs.Calls.{shown_reads}
 use Rattle.law_listed.specs.Listed.{IsListedLit}
-use Rattle.law_cells.proofs.Forms.{fits_shown, fits_syntax}
+use Rattle.law_cells.proofs.Forms.{fits_shown}
 use Rattle.law_cells.proofs.Outcomes.{at_span, without_span}
 use Rattle.law_cells.proofs.Streams.{stream-trees}
 
@@ -61,7 +62,7 @@ IsNodeAmong {A} {B} read nodes_of tokens_of tokens = (whole : B) × (node : A) �
 
 -- a node as its tokens
 pub fits_node : {A : Type 0} (read : NestedMeta → Outcome A) (tokens_of printed : A → Trees) → ((it : A) → printed it ≡ tokens_of it) → (it : A) → IsRead read it → IsReadAs read tokens_of (syntax printed it)
-fits_node read tokens_of printed same it is = fits_syntax (IsNodeRead read tokens_of) (stream_of (printed it)) (it, is, stream-trees (printed it) ∙ same it)
+fits_node read tokens_of printed same it is = is_syntax (IsNodeRead read tokens_of) (stream_of (printed it)) (it, is, stream-trees (printed it) ∙ same it)
 
 -- a type whose values are shown as their tokens
 pub syntax_reads : {A : Type 0} (cells : Cells A) (tokens_of printed : A → Trees) → ((it : A) → printed it ≡ tokens_of it) → Reads (IsOf (node cells) tokens_of) (shown_cells (syntax printed) (node cells))
@@ -77,7 +78,7 @@ nodes_read {A} {B} cells nodes_of tokens_of =
     fits : (whole : B) → IsRead (from_nested_meta (node cells)) whole → IsListOf (IsAmong (node cells) nodes_of tokens_of) (syntax_list tokens_of (nodes_of whole))
     fits whole is =
         fits_shown (Contains (nodes_of whole)) (IsAmong (node cells) nodes_of tokens_of) (syntax tokens_of)
-        (λ it among. fits_syntax (IsNodeAmong (from_nested_meta (node cells)) nodes_of tokens_of) (stream_of (tokens_of it)) (whole, it, is, among, stream-trees (tokens_of it))) (nodes_of whole) (All-contains_itself (nodes_of whole))
+        (λ it among. is_syntax (IsNodeAmong (from_nested_meta (node cells)) nodes_of tokens_of) (stream_of (tokens_of it)) (whole, it, is, among, stream-trees (tokens_of it))) (nodes_of whole) (All-contains_itself (nodes_of whole))
 
 -- ---- literals alone
 

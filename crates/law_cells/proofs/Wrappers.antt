@@ -22,13 +22,12 @@ use Rattle.machine_cells.specs.Wrapped.{given_cells, kept_cells, kept_meta_cells
 use Rattle.machine_host.specs.Fits.{IsOverrideOf, IsResultOf}
 use Rattle.machine_host.specs.Forms.{Form, HasNone, HasOne, HasTwo, IsFaults, IsOptOf, IsSpan, IsStructOf, IsUnit}
 use Rattle.machine_host.specs.Nodes.{IsMeta}
+use Rattle.machine_host.proofs.Values.{are_faults, is_opt, is_span, is_struct, is_syntax, is_unit, is_variant}
 use Rattle.law_cells.specs.Reads.{IsListed, OnValue, Reads}
 use Rattle.law_cells.proofs.Calls.{shown_any, shown_reads}
-use Rattle.law_cells.proofs.Forms.{fits_syntax}
 use Rattle.law_cells.proofs.Outcomes.{at_span, mapped, mapped_some}
 use Rattle.law_cells.proofs.Plain.{reads_plain}
 use Rattle.law_cells.proofs.Streams.{stream-trees}
-use Rattle.law_cells.proofs.Values.{are_faults, is_opt, is_span, is_struct, is_unit, is_variant}
 
 -- ---- metas that are kept
 
@@ -38,7 +37,7 @@ IsListedMeta it = IsListed (nested.Meta it)
 -- the tokens of a meta that is an item
 pub is_meta : (it : Meta) → IsListedMeta it → IsMeta (syntax meta_tokens it)
 is_meta it listed =
-    fits_syntax _ _ (it, record { tokens = listed.tokens; items = listed.items; item = nested.Meta it; are_items = listed.are_items; is_among = listed.is_among; is_node = refl }, stream-trees (meta_tokens it))
+    is_syntax _ _ (it, record { tokens = listed.tokens; items = listed.items; item = nested.Meta it; are_items = listed.are_items; is_among = listed.is_among; is_node = refl }, stream-trees (meta_tokens it))
 
 -- ---- a unit
 

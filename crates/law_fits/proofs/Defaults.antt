@@ -36,11 +36,12 @@ use Rattle.law_cells.specs.Forms.{Form, IsHostOf, IsListOf, IsMapOf, IsOptOf, Is
 use Rattle.machine_std.specs.HostSays.{HostSays, erased_decls}
 use Rattle.machine_std.specs.Lawful.{IsLawful}
 use Rattle.machine_std.specs.Made.{named_type}
-use Rattle.machine_std.specs.DefaultsFit.{IsSpannedOf, fits_empty, fits_inherit, fits_no_entries, fits_none, fits_spanned, fits_unit, given_fits, leaf_fits, no_hash_keys, no_tree_keys}
+use Rattle.machine_std.specs.DefaultsFit.{IsSpannedOf, fits_empty, fits_inherit, fits_no_entries, fits_none, fits_spanned, given_fits, leaf_fits, no_hash_keys, no_tree_keys}
 use Rattle.machine_std.specs.Rests.{around_layer}
 use Rattle.meaning_core.specs.Convert.{decl_default, declared_default, default, default_said}
 use Rattle.meaning_core.specs.Machine.{setting_of}
 use Rattle.machine_fit.specs.Fits.{field_fits, has_default}
+use Rattle.law_cells.proofs.Values.{is_unit}
 use Rattle.law_fits.specs.Sound.{AreNamed}
 use Rattle.law_fits.proofs.Bare.{bare_fits}
 use Rattle.law_fits.proofs.Below.{IsBelow, below_is_among, field_names, named_fits}
@@ -160,7 +161,7 @@ module _ (host : HostSays) (program : Program) where
             → (type : Type') (it : Head Type') → head_of names type ≡ it → InHead (IsBelow host program here) (NamesSuch (IsBelow host program here) names level) it
             → SettledHead (IsSettled names level) it → (made : Value) → made_of (row_by (row_at names level) type it) ≡ Some made
             → HeadForm (FitsBelow program.decls here) (λ inner. FitsHere inner level) type it made
-        head_fits level inside type head.Unit is such settled made e = given_fits IsUnit value.Unit made (sym made_unit ∙ e) fits_unit
+        head_fits level inside type head.Unit is such settled made e = given_fits IsUnit value.Unit made (sym made_unit ∙ e) is_unit
         head_fits level inside type (head.Leaf it) is such settled made e = leaf_fits it made (sym (made_leaf it) ∙ e)
         head_fits level inside type (head.Around it inner) is such settled made e =
             around_fits it (made_of (row_at names level inner)) (FitsHere inner level) (IsSettled names level inner) settled (inside inner such) made (sym (made_around it (row_at names level inner)) ∙ e)

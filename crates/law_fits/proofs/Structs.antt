@@ -20,7 +20,6 @@ use Rattle.codegen_program.specs.declared.arm.PostfixTransform.{PostfixTransform
 use Rattle.codegen_program.specs.declared.program.Program.{Program}
 use Rattle.machine_value.specs.declared.value.Value.{Value as Datum, out-Value}
 use Rattle.machine_value.specs.declared.value.Value.TheOpen.{Value-F}
-use Rattle.machine_value.specs.declared.value.Value.TheVariants as value
 use Rattle.machine_value.specs.Members.{labelled, layer_member, member, no_value, struct_of}
 use Rattle.law_cells.specs.Decls.{Fits, FitsAmong, FitsBelow, FitsBody, FitsDecl, FitsType, HasFields, IsMemberOf, decl_names}
 use Rattle.law_cells.specs.Forms.{Form, IsStructOf, struct_layer}
@@ -29,7 +28,7 @@ use Rattle.machine_std.specs.Lawful.{IsLawful}
 use Rattle.machine_std.specs.Made.{named_type}
 use Rattle.machine_std.specs.Seen.{ValueSeen}
 use Rattle.law_cells.specs.Use.TheVariants as use_at
-use Rattle.law_cells.proofs.Fitting.{opened}
+use Rattle.law_cells.proofs.Values.{is_struct}
 use Rattle.meaning_core.specs.Convert.{Earlier, default}
 use Rattle.meaning_core.specs.Machine.{setting_of}
 use Rattle.meaning_core.specs.Reading.{transform_use, transformed}
@@ -104,9 +103,8 @@ module _ (host : HostSays) (program : Program) (decl : Decl) (reads : Bool) (ear
   built_fits : (members : List (Text × Datum)) → AreMembers program decl.number sound.named members → FitsThis (struct_of decl.name members)
   built_fits members h =
       let name : Text = ident_text sound.declared.ident in
-      let layer : Value-F Datum = Value-F.Struct decl.name style.Struct members in
-      let opens : out-Value (struct_of decl.name members) ≡ layer = opened (struct_of decl.name members) layer (value.rolls-Struct decl.name style.Struct members) in
-      let fit : IsStruct program decl.number name sound.named (struct_of decl.name members) = subst (struct_layer name style.Struct (AreMembers program decl.number sound.named)) (sym opens) (sym sound.name, refl, h) in
+      let fit : IsStruct program decl.number name sound.named (struct_of decl.name members) =
+      subst (λ name. IsStruct program decl.number name sound.named (struct_of decl.name members)) (sym sound.name) (is_struct decl.name style.Struct (AreMembers program decl.number sound.named) members h) in
       subst (λ (it : Type 0). it) (sym (struct_is (struct_of decl.name members))) fit
 
   struct_fits : (whole : Datum) (entries : List Entry) → All (IsGiven reads) (items entries) → HaveFallbacks program decl.number decl.default whole decl.fields → OnValue FitsThis (built_struct setting earlier decl whole entries)

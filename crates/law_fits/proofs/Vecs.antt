@@ -15,14 +15,14 @@ use Rattle.machine_rows.specs.Heads.{bare_name}
 use Rattle.machine_rows.specs.Items.{vec_item}
 use Rattle.machine_rows.specs.Rows.{element_of, row_at, row_of}
 use Rattle.machine_value.specs.declared.value.Value.{Value, out-Value}
-use Rattle.machine_value.specs.declared.value.Value.TheOpen.{Value-F}
 use Rattle.machine_value.specs.declared.value.Value.TheVariants as value
 use Rattle.law_cells.specs.Decls.{FitsElements, FitsType, decl_names}
 use Rattle.law_cells.specs.Fits.{FitsRow}
-use Rattle.law_cells.specs.Forms.{Form, IsListOf, list_layer}
+use Rattle.law_cells.specs.Forms.{Form, IsListOf}
 use Rattle.machine_std.specs.HostSays.{HostSays}
 use Rattle.law_cells.specs.Leaves.{FitsItem}
-use Rattle.law_cells.proofs.Fitting.{fits_at, opened}
+use Rattle.law_cells.proofs.Fitting.{fits_at}
+use Rattle.law_cells.proofs.Values.{is_list}
 use Rattle.machine_fit.specs.Fits.{layer_fits, row_fits, type_fits}
 use Rattle.law_fits.proofs.VecItems.{element_item, list_weaker}
 use Rattle.law_fits.proofs.VecRows.{vec_row_is}
@@ -62,5 +62,4 @@ element_list host program here type element values FitsNumber e fits all =
     let decls : List Ident = decl_names program.decls in
     let FitsOne : Form = FitsRow FitsNumber (row_of decls element) in
     let each : All FitsOne values = All-weaker (FitsType FitsNumber decls element) FitsOne (λ it h. vec_row host program here element it fits FitsNumber h) values all in
-    let list : IsListOf FitsOne (value.List values) = subst (list_layer FitsOne) (sym (opened (value.List values) (Value-F.List values) (value.rolls-List values))) each in
-    inr (subst (λ found. FitsElements FitsNumber decls found (value.List values)) (sym e) list)
+    inr (subst (λ found. FitsElements FitsNumber decls found (value.List values)) (sym e) (is_list FitsOne values each))

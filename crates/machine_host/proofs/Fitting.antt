@@ -3,8 +3,7 @@ use Rattle.std.proofs.Common.{◌≡◌, ◌∙◌, ap, refl, subst, sym, ℕ}
 use Rattle.machine_rows.specs.declared.row.Row.{Row, roll-Row}
 use Rattle.machine_rows.specs.declared.row.Row.TheOpen.{Row-F}
 use Rattle.machine_rows.specs.declared.row.Row.TheFolds.{map-Row, rec-roll-Row}
-use Rattle.machine_value.specs.declared.value.Value.{Value, out-Value, roll-Value, out-roll-Value}
-use Rattle.machine_value.specs.declared.value.Value.TheOpen.{Value-F}
+use Rattle.machine_value.specs.declared.value.Value.{Value}
 use Rattle.machine_host.specs.Fits.{FitsRow, FitsLayer}
 use Rattle.machine_host.specs.Forms.{Form}
 
@@ -31,11 +30,7 @@ fits_layer FitsDecl layer = rec-roll-Row Form (λ X inside Inner layer. FitsLaye
 at_layer : (FitsDecl : ℕ → Form) (found it : Row) (layer : Row-F Row) → found ≡ it → roll-Row layer ≡ it → FitsRow FitsDecl found ≡ FitsLayer FitsDecl layer (FitsRow FitsDecl)
 at_layer FitsDecl found it layer e rolled = ap (FitsRow FitsDecl) (e ∙ sym rolled) ∙ fits_layer FitsDecl layer
 
--- a value of a layer, as it is opened
-pub opened : (it : Value) (layer : Value-F Value) → roll-Value layer ≡ it → out-Value it ≡ layer
-opened it layer rolled = ap out-Value (sym rolled) ∙ out-roll-Value layer
-
--- what fits, of a row and a value that are opened
+-- what fits, of a row that is opened
 pub fits_at : (FitsDecl : ℕ → Form) (found it : Row) (layer : Row-F Row) (value : Value) → found ≡ it → roll-Row layer ≡ it → FitsLayer FitsDecl layer (FitsRow FitsDecl) value → FitsRow FitsDecl found value
 fits_at FitsDecl found it layer value e rolled h =
     let P : Form → Type 0 = λ Fits. Fits value in

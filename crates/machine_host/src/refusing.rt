@@ -23,6 +23,7 @@ pub struct RefusingHost {
 }
 
 impl RefusingHost {
+    /// The host that knows no function and no type.
     pub fn new(alloc: Global) -> Mem<RefusingHost> {
         let text = named_type(alloc, "String")?;
         Ok(RefusingHost { text })

@@ -33,7 +33,6 @@ use Rattle.machine_rows.specs.declared.row.Row.TheVariants as row
 use Rattle.machine_rows.specs.declared.wrapper.Wrapper.{Wrapper}
 use Rattle.machine_rows.specs.declared.wrapper.Wrapper.TheVariants as wrapper
 use Rattle.machine_value.specs.declared.value.Value.{Value}
-use Rattle.machine_value.specs.declared.value.Value.TheOpen.{Value-F}
 use Rattle.machine_value.specs.declared.value.Value.TheVariants as value
 use Rattle.machine_cells.specs.Defaults.{layer_default, leaf_default}
 use Rattle.machine_cells.specs.Values.{given, ignored, natural, spanned}
@@ -43,11 +42,12 @@ use Rattle.machine_rows.specs.declared.wrapper.HashKey.TheVariants as hash
 use Rattle.machine_rows.specs.declared.wrapper.TreeKey.{TreeKey}
 use Rattle.machine_rows.specs.declared.wrapper.TreeKey.TheVariants as tree
 use Rattle.machine_host.specs.Fits.{FitsRow, HashKeys, IsOverrideOf, TreeKeys}
-use Rattle.machine_host.specs.Forms.{DontFall, Form, HasNone, HasTwo, IsBool, IsChar, IsInt, IsListOf, IsMapOf, IsOptOf, IsSpan, IsStructOf, IsText, IsUnit, bool_layer, char_layer, int_layer, list_layer, map_layer, opt_layer, span_layer, struct_layer, text_layer, unit_layer, variant_layer}
+use Rattle.machine_host.specs.Forms.{DontFall, Form, HasNone, HasTwo, IsBool, IsChar, IsInt, IsListOf, IsMapOf, IsOptOf, IsSpan, IsStructOf, IsText, IsUnit, Keys}
 use Rattle.machine_host.specs.Integers.{InRange}
 use Rattle.machine_host.specs.Leaves.{FitsItem, FitsLeaf}
 use Rattle.machine_host.specs.Nodes.{IsListed, IsListedPath, IsSetItem}
-use Rattle.machine_host.proofs.Fitting.{fits_at, opened}
+use Rattle.machine_host.proofs.Fitting.{fits_at}
+use Rattle.machine_host.proofs.Values.{is_bool, is_char, is_int, is_list, is_map, is_opt, is_span, is_struct, is_text, is_unit, is_variant}
 use Rattle.machine_std.specs.Defaults.{decl_default, default_below, each_of, member_default, named_in, named_of, none_of_host, struct_default, type_default, with_first}
 use Rattle.machine_std.specs.DefaultRows.{default, default-around, default-by}
 use Rattle.machine_std.specs.Rests.{around_layer}
@@ -64,29 +64,14 @@ some-none e = false≢true (ap is_some e)
 pub given_fits : (Fits : Form) (a it : Value) → Some a ≡ Some it → Fits a → Fits it
 given_fits Fits a it e h = subst Fits (same_some e) h
 
-pub fits_unit : IsUnit value.Unit
-fits_unit = subst unit_layer (sym (opened value.Unit Value-F.Unit value.rolls-Unit)) tt
-
-pub fits_text : (text : Text) → IsText (value.Text text)
-fits_text text = subst text_layer (sym (opened (value.Text text) (Value-F.Text text) (value.rolls-Text text))) tt
-
-pub fits_bool : (b : Bool) → IsBool (value.Bool b)
-fits_bool b = subst bool_layer (sym (opened (value.Bool b) (Value-F.Bool b) (value.rolls-Bool b))) tt
-
-pub fits_char : (c : ℕ) → IsChar (value.Char c)
-fits_char c = subst char_layer (sym (opened (value.Char c) (Value-F.Char c) (value.rolls-Char c))) tt
-
-pub fits_natural : (InRange : Bool → ℕ → Type 0) (n : ℕ) → InRange false n → IsInt InRange (natural n)
-fits_natural InRange n h = subst (int_layer InRange) (sym (opened (natural n) (Value-F.Int false n) (value.rolls-Int false n))) h
-
 pub fits_none : (Fits : Form) → IsOptOf Fits (value.Opt None)
-fits_none Fits = subst (opt_layer Fits) (sym (opened (value.Opt None) (Value-F.Opt None) (value.rolls-Opt None))) tt
+fits_none Fits = is_opt Fits None tt
 
 pub fits_empty : (Fits : Form) → IsListOf Fits (value.List [])
-fits_empty Fits = subst (list_layer Fits) (sym (opened (value.List []) (Value-F.List []) (value.rolls-List []))) (All-nil Fits)
+fits_empty Fits = is_list Fits [] (All-nil Fits)
 
-pub fits_no_entries : (AreKeys : List Text → Type 0) (Fits : Form) → AreKeys [] → IsMapOf AreKeys Fits (value.Map [])
-fits_no_entries AreKeys Fits h = subst (map_layer AreKeys Fits) (sym (opened (value.Map []) (Value-F.Map []) (value.rolls-Map []))) (h, All-nil (λ entry. Fits entry.1))
+pub fits_no_entries : (AreKeys : Keys) (Fits : Form) → AreKeys [] → IsMapOf AreKeys Fits (value.Map [])
+fits_no_entries AreKeys Fits h = is_map AreKeys Fits [] h (All-nil (λ entry. Fits entry.1))
 
 -- the texts of no keys don't fall
 pub no_keys : DontFall []
@@ -103,29 +88,16 @@ unfolding IsStrictlySortedBy
 no_tree_keys tree.String = tt
 no_tree_keys tree.Ident = no_keys
 
-pub fits_span : IsSpan (value.Span (Some CallSite))
-fits_span = subst span_layer (sym (opened (value.Span (Some CallSite)) (Value-F.Span (Some CallSite)) (value.rolls-Span (Some CallSite)))) tt
-
-pub fits_ignored : IsStructOf (codes "Ignored") style.Unit HasNone ignored
-fits_ignored = subst (struct_layer (codes "Ignored") style.Unit HasNone) (sym (opened ignored (Value-F.Struct (codes "Ignored") style.Unit []) (value.rolls-Struct (codes "Ignored") style.Unit []))) (refl, refl, tt)
-
 pub fits_inherit : (Fits : Form) → IsOverrideOf Fits (given Inherit)
-fits_inherit Fits =
-    inl (subst (variant_layer (codes "Override") (codes "Inherit") style.Unit HasNone)
-    (sym (opened (given Inherit) (Value-F.Variant (codes "Override") (codes "Inherit") style.Unit []) (value.rolls-Variant (codes "Override") (codes "Inherit") style.Unit []))) (refl, refl, refl, tt))
+fits_inherit Fits = inl (is_variant (codes "Override") (codes "Inherit") style.Unit HasNone [] tt)
 
 abbrev pub IsSpannedOf : Form → Form
 IsSpannedOf Fits = IsStructOf (codes "SpannedValue") style.Struct (HasTwo (codes "value") Fits (codes "span") IsSpan)
 
 pub fits_spanned : (Fits : Form) (it : Value) → Fits it → IsSpannedOf Fits (spanned it CallSite)
 fits_spanned Fits it h =
-    let members : List (Text × Value) = (codes "value", it) ∷ (codes "span", value.Span (Some CallSite)) ∷ [] in
-    subst (struct_layer (codes "SpannedValue") style.Struct (HasTwo (codes "value") Fits (codes "span") IsSpan))
-    (sym (opened (spanned it CallSite) (Value-F.Struct (codes "SpannedValue") style.Struct members) (value.rolls-Struct (codes "SpannedValue") style.Struct members))) (refl, refl, ((refl, h), (refl, fits_span)))
-
-pub fits_struct : (name : Text) (HasMembers : List (Text × Value) → Type 0) (members : List (Text × Value)) → HasMembers members → IsStructOf name style.Struct HasMembers (value.Struct name style.Struct members)
-fits_struct name HasMembers members h =
-    subst (struct_layer name style.Struct HasMembers) (sym (opened (value.Struct name style.Struct members) (Value-F.Struct name style.Struct members) (value.rolls-Struct name style.Struct members))) (refl, refl, h)
+    is_struct (codes "SpannedValue") style.Struct (HasTwo (codes "value") Fits (codes "span") IsSpan) ((codes "value", it) ∷ (codes "span", value.Span (Some CallSite)) ∷ [])
+    ((refl, h), (refl, is_span (Some CallSite)))
 
 -- ---- types of the table
 
@@ -159,17 +131,17 @@ one_in_range integer.U128 = lit< tt
 one_in_range integer.Usize = lit< tt
 
 pub leaf_fits : (it : Leaf) (made : Value) → leaf_default it ≡ Some made → FitsLeaf it made
-leaf_fits leaf.Bool made e = given_fits IsBool (value.Bool false) made e (fits_bool false)
-leaf_fits leaf.Char made e = given_fits IsChar (value.Char 0) made e (fits_char 0)
-leaf_fits leaf.String made e = given_fits IsText (value.Text []) made e (fits_text [])
-leaf_fits leaf.PathBuf made e = given_fits IsText (value.Text []) made e (fits_text [])
-leaf_fits (leaf.Integer it) made e = given_fits (IsInt (InRange it)) (natural 0) made e (fits_natural (InRange it) 0 (zero_in_range it))
+leaf_fits leaf.Bool made e = given_fits IsBool (value.Bool false) made e (is_bool false)
+leaf_fits leaf.Char made e = given_fits IsChar (value.Char 0) made e (is_char 0)
+leaf_fits leaf.String made e = given_fits IsText (value.Text []) made e (is_text [])
+leaf_fits leaf.PathBuf made e = given_fits IsText (value.Text []) made e (is_text [])
+leaf_fits (leaf.Integer it) made e = given_fits (IsInt (InRange it)) (natural 0) made e (is_int (InRange it) false 0 (zero_in_range it))
 leaf_fits leaf.Flag made e = given_fits (IsOptOf IsSpan) (value.Opt None) made e (fits_none IsSpan)
 leaf_fits (leaf.Vec it) made e = given_fits (IsListOf (FitsItem it)) (value.List []) made e (fits_empty (FitsItem it))
 leaf_fits (leaf.HashSet it) made e = given_fits (IsListOf (IsSetItem it)) (value.List []) made e (fits_empty (IsSetItem it))
 leaf_fits leaf.PathList made e = given_fits (IsListOf IsListedPath) (value.List []) made e (fits_empty IsListedPath)
 leaf_fits (leaf.Punctuated it) made e = given_fits (IsListOf (IsListed it)) (value.List []) made e (fits_empty (IsListed it))
-leaf_fits leaf.Ignored made e = given_fits (IsStructOf (codes "Ignored") style.Unit HasNone) ignored made e fits_ignored
+leaf_fits leaf.Ignored made e = given_fits (IsStructOf (codes "Ignored") style.Unit HasNone) ignored made e (is_struct (codes "Ignored") style.Unit HasNone [] tt)
 leaf_fits _ made e = absurd (some-none e)
 
 module _ (declared : ℕ → Option Value) (FitsNumber : ℕ → Form) (fits : (number : ℕ) (made : Value) → declared number ≡ Some made → FitsNumber number made) where
@@ -200,7 +172,7 @@ module _ (declared : ℕ → Option Value) (FitsNumber : ℕ → Form) (fits : (
   pub head_fits : (names : List Ident) (level : ℕ) → ((ty : Type') (made : Value) → default declared (row_at names level ty) ≡ Some made → FitsRow FitsNumber (row_at names level ty) made)
       → (ty : Type') (it : Head Type') (made : Value) → default declared (row_by (row_at names level) ty it) ≡ Some made → FitsRow FitsNumber (row_by (row_at names level) ty it) made
   head_fits names level inside ty head.Unit made e =
-      fits_at FitsNumber row.Unit row.Unit Row-F.Unit made refl row.rolls-Unit (given_fits IsUnit value.Unit made (sym (default-by declared (row_at names level) ty head.Unit) ∙ e) fits_unit)
+      fits_at FitsNumber row.Unit row.Unit Row-F.Unit made refl row.rolls-Unit (given_fits IsUnit value.Unit made (sym (default-by declared (row_at names level) ty head.Unit) ∙ e) is_unit)
   head_fits names level inside ty (head.Leaf it) made e =
       fits_at FitsNumber (row.Leaf it) (row.Leaf it) (Row-F.Leaf it) made refl (row.rolls-Leaf it) (leaf_fits it made (sym (default-by declared (row_at names level) ty (head.Leaf it)) ∙ e))
   head_fits names level inside ty (head.Around it inner) made e =
@@ -241,7 +213,7 @@ module _ (default_of : Type' → Option Value) (FitsIn : Type' → Form) (fits :
       → (made : Value) → option_map (value.Struct (ident_text ident) style.Struct) found ≡ Some made → IsStructOf (ident_text ident) style.Struct (λ members. AllZip (IsMemberOf FitsIn) named members) made
   struct_fits ident named None inside made e = absurd (some-none e)
   struct_fits ident named (Some members) inside made e =
-      given_fits (IsStructOf (ident_text ident) style.Struct (λ members. AllZip (IsMemberOf FitsIn) named members)) (value.Struct (ident_text ident) style.Struct members) made e (fits_struct (ident_text ident) (λ members. AllZip (IsMemberOf FitsIn) named members) members (inside members refl))
+      given_fits (IsStructOf (ident_text ident) style.Struct (λ members. AllZip (IsMemberOf FitsIn) named members)) (value.Struct (ident_text ident) style.Struct members) made e (is_struct (ident_text ident) style.Struct (λ members. AllZip (IsMemberOf FitsIn) named members) members (inside members refl))
 
   body_fits : (ident : Ident) (it : «Data») (made : Value) → option_and_then (struct_default default_of ident) (named_in it) ≡ Some made → FitsBody FitsIn ident it made
   body_fits ident (body.Struct it) made e = by it.fields e

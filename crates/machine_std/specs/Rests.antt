@@ -1,5 +1,5 @@
 -- The default of a type by its outermost name, and what it rests on.
-use Rattle.std.specs.Prelude.{ℕ, Bool, true, false, Option, None, is_some}
+use Rattle.std.specs.Prelude.{ℕ, Bool, true, false, Option, is_some}
 use Rattle.node_expr.specs.declared.ty.«Type».{«Type» as Type'}
 use Rattle.machine_rows.specs.declared.head.Head.{Head}
 use Rattle.machine_rows.specs.declared.head.Head.TheVariants as head

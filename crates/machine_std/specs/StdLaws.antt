@@ -36,7 +36,7 @@ use Rattle.machine_value.specs.declared.value.Value.TheVariants as value
 use Rattle.machine_cells.specs.Values.{natural}
 use Rattle.machine_host.specs.Decls.{Fits, FitsAmong, decl_names}
 use Rattle.machine_host.specs.Fits.{layer_name, type_name}
-use Rattle.machine_host.specs.Forms.{Form, IsHostOf, host_layer}
+use Rattle.machine_host.specs.Forms.{Form, IsHostOf}
 use Rattle.machine_host.specs.Integers.{InRange}
 use Rattle.machine_host.specs.Lawful.{IsLawful, IsProper}
 use Rattle.machine_host.specs.Leaves.{FitsLeaf}
@@ -46,14 +46,15 @@ use Rattle.machine_host.specs.declared.place.Use.{Use}
 use Rattle.machine_host.specs.declared.place.Use.TheVariants as use_at
 use Rattle.machine_host.specs.declared.said.Said.{Said}
 use Rattle.machine_host.specs.declared.said.Said.TheVariants as said
-use Rattle.machine_host.proofs.Fitting.{fits_at, opened}
+use Rattle.machine_host.proofs.Fitting.{fits_at}
+use Rattle.machine_host.proofs.Values.{is_host, is_int, is_text}
 use Rattle.machine_std.specs.Defaults.{declared_in, default_among}
 use Rattle.machine_std.specs.Functions.{Offer, chosen, head_leaf, leaf_in, nonempty_said, offer_by, offer_of, offered_at, on_layer, on_text, path_in, text_said, unasked}
 use Rattle.machine_std.specs.StdSays.{answered, is_tag, std_says, tag_outcome, tag_said}
 use Rattle.machine_std.specs.Texts.{trimmed}
 use Rattle.machine_std.specs.declared.function.Function.{Function}
 use Rattle.machine_std.specs.declared.function.Function.TheVariants as function
-use Rattle.machine_std.specs.DefaultsFit.{below_fits, fits_natural, fits_text, one_in_range, same_some, some-none}
+use Rattle.machine_std.specs.DefaultsFit.{below_fits, one_in_range, same_some, some-none}
 
 -- ---- what functions answer
 
@@ -62,11 +63,11 @@ module _ (Absent : Type 0) where
   Proper it said = IsProper (FitsLeaf it) Absent said
 
   text_proper : (text : Text) → Proper leaf.String (text_said text)
-  text_proper text = fits_text text
+  text_proper text = is_text text
 
   nonempty_proper : (text : Text) → Proper leaf.String (nonempty_said text)
   nonempty_proper [] = tt
-  nonempty_proper (first ∷ more) = fits_text (first ∷ more)
+  nonempty_proper (first ∷ more) = is_text (first ∷ more)
 
   layer_proper : (answer : Text → Said) → ((text : Text) → Proper leaf.String (answer text)) → (layer : Value-F Datum) → Proper leaf.String (on_layer answer layer)
   layer_proper answer proper (Value-F.Text text) = proper text
@@ -77,7 +78,7 @@ module _ (Absent : Type 0) where
   on_text_proper answer proper _ = tt
 
   count_proper : (n : ℕ) (b : Bool) → nat_lt n (2 ^ 64) ≡ b → Proper (leaf.Integer integer.Usize) (if b then said.Given (natural n) else unasked)
-  count_proper n true e = fits_natural (InRange integer.Usize) n (ltb-true n (2 ^ 64) e)
+  count_proper n true e = is_int (InRange integer.Usize) false n (ltb-true n (2 ^ 64) e)
   count_proper n false e = tt
 
   answer_proper : (it : Function) (kind : Leaf) (arg : SeenArg) → (offer_of it).gives kind ≡ true → Proper kind ((offer_of it).answer arg)
@@ -87,12 +88,12 @@ module _ (Absent : Type 0) where
   answer_proper function.Nonempty _ arg h = absurd (false≢true h)
   answer_proper function.Star leaf.String arg h = text_proper (codes "*")
   answer_proper function.Star _ arg h = absurd (false≢true h)
-  answer_proper function.One (leaf.Integer it) arg h = fits_natural (InRange it) 1 (one_in_range it)
+  answer_proper function.One (leaf.Integer it) arg h = is_int (InRange it) false 1 (one_in_range it)
   answer_proper function.One _ arg h = absurd (false≢true h)
-  answer_proper function.PathText leaf.String (MetaSeen it) h = fits_text _
+  answer_proper function.PathText leaf.String (MetaSeen it) h = is_text _
   answer_proper function.PathText leaf.String _ h = tt
   answer_proper function.PathText _ arg h = absurd (false≢true h)
-  answer_proper function.IdentText leaf.String (IdentSeen it) h = fits_text _
+  answer_proper function.IdentText leaf.String (IdentSeen it) h = is_text _
   answer_proper function.IdentText leaf.String _ h = tt
   answer_proper function.IdentText _ arg h = absurd (false≢true h)
   answer_proper function.Count (leaf.Integer integer.Usize) (AttrsSeen attrs) h = count_proper (length attrs) (nat_lt (length attrs) (2 ^ 64)) refl
@@ -199,7 +200,7 @@ tag_name : (ty : Type') → IsTrue (is_tag ty) → type_name ty ≡ codes "Tag"
 tag_name ty h = layer_is_tag (out-Type ty) h
 
 tag_proper : (name : Text) → name ≡ codes "Tag" → (outcome : Outcome Text) → IsProper (IsHostOf name) ⊥ (tag_said outcome)
-tag_proper name e (Value text) = subst (host_layer name) (sym (opened (value.Host (codes "Tag") text) (Value-F.Host (codes "Tag") text) (value.rolls-Host (codes "Tag") text))) (sym e)
+tag_proper name e (Value text) = subst (λ name. IsHostOf name (value.Host (codes "Tag") text)) (sym e) (is_host (codes "Tag") text)
 tag_proper name e (Faults fault more) = tt
 
 pub std_lawful : IsLawful std_says

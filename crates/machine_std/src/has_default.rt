@@ -24,9 +24,10 @@ use crate::marks::{is_marked, mark};
 use machine_rows::{Head, Leaf, Wrapper, head_of};
 use node_core::{DeriveInput, Field, Type};
 
-/// The words of a short list of marks, and those of a long one. A word marks 32 declarations.
+/// The words of a short list of marks, which is cheap to make. A word marks 32 declarations.
 const FEW: usize = 32;
 
+/// The words of a long one: as many as an input has declarations at most.
 const MANY: usize = 65_536;
 
 /// What the default of a type rests on.
