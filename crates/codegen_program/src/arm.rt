@@ -51,6 +51,7 @@ pub struct PostfixTransform {
 }
 
 impl PostfixTransform {
+    /// The function that the option of this name gives.
     pub fn new(transformer: Ident, function: Path) -> PostfixTransform
         ensures { result ≡ record { transformer = transformer; function = function } }
     {

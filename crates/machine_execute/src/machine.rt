@@ -12,9 +12,9 @@ use crate::element::Element;
 use crate::faults::again;
 use crate::given::Given;
 use crate::outcome::Outcome;
-use crate::units::{Context, Earlier, is_from_meta, read_declared, read_list, run_func};
+use crate::units::{Context, Earlier, read_declared, read_list, run_func};
 use base_core::Mem;
-use codegen_program::{FuncName, Program, Unit};
+use codegen_program::{Derive, FuncName, Program, Unit};
 use error_core::Result;
 use machine_read::{Call, Declared, Host, NestedMeta, Reader, named_type};
 use machine_value::Value;
@@ -92,7 +92,7 @@ fn run_nested<H: Host>(
 ) -> Mem<Option<Outcome>>
     ensures { IfOk result (λ found. found ≡ unit_on (H.says context.now.host.now) context.now.program.now unit.now (OnNested item.now)) }
 {
-    if !is_from_meta(unit.derive) {
+    if unit.derive != Derive::FromMeta {
         return Ok(None);
     }
     let outcome = read_nested(context, unit, item)?;

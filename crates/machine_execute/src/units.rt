@@ -136,21 +136,11 @@ pub(crate) fn meta_unit(units: &[Unit], number: usize) -> Option<&Unit>
     ensures { option_copied result ≡ spec.meta_unit units.now number }
 {
     for unit in units {
-        if unit.decl as usize == number && is_from_meta(unit.derive) {
+        if unit.decl as usize == number && unit.derive == Derive::FromMeta {
             return Some(unit);
         }
     }
     None
-}
-
-/// Whether items are read by it.
-pub(crate) fn is_from_meta(derive: Derive) -> bool
-    ensures { result ≡ spec.is_from_meta derive }
-{
-    match derive {
-        Derive::FromMeta => true,
-        _ => false,
-    }
 }
 
 /// The outcome of a unit's function, which may read the declarations of lower numbers. None where it has none.

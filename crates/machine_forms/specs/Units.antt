@@ -1,13 +1,12 @@
 -- The units of a declaration.
-use Rattle.std.specs.Prelude.{◌≡◌, ◌<◌, ◌+◌, ℕ, Bool, true, false, cond, ◌==◌, ◌&&◌, ◌||◌, List, [], ◌∷◌, ◌++◌, length, get_or, map, filter, slice_get, Option, Some, None}
+use Rattle.std.specs.Prelude.{◌≡◌, ◌<◌, ◌+◌, ℕ, Bool, false, cond, ◌==◌, ◌&&◌, ◌||◌, List, [], ◌∷◌, ◌++◌, length, get_or, map, filter, slice_get, Option, Some, None}
 use Rattle.std.specs.Borrow.{Bor}
 use Rattle.std.specs.List.{list_any}
+pub use Rattle.codegen_program.specs.Traits.{is_from_meta, is_input, same_derive}
 use Rattle.codegen_program.specs.declared.program.Derive.{Derive}
-use Rattle.codegen_program.specs.declared.program.Derive.TheVariants as derives
 use Rattle.codegen_program.specs.declared.program.Program.{Program}
 use Rattle.codegen_program.specs.declared.program.«Unit».{«Unit» as Unit'}
 use Rattle.node_core.specs.declared.derive.DeriveInput.{DeriveInput}
-use Rattle.machine_steps.specs.Machine.{is_from_meta}
 use Rattle.machine_forms.specs.Asks.{Ask, joined, unit_asks}
 
 abbrev pub is_of : ℕ → Unit' → Bool
@@ -37,26 +36,13 @@ flag_at (Some flag) = flag
 abbrev pub is_item : Program → ℕ → Bool
 is_item program number = flag_at (slice_get (item_flags program) number)
 
-abbrev pub is_input : Derive → Bool
-is_input derives.FromDeriveInput = true
-is_input _ = false
-
 -- items of a text are read as the declaration of this number
 abbrev pub is_receiver : List Unit' → ℕ → Bool
 is_receiver units number = list_any (λ unit. is_of number unit && is_input unit.derive) units
 
-abbrev pub same_derive : Derive → Derive → Bool
-same_derive derives.FromMeta derives.FromMeta = true
-same_derive derives.FromAttributes derives.FromAttributes = true
-same_derive derives.FromDeriveInput derives.FromDeriveInput = true
-same_derive derives.FromField derives.FromField = true
-same_derive derives.FromTypeParam derives.FromTypeParam = true
-same_derive derives.FromVariant derives.FromVariant = true
-same_derive _ _ = false
-
 -- one of the units is of the derive
 abbrev pub has_derive : Derive → List Unit' → Bool
-has_derive derive units = list_any (λ unit. same_derive derive unit.derive) units
+has_derive derive units = list_any (λ unit. same_derive unit.derive derive) units
 
 -- two of the units are of one derive
 abbrev pub has_twins : List Unit' → Bool

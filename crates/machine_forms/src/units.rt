@@ -1,7 +1,6 @@
 //! The units of a declaration.
 
 ghost use Rattle.std.specs.Prelude.{◌≡◌, [], IfOk, OnOk, length, map, replicate};
-ghost use Rattle.machine_steps.specs.Machine.{is_from_meta as is_meta};
 ghost use Rattle.machine_forms.specs.Asks.{seen};
 ghost use Rattle.machine_forms.specs.Units as spec;
 ghost use Rattle.machine_forms.specs.Units.{Adds, AreGroups};
@@ -71,10 +70,10 @@ pub fn item_flags(alloc: Global, program: &Program, groups: &[Items<&Unit>]) -> 
 
 /// Whether one of the units reads items.
 fn reads_items(units: &[&Unit]) -> bool
-    ensures { result ≡ list_any (λ unit. is_meta unit.derive) (map (λ unit. unit.now) units.now) }
+    ensures { result ≡ list_any (λ unit. spec.is_from_meta unit.derive) (map (λ unit. unit.now) units.now) }
 {
     for unit in units {
-        if is_from_meta(unit.derive) {
+        if unit.derive == Derive::FromMeta {
             return true;
         }
     }
@@ -85,25 +84,7 @@ fn reads_items(units: &[&Unit]) -> bool
 pub fn is_receiver(units: &[Unit], number: usize) -> bool
     ensures { result ≡ spec.is_receiver units.now number }
 {
-    units.iter().any(|unit| unit.decl as usize == number && is_input(unit.derive))
-}
-
-fn is_from_meta(derive: Derive) -> bool
-    ensures { result ≡ is_meta derive }
-{
-    match derive {
-        Derive::FromMeta => true,
-        _ => false,
-    }
-}
-
-fn is_input(derive: Derive) -> bool
-    ensures { result ≡ spec.is_input derive }
-{
-    match derive {
-        Derive::FromDeriveInput => true,
-        _ => false,
-    }
+    units.iter().any(|unit| unit.decl as usize == number && unit.derive == Derive::FromDeriveInput)
 }
 
 /// Whether two of the units are of one derive.
@@ -123,23 +104,9 @@ fn has_derive(units: &[&Unit], derive: Derive) -> bool
     ensures { result ≡ spec.has_derive derive (map (λ unit. unit.now) units.now) }
 {
     for unit in units {
-        if is_same(derive, unit.derive) {
+        if unit.derive == derive {
             return true;
         }
     }
     false
-}
-
-fn is_same(one: Derive, other: Derive) -> bool
-    ensures { result ≡ spec.same_derive one other }
-{
-    match (one, other) {
-        (Derive::FromMeta, Derive::FromMeta) => true,
-        (Derive::FromAttributes, Derive::FromAttributes) => true,
-        (Derive::FromDeriveInput, Derive::FromDeriveInput) => true,
-        (Derive::FromField, Derive::FromField) => true,
-        (Derive::FromTypeParam, Derive::FromTypeParam) => true,
-        (Derive::FromVariant, Derive::FromVariant) => true,
-        _ => false,
-    }
 }

@@ -1,5 +1,5 @@
 -- What each statement does, from its step.
-use Rattle.std.proofs.Common.{◌≡◌, ℕ, List, [], ◌∷◌, ◌++◌, fold, map, Option, refl, ap, ◌∙◌, sym}
+use Rattle.std.proofs.Common.{◌≡◌, ℕ, List, [], ◌∷◌, ◌++◌, map, Option, refl, ap, ◌∙◌, sym}
 use Rattle.base_core.specs.declared.text.Text.{Text}
 use Rattle.tok_types.specs.declared.ident.Ident.{Ident}
 use Rattle.node_expr.specs.declared.ty.«Type».{«Type» as Type'}

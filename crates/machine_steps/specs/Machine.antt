@@ -7,8 +7,7 @@ use Rattle.error_fault.specs.Outcome.{Outcome}
 use Rattle.machine_host.specs.HostSays.{HostSays}
 use Rattle.machine_host.specs.Made.{named_type}
 use Rattle.machine_value.specs.declared.value.Value.{Value as Datum}
-use Rattle.codegen_program.specs.declared.program.Derive.{Derive}
-use Rattle.codegen_program.specs.declared.program.Derive.TheVariants as derives
+pub use Rattle.codegen_program.specs.Traits.{is_from_meta}
 use Rattle.codegen_program.specs.declared.program.Func.{Func}
 use Rattle.codegen_program.specs.declared.program.FuncName.{FuncName}
 use Rattle.codegen_program.specs.declared.program.FuncName.TheVariants as func
@@ -24,10 +23,6 @@ use Rattle.machine_steps.specs.Statements.{run}
 abbrev pub or_unread : Option (Outcome Datum) → Outcome Datum
 or_unread None = unread
 or_unread (Some it) = it
-
-abbrev pub is_from_meta : Derive → Bool
-is_from_meta derives.FromMeta = true
-is_from_meta _ = false
 
 abbrev pub is_from_list : FuncName → Bool
 is_from_list func.FromList = true

@@ -13,7 +13,7 @@ use Rattle.error_fault.specs.declared.fault.Fault.{Fault}
 use Rattle.error_fault.specs.Faults.{at}
 use Rattle.error_fault.specs.Outcome.{Outcome, Value, Faults, on_value}
 use Rattle.machine_host.specs.HostSays.{erased_decls, erased_place}
-use Rattle.machine_host.specs.Seen.{NothingSeen, IdentSeen, SeenArg}
+use Rattle.machine_host.specs.Seen.{NothingSeen, IdentSeen}
 use Rattle.machine_host.specs.declared.place.Use.TheVariants as use_at
 use Rattle.machine_value.specs.declared.value.Value.{Value as Datum}
 use Rattle.machine_value.specs.Members.{struct_of, labelled}

@@ -4,13 +4,14 @@ use Rattle.std.specs.List.{AllZip}
 use Rattle.std.proofs.lemmas.Bool.{false_from_ne_true, or_from, or_left, or_right}
 use mathlib.Core.List.{append-eq-nil_iff}
 use Rattle.tok_types.specs.declared.span.Span.{Span}
+use Rattle.codegen_program.specs.Traits.{index_of, same_derive}
 use Rattle.codegen_program.specs.declared.program.Derive.{Derive}
 use Rattle.codegen_program.specs.declared.program.Derive.TheVariants as derives
 use Rattle.codegen_program.specs.declared.program.«Unit».{«Unit» as Unit'}
-use Rattle.machine_forms.specs.Units.{has_derive, has_twins, same_derive}
+use Rattle.machine_forms.specs.Units.{has_derive, has_twins}
 use Rattle.run_derives.specs.declared.derives.Derived.{Derived}
 use Rattle.run_derives.specs.Repeated as named
-use Rattle.run_derives.specs.Repeated.{index_of, repeated_behind, repeated_derives}
+use Rattle.run_derives.specs.Repeated.{repeated_behind, repeated_derives}
 
 -- the unit is of the derive
 abbrev pub IsOf : Derived → Unit' → Type 0
@@ -26,9 +27,9 @@ same_is derives.FromVariant derives.FromVariant is = refl
 same_is _ _ is = absurd (true≢false (sym is))
 
 -- a derive that is not among these is none of them
-is_other : (earlier : List Derived) (one other : Derive) → named.has_derive earlier one ≡ true → named.has_derive earlier other ≡ false
+is_other : (earlier : List Derived) (one other : Derive) → named.has_derive earlier one ≡ false → named.has_derive earlier other ≡ true
     → same_derive one other ≡ false
-is_other earlier one other has not = false_from_ne_true _ (λ same. true≢false (sym has ∙ ap (named.has_derive earlier) (same_is one other same) ∙ not))
+is_other earlier one other not has = false_from_ne_true _ (λ same. true≢false (sym has ∙ sym (ap (named.has_derive earlier) (same_is one other same)) ∙ not))
 
 not_named : (test : Bool) (span : Span) → cond test (span ∷ []) [] ≡ [] → test ≡ false
 not_named true span none = cc
@@ -51,7 +52,7 @@ not_again earlier (it ∷ rest) [] derive has none are = absurd are
 not_again earlier (it ∷ rest) (unit ∷ units) derive has none are =
     let once = first_once earlier it rest none in
     or_from _ _
-    (ap (same_derive derive) are.0 ∙ is_other earlier derive it.derive has once.0)
+    (ap (λ one. same_derive one derive) are.0 ∙ is_other earlier it.derive derive once.0 has)
     (not_again (it ∷ earlier) rest units derive (or_right _ _ has) once.1 are.1)
 
 single : (earlier rest : List Derived) (units : List Unit') → repeated_behind earlier rest ≡ [] → AllZip IsOf rest units → has_twins units ≡ false

@@ -4,10 +4,11 @@ use Rattle.std.proofs.lemmas.Bool.Decides.{eqb_tells}
 use Rattle.std.proofs.lemmas.Grind.{get_or-set_at}
 use Rattle.std.specs.Prelude.{if◌then◌else◌}
 use Rattle.meta_cells.specs.Tokens.{Span}
+use Rattle.codegen_program.specs.Traits.{index_of, same_derive}
 use Rattle.codegen_program.specs.declared.program.Derive.{Derive}
 use Rattle.codegen_program.specs.declared.program.Derive.TheVariants as derive
 use Rattle.run_derives.specs.declared.derives.Derived.{Derived}
-use Rattle.run_derives.specs.Repeated.{has_derive, index_of, repeated_behind, same_derive}
+use Rattle.run_derives.specs.Repeated.{has_derive, repeated_behind}
 
 -- each derive has a flag: whether one of these has it
 pub record Marks (flags : List Bool) (earlier : List Derived) : Type 0 where

@@ -1,22 +1,10 @@
 -- Derives that stand twice in a list.
-use Rattle.std.specs.Prelude.{ℕ, Bool, ◌==◌, if◌then◌else◌, List, [], ◌∷◌, ◌++◌}
+use Rattle.std.specs.Prelude.{Bool, if◌then◌else◌, List, [], ◌∷◌, ◌++◌}
 use Rattle.std.specs.List.{list_any}
 use Rattle.meta_cells.specs.Tokens.{Span}
+use Rattle.codegen_program.specs.Traits.{same_derive}
 use Rattle.codegen_program.specs.declared.program.Derive.{Derive}
-use Rattle.codegen_program.specs.declared.program.Derive.TheVariants as derive
 use Rattle.run_derives.specs.declared.derives.Derived.{Derived}
-
--- the derive's number among the six
-abbrev pub index_of : Derive → ℕ
-index_of derive.FromMeta = 0
-index_of derive.FromAttributes = 1
-index_of derive.FromDeriveInput = 2
-index_of derive.FromField = 3
-index_of derive.FromTypeParam = 4
-index_of derive.FromVariant = 5
-
-abbrev pub same_derive : Derive → Derive → Bool
-same_derive one other = index_of one == index_of other
 
 -- one of these has the derive
 abbrev pub has_derive : List Derived → Derive → Bool

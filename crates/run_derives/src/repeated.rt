@@ -1,6 +1,7 @@
 //! Derives that stand twice in a list.
 
 ghost use Rattle.std.specs.Prelude.{◌≡◌, ◌<◌, IfOk};
+ghost use Rattle.codegen_program.specs.Traits.{index_of};
 ghost use Rattle.run_derives.specs.Repeated as spec;
 
 use crate::derives::Derived;
@@ -26,7 +27,7 @@ pub fn repeated_derives(alloc: Global, derives: &[Derived]) -> Mem<Items<Span>>
 
 /// The derive's number among the six.
 fn index_of(derive: Derive) -> usize
-    ensures value { result ≡ spec.index_of derive }
+    ensures value { result ≡ index_of derive }
     ensures within { result < 6 }
 {
     derive as usize

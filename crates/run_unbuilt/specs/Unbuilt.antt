@@ -14,6 +14,7 @@ use Rattle.node_core.specs.declared.data.Fields.{Fields}
 use Rattle.node_core.specs.declared.data.Fields.TheVariants as fields
 use Rattle.node_core.specs.declared.derive.DeriveInput.{DeriveInput}
 use Rattle.node_span.specs.Spanned.{meta_span}
+use Rattle.codegen_program.specs.Traits.{is_input}
 use Rattle.codegen_program.specs.declared.program.Derive.{Derive}
 use Rattle.codegen_program.specs.declared.program.Derive.TheVariants as derive
 use Rattle.options_rows.specs.Entries.{items, option_entries}
@@ -92,14 +93,6 @@ name_places (Some ident) = place_if (is_part_name (ident_text ident)) ident.span
 
 abbrev pub field_places : Field → List Span
 field_places field = name_places field.ident
-
-abbrev pub is_input : Derive → Bool
-is_input derive.FromMeta = false
-is_input derive.FromAttributes = false
-is_input derive.FromDeriveInput = true
-is_input derive.FromField = false
-is_input derive.FromTypeParam = false
-is_input derive.FromVariant = false
 
 -- `FromDeriveInput` is among the derives
 abbrev pub derives_input : List Derived → Bool

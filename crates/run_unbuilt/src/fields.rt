@@ -21,20 +21,9 @@ pub(crate) fn push_parts(derives: &[Derived], body: &Data, spans: &mut Items<Spa
 fn derives_input(derives: &[Derived]) -> bool
     ensures { result ≡ spec.derives_input derives.now }
 {
-    derives.iter().any(|it| is_input(it.derive))
-}
-
-fn is_input(derive: Derive) -> bool
-    ensures { result ≡ spec.is_input derive }
-{
-    match derive {
-        Derive::FromMeta => false,
-        Derive::FromAttributes => false,
-        Derive::FromDeriveInput => true,
-        Derive::FromField => false,
-        Derive::FromTypeParam => false,
-        Derive::FromVariant => false,
-    }
+    derives
+        .iter()
+        .any(|it| it.derive == Derive::FromDeriveInput)
 }
 
 /// The fields of a struct.
