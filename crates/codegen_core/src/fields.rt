@@ -17,6 +17,7 @@ pub struct FieldsGen<'f, 'a> {
 }
 
 impl<'f, 'a> FieldsGen<'f, 'a> {
+    /// What is generated for the fields of a struct, whose unknown items are faults unless they are allowed.
     pub fn new(fields: &'f Fields<Field<'a>>, allow_unknown_fields: bool) -> FieldsGen<'f, 'a>
         ensures fields { result.fields.now ≡ fields.now.fields }
         ensures allow { result.allow_unknown_fields ≡ allow_unknown_fields }

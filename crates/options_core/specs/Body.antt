@@ -226,11 +226,6 @@ meta_checks set = core_checks set.base ++ call_faults set set.base.body
 
 -- where options begin
 
-abbrev pub is_enum : NodeData → Bool
-is_enum (node.Struct it) = false
-is_enum (node.Enum it) = true
-is_enum (node.Union it) = false
-
 -- no members; a union has no body
 abbrev pub start_body : NodeData → Body
 start_body (node.Struct it) = container.Struct (unplaced (style_of it.fields) [])

@@ -3,14 +3,19 @@ use Rattle.std.specs.Prelude.{◌≡◌, false, Option, Some, None, is_some, unw
 use Rattle.std.specs.List.{AllZip}
 use Rattle.std.specs.Option.{option_copied}
 use Rattle.tok_types.specs.declared.ident.Ident.{Ident}
+use Rattle.node_expr.specs.declared.ty.«Type».{«Type» as Type'}
+use Rattle.node_span.specs.Spanned.{type_span}
 use Rattle.options_rows.specs.AstData.{«Data»}
 use Rattle.options_rows.specs.AstData.TheVariants as body
+use Rattle.options_rows.specs.Data.{place}
 use Rattle.codegen_core.specs.Defaults.{custom}
 use Rattle.codegen_core.specs.declared.default_expression.DefaultExpression.{DefaultExpression as Shown}
 use Rattle.codegen_core.specs.declared.default_expression.DefaultExpression.TheVariants as shown
 use Rattle.codegen_core.specs.declared.field.Field.{Field}
 use Rattle.codegen_core.specs.declared.from_derive_impl.FromDeriveInputImpl.{FromDeriveInputImpl}
 use Rattle.codegen_core.specs.declared.from_meta_impl.FromMetaImpl.{FromMetaImpl}
+use Rattle.codegen_core.specs.declared.overrideable_callable.OverrideableCallable.{OverrideableCallable}
+use Rattle.codegen_core.specs.declared.overrideable_callable.OverrideableCallable.TheVariants as callables
 use Rattle.codegen_core.specs.declared.trait_impl.TraitImpl.{TraitImpl}
 use Rattle.codegen_core.specs.declared.variant.Variant.{Variant}
 use Rattle.options_rows.specs.DefaultExpression.{DefaultExpression}
@@ -34,6 +39,11 @@ AreDefaults ident None None = Unit {0}
 AreDefaults ident (Some left) (Some it) = IsDefault ident left it
 AreDefaults ident _ _ = ⊥
 
+-- what converts an item by its type stands where the type does
+abbrev pub StandsAt : Type' → OverrideableCallable → Type 0
+StandsAt ty (callables.Custom call) = Unit {0}
+StandsAt ty (callables.Default span) = span ≡ type_span ty
+
 -- what is compiled from the options of a field
 pub record IsField (left : Field) (it : InputField) : Type 0 where
   pub ident : left.ident.now ≡ it.ident
@@ -43,6 +53,7 @@ pub record IsField (left : Field) (it : InputField) : Type 0 where
   pub flatten : left.flatten ≡ is_some it.flatten.place
   pub multiple : left.multiple ≡ unwrap_or it.multiple false
   pub with : custom left.with_callable ≡ it.with
+  pub at : StandsAt it.ty left.with_callable
   pub transform : option_copied left.post_transform ≡ it.post_transform
   pub default : AreDefaults it.ident left.default_expression it.default
 
@@ -51,11 +62,17 @@ abbrev pub IsStruct : «Data» Variant Field → Body → Type 0
 IsStruct (body.Struct left) (body.Struct it) = (left.style ≡ it.style) × AllZip IsField left.fields it.fields
 IsStruct _ _ = ⊥
 
+-- its members have no place
+abbrev pub IsUnplaced : «Data» Variant Field → Type 0
+IsUnplaced (body.Struct left) = place left ≡ None
+IsUnplaced (body.Enum variants) = Unit {0}
+
 -- what is compiled from the options of a struct, whatever it derives
 pub record IsImpl (left : TraitImpl) (it : Core) : Type 0 where
   pub ident : left.ident.now ≡ it.ident
   pub generics : left.generics.now ≡ it.generics
   pub members : IsStruct left.body it.body
+  pub unplaced : IsUnplaced left.body
   pub default : AreDefaults it.ident left.default it.default
   pub transform : option_copied left.post_transform ≡ it.post_transform
   pub allow : left.allow_unknown_fields ≡ unwrap_or it.allow_unknown_fields false

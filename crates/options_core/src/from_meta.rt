@@ -1,6 +1,6 @@
 //! The options of a receiver that derives `FromMeta`.
 
-ghost use Rattle.std.specs.Prelude.{◌≡◌, ◌++◌, codes, false, length, IfOk, OnOk};
+ghost use Rattle.std.specs.Prelude.{◌≡◌, ◌++◌, codes, length, IfOk, OnOk};
 ghost use Rattle.error_fault.specs.Outcome.{Value, settle};
 ghost use Rattle.error_core.specs.Answers.{Answers};
 ghost use Rattle.error_core.specs.ErrorView.{One, held};
@@ -34,9 +34,9 @@ pub struct FromMetaOptions {
 }
 
 impl FromMetaOptions {
-    /// The options of a declaration, or all that is wrong with them. Of an enum nothing is told so far.
+    /// The options of a declaration, or all that is wrong with them.
     pub fn new(alloc: Global, di: &DeriveInput, table: &RenameTable) -> Result<FromMetaOptions>
-        ensures { body.is_enum di.now.body ≡ false → Answers (λ it. it) result (spec.new_outcome (spec.meta_reader table.now di.now) di.now) }
+        ensures { Answers (λ it. it) result (spec.new_outcome (spec.meta_reader table.now di.now) di.now) }
     {
         FromMetaOptions::read(alloc, di, table)
     }

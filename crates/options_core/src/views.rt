@@ -58,7 +58,8 @@ impl Core {
 
     fn as_codegen_body(&self, alloc: Global) -> Mem<Data<codegen_core::Variant<'_>, Field<'_>>>
         requires { spec.HasFields self.now.body }
-        ensures { IfOk result (λ body. spec.IsStruct body self.now.body) }
+        ensures members { IfOk result (λ body. spec.IsStruct body self.now.body) }
+        ensures unplaced { IfOk result spec.IsUnplaced }
     {
         match &self.body {
             Data::Struct(it) => {
@@ -116,7 +117,8 @@ fn as_codegen_fields<'a>(alloc: Global, fields: &'a [InputField]) -> Mem<Vec<Fie
 
 /// What converts an item: what `with` names, else the type.
 fn converter<'a>(with: &'a Option<Callable>, ty: &Type) -> OverrideableCallable<'a>
-    ensures { custom result ≡ with.now }
+    ensures with { custom result ≡ with.now }
+    ensures at { spec.StandsAt ty.now result }
 {
     match with {
         Some(callable) => OverrideableCallable::Custom(callable),

@@ -19,7 +19,7 @@ use Rattle.node_core.specs.Style.{style_of}
 use Rattle.run_unbuilt.specs.Entries.{items, option_entries}
 use Rattle.run_unbuilt.specs.Rows.{OptionRow, first_of, list_of, name_in, values}
 use Rattle.run_unbuilt.specs.Values.{Rules, present_of, word_of}
-use Rattle.options_core.specs.Body.{Body, is_enum, start_body, with_fields}
+use Rattle.options_core.specs.Body.{Body, start_body, with_fields}
 use Rattle.options_core.specs.Views.{HasFields, IsImpl, IsStruct}
 use Rattle.options_core.specs.declared.container.Core.{Core}
 use Rattle.body_core.specs.declared.ast.data.«Data».{«Data» as Data'}
@@ -124,11 +124,6 @@ meta_is_plain rules decl built =
     }
 
 -- what is compiled from such options
-
-pub no_enum : (body : «Data») → has_named_fields body ≡ true → is_enum body ≡ false
-no_enum (node.Struct it) is = refl
-no_enum (node.Enum it) is = cc
-no_enum (node.Union it) is = refl
 
 pub has_fields : (it : Body) → HasBraces it → HasFields it
 has_fields (container.Struct it) is = tt

@@ -4,15 +4,14 @@ use Rattle.options_core.specs.declared.from_meta.FromMetaOptions.{FromMetaOption
 use Rattle.run_compile.specs.Compiled.{IsMetaUnit}
 use Rattle.run_compile.specs.Steps.{IsPlainCore}
 use Rattle.run_compile.proofs.OutcomeLemmas.{no_faults}
-use Rattle.run_compile.proofs.PlainLemmas.{meta_is_plain, no_enum}
-use Rattle.run_unbuilt.proofs.BuiltLemmas.{named}
+use Rattle.run_compile.proofs.PlainLemmas.{meta_is_plain}
 use Rattle.run_compile.proofs.unit.meta_unit.Goals as goal
 
 pub compiled_meta-requires : goal.compiled_meta-requires
 compiled_meta-requires c =
     let decl = c.args.decl.now in
     let rules = c.args.table.now in
-    let got = no_faults (option_faults (meta_reader rules decl) decl) (options_of (meta_reader rules decl) decl) c.in-Ok.options (c.in-Ok.ensures (no_enum c.args.decl.now.body (named c.args.decl.now c.requires))) in
+    let got = no_faults (option_faults (meta_reader rules decl) decl) (options_of (meta_reader rules decl) decl) c.in-Ok.options c.in-Ok.ensures in
     let P : FromMetaOptions → Type 0 = λ options. IsPlainCore options.base in
     subst P got.1 (meta_is_plain rules decl c.requires)
 
@@ -20,6 +19,6 @@ pub returns-in_ok-compiled_meta-in-Ok : goal.returns-in_ok-compiled_meta-in-Ok
 returns-in_ok-compiled_meta-in-Ok c =
     let decl = c.args.decl.now in
     let rules = c.args.table.now in
-    let got = no_faults (option_faults (meta_reader rules decl) decl) (options_of (meta_reader rules decl) decl) c.in-Ok.options (c.in-Ok.ensures (no_enum c.args.decl.now.body (named c.args.decl.now c.requires))) in
+    let got = no_faults (option_faults (meta_reader rules decl) decl) (options_of (meta_reader rules decl) decl) c.in-Ok.options c.in-Ok.ensures in
     let P : FromMetaOptions → Type 0 = λ options. IsMetaUnit options c.args.number c.in_ok-compiled_meta-in-Ok.field-0 in
     (got.0, subst P (sym got.1) c.in_ok-compiled_meta-in-Ok.ensures)

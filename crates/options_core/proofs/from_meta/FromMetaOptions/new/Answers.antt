@@ -6,6 +6,6 @@ use Rattle.options_core.proofs.StageLemmas.{meta_staged-is}
 use Rattle.options_core.proofs.from_meta.FromMetaOptions.new.Goals as goal
 
 pub returns : goal.returns
-returns c no_enum =
+returns c =
     let P : Outcome FromMetaOptions → Type 0 = λ outcome. Answers (λ it. it) c.read.result outcome in
     subst P (meta_staged-is c.args.table.now c.args.di.now) c.read.ensures
