@@ -34,7 +34,7 @@ module _ (host : HostSays) (words : List (List ℕ)) (reading : Reading) where
     by_memory : status ≡ NoMemory → Cause status
 
   cause_of : (status : Status) → Causes host words reading status → Cause status
-  cause_of Usage is = by_words refl is
+  cause_of Usage is = by_words refl is.0
   cause_of ReadFault is = by_source is.0 refl is.1
   cause_of TooLong is = by_length is.0 refl is.1
   cause_of NoMemory is = by_memory refl

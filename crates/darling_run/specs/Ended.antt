@@ -40,9 +40,13 @@ abbrev pub WereRead : Reading → List ℕ → Type 0
 WereRead reading bytes =
     (length bytes ≤ limit) × IfSome reading.left (λ told. (told ≡ bytes) × (reading.left_after ≡ Some []))
 
+-- nothing was read
+abbrev pub IsUntouched : Reading → Type 0
+IsUntouched reading = (reading.left_after ≡ reading.left) × (reading.faults_after ≡ reading.faults)
+
 -- why a run with the host has no report: the words, the source, or the bytes that were read
 abbrev pub Causes : HostSays → List (List ℕ) → Reading → Status → Type 0
-Causes host words reading Usage = ¬ IsRunCommand words
+Causes host words reading Usage = (¬ IsRunCommand words) × IsUntouched reading
 Causes host words reading ReadFault = IsRunCommand words × HasRisen reading.faults reading.faults_after
 Causes host words reading TooLong = IsRunCommand words × IfSome reading.left (λ told. limit < length told)
 Causes host words reading NoMemory = Unit {0}
