@@ -4,6 +4,7 @@ pub mod Faulty
 pub mod Held
 pub mod Listless
 pub mod Metas
+pub mod Places
 pub mod Reading
 pub mod Rooms
 pub mod Steps

@@ -2,3 +2,4 @@ pub mod Seen
 pub mod Outcome
 pub mod Units
 pub mod Elements
+pub mod Index

@@ -1,7 +1,6 @@
 //! Items: each fills the slot of its name.
 
-ghost use Rattle.std.specs.Prelude.{◌≡◌, ◌∷◌, [], IfOk, OnOk, fold};
-ghost use Rattle.std.specs.Option.{option_copied};
+ghost use Rattle.std.specs.Prelude.{◌≡◌, ◌∷◌, [], IfOk, IfSome, OnOk, fold};
 ghost use Rattle.error_core.specs.Answers.{Answers};
 ghost use Rattle.error_fault.specs.Outcome.{Outcome};
 ghost use Rattle.error_fault.specs.Fault.{at_span};
@@ -14,9 +13,11 @@ ghost use Rattle.machine_read.specs.Progress.{Going, going};
 ghost use Rattle.machine_read.specs.Reading as reading;
 ghost use Rattle.machine_read.specs.State as spec;
 ghost use Rattle.machine_read.specs.Nodes.{nested_span};
+ghost use Rattle.machine_execute.specs.Index.{HasNames, HasPlaces};
 ghost use Rattle.machine_execute.specs.Seen.{change_of, progress_of, slot_of, state_of};
 
 use crate::faults::faults_at;
+use crate::index::{Index, find_arm};
 use crate::progress::Progress;
 use crate::run::Run;
 use crate::slot::Slot;
@@ -66,8 +67,9 @@ impl<'p, H: Host, D: Declared> Run<'p, H, D> {
         requires { D.reads_within self.now.scope.declared.now self.now.room }
         ensures { OnOk result (state_of state.new ≡ fold (spec.step (seen_setting (H.says self.now.scope.setting.host.now) self.now.scope.setting.decls.now) (D.earlier self.now.scope.declared.now) arms.now rest.now) (state_of state.old) items.now) }
     {
+        let index = Index::for_many(self.scope.alloc, arms, rest, items.len())?;
         for item in items {
-            self.take_item(arms, rest, item, state)?;
+            self.take_item(arms, rest, &index, item, state)?;
         }
         Ok(())
     }
@@ -77,10 +79,13 @@ impl<'p, H: Host, D: Declared> Run<'p, H, D> {
         &self,
         arms: &[Arm],
         rest: &Rest,
+        index: &Option<Index>,
         item: &NestedMeta,
         state: &mut State<'p>,
     ) -> Mem<()>
-        requires { D.reads_within self.now.scope.declared.now self.now.room }
+        requires reads { D.reads_within self.now.scope.declared.now self.now.room }
+        requires places { IfSome index.now (HasPlaces arms.now) }
+        requires names { IfSome index.now (HasNames rest.now) }
         ensures { OnOk result (state_of state.new ≡ spec.step (seen_setting (H.says self.now.scope.setting.host.now) self.now.scope.setting.decls.now) (D.earlier self.now.scope.declared.now) arms.now rest.now (state_of state.old) item.now) }
     {
         let alloc = self.scope.alloc;
@@ -88,9 +93,9 @@ impl<'p, H: Host, D: Declared> Run<'p, H, D> {
             let fault = Fault::unexpected_format(alloc, "literal", item.spanned())?;
             return state.faults.push(fault);
         };
-        match find_arm(arms, &name) {
+        match find_arm(arms, index, &name) {
             Some(arm) => self.take_arm(arm, item, state),
-            None => by_rest(alloc, rest, &name, item, state),
+            None => by_rest(alloc, rest, index, &name, item, state),
         }
     }
 
@@ -156,43 +161,44 @@ fn item_name(alloc: Global, item: &NestedMeta) -> Mem<Option<Text>>
     }
 }
 
-/// The first arm of the name.
-fn find_arm<'a>(arms: &'a [Arm], name: &Text) -> Option<&'a Arm>
-    ensures { option_copied result ≡ spec.find_arm arms.now name.now }
-{
-    for arm in arms {
-        if arm.name.as_str() == name.as_str() {
-            return Some(arm);
-        }
-    }
-    None
-}
-
 /// Takes an item of no arm.
 fn by_rest(
     alloc: Global,
     rest: &Rest,
+    index: &Option<Index>,
     name: &Text,
     item: &NestedMeta,
     state: &mut State<'_>,
 ) -> Mem<()>
+    requires { IfSome index.now (HasNames rest.now) }
     ensures { OnOk result (state_of state.new ≡ spec.by_rest rest.now name.now item.now (state_of state.old)) }
 {
     match rest {
         Rest::Buffer => state.kept.push(item.try_clone(alloc)?),
         Rest::Ignore => Ok(()),
         Rest::Unknown(alternatives) => {
-            let fault = unknown_field(alloc, name, alternatives.as_slice(), item)?;
+            let fault = unknown_field(alloc, alternatives.as_slice(), index, name, item)?;
             state.faults.push(fault)
         }
     }
 }
 
 /// The fault of an item of no arm.
-fn unknown_field(alloc: Global, name: &Text, alternatives: &[Text], item: &NestedMeta) -> Mem<Fault>
+fn unknown_field(
+    alloc: Global,
+    alternatives: &[Text],
+    index: &Option<Index>,
+    name: &Text,
+    item: &NestedMeta,
+) -> Mem<Fault>
+    requires { IfSome index.now (λ it. it.names ≡ set_of alternatives.now) }
     ensures { IfOk result (λ fault. fault ≡ at_span (UnknownField name.now (set_of alternatives.now)) (nested_span item.now)) }
 {
-    Fault::unknown_field_with_alts(alloc, name.as_str(), alternatives, item.spanned())
+    let span = item.spanned();
+    match index {
+        Some(index) => Fault::unknown_field_among(alloc, name.as_str(), &index.names, span),
+        None => Fault::unknown_field_with_alts(alloc, name.as_str(), alternatives, span),
+    }
 }
 
 /// The fault of a field that an item has named before.

@@ -10,6 +10,7 @@ mod element;
 mod faults;
 mod flat;
 mod given;
+mod index;
 mod items;
 mod machine;
 mod members;
