@@ -6,6 +6,13 @@ use std::alloc::Global;
 use std::test::Fail;
 use tests_checks::Tested;
 
+// What the source gives in one read, and what the sink takes in one write and in all.
+const GIVEN: usize = 65_536;
+
+const TAKEN: usize = 8;
+
+const KEPT: usize = 4096;
+
 /// The program's number and what is written, where the tool runs on `bytes` and the read and the
 /// write of these numbers fail.
 pub fn end_of(
@@ -21,8 +28,8 @@ pub fn end_of(
     }
     let reads = Vec::from_slice(alloc, &[failing_read])?;
     let writes = Vec::from_slice(alloc, &[failing_write])?;
-    let mut source = MemorySource::new(bytes, 65536, reads);
-    let mut sink = MemorySink::new(alloc, 8, 4096, writes)?;
+    let mut source = MemorySource::new(bytes, GIVEN, reads);
+    let mut sink = MemorySink::new(alloc, TAKEN, KEPT, writes)?;
     let host = StdHost::new(alloc)?;
     let ended = run_tool(alloc, all.as_slice(), &mut source, &mut sink, &host);
     let text = Vec::from_slice(alloc, sink.bytes())?;

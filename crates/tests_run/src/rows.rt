@@ -11,6 +11,8 @@ name: String | (name = "a", name = 5, nom = "b") => err S 2 / 17..25 Duplicate f
 name: String | (name = 5) => err S 1 / 12..13 Unexpected type `int` at name
 name: String |  = 4 => err S 2 / 2..8 Name-value arguments are not supported. Use #[my(...)] / - Missing field `name`
 #[darling(multiple)] n: Vec<u8> | (n = 300, n = 1, n = 301, n = "x") => err S 3 / 9..12 number too large to fit in target type at n[0] / 25..28 number too large to fit in target type at n[1] / 34..37 Unknown value: `x` at n[1]
+#[darling(multiple)] n: Vec<u8>, a: u8 | (n = 1, n = 1, n = 1, n = 1, n = 1, n = 1, n = 1, n = 1, n = 1, n = 1, n = 1, n = 1, n = 1, n = 1, n = 1, a = 1, a = 2, m = 3, m = 4) => err S 3 / 117..122 Duplicate field `a` / 124..129 Unknown field: `m`. Available values: `a`, `n` / 131..136 Unknown field: `m`. Available values: `a`, `n`
+#[darling(multiple)] n: Vec<u8>, a: u8 | (n = 1, n = 1, n = 1, n = 1, n = 1, n = 1, n = 1, n = 1, n = 1, n = 1, n = 1, n = 1, n = 1, n = 1, n = 1, n = 1, a = 7) => ok S Opts {n: [1, 1, 1, 1, 1, 1, 1, 1, 1, 1, 1, 1, 1, 1, 1, 1], a: 7}
 #[darling(rename = "x")] a: u8, #[darling(rename = "x")] b: String | (x = 1, x = 2) => err S 2 / 12..17 Duplicate field `x` / - Missing field `x`
 n: u8 | (n = 300, n = 4) => err S 2 / 9..12 number too large to fit in target type at n / 14..19 Duplicate field `n`
 n: i8, y: Flag, s: i16 | (n = -128, y, s = "-25") => ok S Opts {n: -128, y: some(15..16), s: -25}
@@ -36,7 +38,8 @@ fn receivers(rt: HostRuntime) -> Tested<()> {
             "#[derive(FromDeriveInput)]\n#[darling(attributes(my))]\nstruct Opts {{ {body} }}"
         )?;
         let subject = format!(in alloc; "#[my{list}] struct S;")?;
-        must_write(alloc, decl.as_str(), subject.as_str(), wanted)?;
+        let input = format!(in alloc; "{}\n%%\n{}\n", decl.as_str(), subject.as_str())?;
+        must_write(alloc, input.as_str(), wanted)?;
     }
     Ok(())
 }
@@ -64,13 +67,14 @@ fn declarations(rt: HostRuntime) -> Tested<()> {
     for row in TEXTS.lines() {
         let (given, wanted) = row_of(row);
         let (decls, subjects) = kind_of(given)?;
-        must_write(alloc, decls, subjects, wanted)?;
+        let input = format!(in alloc; "{decls}\n%%\n{subjects}\n")?;
+        must_write(alloc, input.as_str(), wanted)?;
     }
     Ok(())
 }
 
-/// Whether these lines, joined by ` / `, are written of the subjects. A line of a fault begins with two spaces.
-fn must_write(alloc: Global, decls: &str, subjects: &str, wanted: &str) -> Tested<()> {
+/// Whether these lines, joined by ` / `, are written of the input. A line of a fault begins with two spaces.
+pub fn must_write(alloc: Global, input: &str, wanted: &str) -> Tested<()> {
     let mut text = String::new(alloc);
     for line in wanted.split(" / ") {
         if !is_first(line) {
@@ -80,8 +84,7 @@ fn must_write(alloc: Global, decls: &str, subjects: &str, wanted: &str) -> Teste
         text.push('\n')?;
     }
     let number = if wanted.starts_with("refused") { 3 } else { 0 };
-    let input = format!(in alloc; "{decls}\n%%\n{subjects}\n")?;
-    must_end(alloc, input.as_str(), number, text.as_str())
+    must_end(alloc, input, number, text.as_str())
 }
 
 /// Whether the line is the first of a subject, or of a refusal.

@@ -1,9 +1,10 @@
 //! The tool on inputs of all kinds.
 
 use crate::ends::{end_of, must_end};
+use crate::rows::must_write;
 use std::alloc::Global;
 use std::test::Fail;
-use tests_checks::Tested;
+use tests_checks::{Tested, row_of};
 
 const DECLARATION: &str = "\
 #[derive(FromDeriveInput)]
@@ -20,139 +21,68 @@ struct Opts {}
 %%
 ";
 
-// Subjects, with the number and what is written.
-const SUBJECTS: [(&str, u8, &str); 14] = [
-    (
-        "#[my()] struct S;",
-        0,
-        "err S 1\n  - Missing field `name`\n",
-    ),
-    (
-        "#[my(nom = \"a\", name = \"b\",)] struct S;",
-        0,
-        "err S 1\n  5..14 Unknown field: `nom`. Available values: `name`\n",
-    ),
-    (
-        "#[my(name = \"\\u{e9}\\\"\")] struct S;",
-        0,
-        "ok S Opts {name: \"\u{e9}\\\"\"}\n",
-    ),
-    (
-        "#[my(name = r#\"a\"#)] struct S;",
-        0,
-        "ok S Opts {name: \"a\"}\n",
-    ),
-    (
-        "#[my[name = \"a\"]] struct S;",
-        0,
-        "ok S Opts {name: \"a\"}\n",
-    ),
-    (
-        "#[my(\"a\")] struct S;",
-        0,
-        "err S 2\n  5..8 Unexpected meta-item format `literal`\n  - Missing field `name`\n",
-    ),
-    (
-        "/// x\n#[a::my(b)] #[my(name = \"a\")] pub enum E<T> where T: A { B(T), C = 1 }",
-        0,
-        "ok E Opts {name: \"a\"}\n",
-    ),
-    (
-        "#[::my(name = \"a\")] pub(crate) union r#type { a: A }",
-        0,
-        "ok r#type Opts {name: \"a\"}\n",
-    ),
-    (
-        "struct S<const N: usize>([u8; N]);",
-        0,
-        "err S 1\n  - Missing field `name`\n",
-    ),
-    (
-        "#[my(name = \"a\")] struct S { #[my(other)] a: A }\nstruct T;",
-        0,
-        "ok S Opts {name: \"a\"}\nerr T 1\n  - Missing field `name`\n",
-    ),
-    ("", 0, ""),
-    (
-        "struct S; struct T {} fn f() {}",
-        3,
-        "refused: syntax in part 2 at 22\n",
-    ),
-    ("struct S; \"", 3, "refused: syntax in part 2 at 10\n"),
-    ("struct S;\n%%\nx", 3, "refused: bad table line 1\n"),
-];
+// Subjects, and what is written of them. ` / ` stands between the lines of both.
+const SUBJECTS: &str = r##"#[my()] struct S; => err S 1 / - Missing field `name`
+#[my(nom = "a", name = "b",)] struct S; => err S 1 / 5..14 Unknown field: `nom`. Available values: `name`
+#[my(name = "\u{e9}\"")] struct S; => ok S Opts {name: "é\""}
+#[my(name = r#"a"#)] struct S; => ok S Opts {name: "a"}
+#[my[name = "a"]] struct S; => ok S Opts {name: "a"}
+#[my("a")] struct S; => err S 2 / 5..8 Unexpected meta-item format `literal` / - Missing field `name`
+/// x / #[a::my(b)] #[my(name = "a")] pub enum E<T> where T: A { B(T), C = 1 } => ok E Opts {name: "a"}
+#[::my(name = "a")] pub(crate) union r#type { a: A } => ok r#type Opts {name: "a"}
+struct S<const N: usize>([u8; N]); => err S 1 / - Missing field `name`
+#[my(name = "a")] struct S { #[my(other)] a: A } / struct T; => ok S Opts {name: "a"} / err T 1 / - Missing field `name`
+struct S; struct T {} fn f() {} => refused: syntax in part 2 at 22
+struct S; " => refused: syntax in part 2 at 10
+struct S; / %% / x => refused: bad table line 1"##;
 
 #[test]
 fn subjects(rt: HostRuntime) -> Tested<()> {
     let alloc = rt.alloc();
-    for (subjects, number, text) in SUBJECTS {
-        let input = format!(in alloc; "{DECLARATION}{subjects}")?;
-        must_end(alloc, input.as_str(), number, text)?;
+    for row in SUBJECTS.lines() {
+        let (given, wanted) = row_of(row);
+        let subjects = lines_of(alloc, given)?;
+        let input = format!(in alloc; "{DECLARATION}{}", subjects.as_str())?;
+        must_write(alloc, input.as_str(), wanted)?;
     }
-    Ok(())
+    must_end(alloc, DECLARATION, 0, "")
 }
 
-// Inputs of other declarations and tables, with the number and what is written.
-const INPUTS: [(&str, u8, &str); 15] = [
-    ("struct A;\n%%\n", 3, "refused: unbuilt at 7..8\n"),
-    ("struct A;\n", 3, "refused: no parts\n"),
-    ("%%\n%%\n%%\n", 3, "refused: no parts\n"),
-    ("%%\n", 3, "refused: no receiver\n"),
-    ("struct A { a: u8 }\n%%\n%%\n", 3, "refused: no receiver\n"),
-    ("", 3, "refused: no parts\n"),
-    (
-        "#[doc = \"x\n%%\n\"] struct D;\n%%\n",
-        3,
-        "refused: syntax in part 1 at 8\n",
-    ),
-    (
-        "struct A { a }\n%%\n",
-        3,
-        "refused: syntax in part 1 at 0\n",
-    ),
-    (
-        "struct A; ]\n%%\n(\n",
-        3,
-        "refused: syntax in part 1 at 10\n",
-    ),
-    (
-        "struct A;\n%%\nstruct\n",
-        3,
-        "refused: syntax in part 2 at 0\n",
-    ),
-    (
-        "%%\n%%\nsnake_case variant Fast\n",
-        3,
-        "refused: bad table line 1\n",
-    ),
-    (
-        "\"\n%%\n%%\n\nPascal field one_two OneTwo\nx\n",
-        3,
-        "refused: bad table line 3\n",
-    ),
-    (
-        "#[derive(FromDeriveInput)] #[darling(attributes(my), rename_all = \"Pascal\")] struct A { one_two: u8 }\n%%\n#[my(OneTwo = 1)] struct S;\n%%\nPascal field one_two OneTwo\n",
-        0,
-        "ok S A {one_two: 1}\n",
-    ),
-    (
-        "#[derive(FromDeriveInput)] #[darling(attributes(my), rename_all = \"Pascal\")] struct A { one_two: u8 }\n%%\n#[my(OneTwo = 1)] struct S;\n",
-        3,
-        "refused: options of A under FromDeriveInput: 66..74 Unknown value: `Pascal`\n",
-    ),
-    (
-        "#[derive(FromField, FromDeriveInput)] struct A { b: u8, b: u8 }\n%%\n",
-        3,
-        "refused: unbuilt at 9..18\n",
-    ),
-];
+// Inputs of other declarations and tables, and what is written of them. ` / ` stands between the lines of both.
+const INPUTS: &str = r##"struct A; / %% => refused: unbuilt at 7..8
+struct A; => refused: no parts
+%% / %% / %% => refused: no parts
+%% => refused: no receiver
+struct A { a: u8 } / %% / %% => refused: no receiver
+#[doc = "x / %% / "] struct D; / %% => refused: syntax in part 1 at 8
+struct A { a } / %% => refused: syntax in part 1 at 0
+struct A; ] / %% / ( => refused: syntax in part 1 at 10
+struct A; / %% / struct => refused: syntax in part 2 at 0
+%% / %% / snake_case variant Fast => refused: bad table line 1
+" / %% / %% /  / Pascal field one_two OneTwo / x => refused: bad table line 3
+#[derive(FromDeriveInput)] #[darling(attributes(my), rename_all = "Pascal")] struct A { one_two: u8 } / %% / #[my(OneTwo = 1)] struct S; / %% / Pascal field one_two OneTwo => ok S A {one_two: 1}
+#[derive(FromDeriveInput)] #[darling(attributes(my), rename_all = "Pascal")] struct A { one_two: u8 } / %% / #[my(OneTwo = 1)] struct S; => refused: options of A under FromDeriveInput: 66..74 Unknown value: `Pascal`
+#[derive(FromField, FromDeriveInput)] struct A { b: u8, b: u8 } / %% => refused: unbuilt at 9..18"##;
 
 #[test]
 fn inputs(rt: HostRuntime) -> Tested<()> {
-    for (input, number, text) in INPUTS {
-        must_end(rt.alloc(), input, number, text)?;
+    let alloc = rt.alloc();
+    for row in INPUTS.lines() {
+        let (given, wanted) = row_of(row);
+        let input = lines_of(alloc, given)?;
+        must_write(alloc, input.as_str(), wanted)?;
     }
-    Ok(())
+    must_end(alloc, "", 3, "refused: no parts\n")
+}
+
+/// The text of lines that ` / ` stands between.
+fn lines_of(alloc: Global, row: &str) -> Tested<String> {
+    let mut text = String::new(alloc);
+    for line in row.split(" / ") {
+        text.push_str(line)?;
+        text.push('\n')?;
+    }
+    Ok(text)
 }
 
 /// The attribute `a` with so many parentheses in it, on a struct.

@@ -253,7 +253,10 @@ fn structs(alloc: Global) -> Result<(), Fail> {
         "N {a: true, b: \"'\"}",
     )?;
     let two = members(alloc, Value::Bool(true), Some(Value::Unit))?;
-    shows(alloc, structure(alloc, Style::Tuple, two)?, "N(true, ())")?;
+    shows(alloc, structure(alloc, Style::Tuple, two)?, "N(true, ())")
+}
+
+fn variants(alloc: Global) -> Result<(), Fail> {
     shows(
         alloc,
         variant(alloc, Style::Unit, Items::new(alloc))?,
@@ -282,5 +285,6 @@ fn values_have_their_texts(rt: HostRuntime) -> Result<(), Fail> {
     tables(alloc)?;
     leaves(alloc)?;
     holders(alloc)?;
-    structs(alloc)
+    structs(alloc)?;
+    variants(alloc)
 }
