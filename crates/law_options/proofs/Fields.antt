@@ -1,5 +1,5 @@
 -- What the options of a field leave where they have no fault.
-use Rattle.std.proofs.Common.{◌≡◌, Bool, true, false, cond, List, [], ◌∷◌, flat_map, map, Option, Some, None, refl}
+use Rattle.std.proofs.Common.{◌≡◌, Bool, true, false, cond, List, [], ◌∷◌, map, Option, Some, None, refl}
 use Rattle.std.specs.List.{AllByRecursion}
 use Rattle.tok_types.specs.declared.span.Span.{Span}
 use Rattle.node_core.specs.declared.data.Field.{Field}

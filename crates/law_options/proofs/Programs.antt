@@ -1,5 +1,5 @@
 -- The units of a program are those of the declarations that its text means.
-use Rattle.std.proofs.Common.{◌≡◌, ◌∙◌, ℕ, ◌==◌, ◌&&◌, Bool, true, false, List, [], ◌∷◌, ◌++◌, Option, Some, None, refl, sym, ap, subst}
+use Rattle.std.proofs.Common.{◌∙◌, ℕ, ◌==◌, ◌&&◌, Bool, true, false, List, [], ◌∷◌, ◌++◌, Option, Some, refl, sym, ap, subst}
 use Rattle.std.specs.Prelude.{flat_map, if◌then◌else◌}
 use Rattle.std.specs.List.{AllZip}
 use Rattle.node_core.specs.declared.derive.DeriveInput.{DeriveInput}
@@ -7,18 +7,16 @@ use Rattle.codegen_program.specs.declared.program.Derive.{Derive}
 use Rattle.codegen_program.specs.declared.program.Derive.TheVariants as derive
 use Rattle.codegen_program.specs.declared.program.«Unit».{«Unit» as Unit'}
 use Rattle.codegen_core.specs.Compiled.{compiled_derive_input, compiled_meta}
-use Rattle.codegen_core.specs.declared.from_meta_impl.FromMetaImpl.{FromMetaImpl}
 use Rattle.law_machine.specs.Made.{named_type}
-use Rattle.law_machine.specs.Machine.{is_from_meta, machine, meta_unit, unit_type}
+use Rattle.law_machine.specs.Machine.{meta_unit, unit_type}
 use Rattle.law_machine.specs.Decl.{Decl}
 use Rattle.law_machine.specs.Setting.{Setting}
 use Rattle.law_machine.specs.Declarations.{declared_meaning, meta_decl}
 use Rattle.run_compile.specs.Values.{Rules}
-use Rattle.run_compile.specs.Stages.{fdi_reader, meta_reader, options_of}
-use Rattle.run_compile.specs.Views.{IsMetaImpl}
+use Rattle.run_compile.specs.Stages.{meta_reader, options_of}
 use Rattle.run_compile.specs.Compiled.{IsUnit, IsUnitUnder}
 use Rattle.run_compile.specs.Pairs.{Pair, pairs_from}
-use Rattle.law_machine.specs.Compiles.{AreMetaUnits, IsMetaUnit}
+use Rattle.law_machine.specs.Compiles.{IsMetaUnit}
 use Rattle.law_machine.proofs.Programs.{program_is_meaning}
 use Rattle.law_options.specs.Meant.{meant_items}
 use Rattle.law_options.proofs.Declared.{input_options_are, item_options_are}

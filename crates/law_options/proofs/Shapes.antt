@@ -1,5 +1,5 @@
 -- A field whose options have no fault is not both one of many values and flattened.
-use Rattle.std.proofs.Common.{◌≡◌, ◌∙◌, ◌&&◌, Bool, true, false, cond, List, [], ◌∷◌, ◌++◌, append-nil, append_assoc, flat_map, map, Option, Some, None, refl, sym, ap, subst}
+use Rattle.std.proofs.Common.{◌≡◌, ◌&&◌, Bool, true, false, cond, List, [], ◌∷◌, ◌++◌, append-nil, append_assoc, Option, Some, None, refl, sym, subst}
 use Rattle.std.specs.Prelude.{is_some, unwrap_or}
 use Rattle.node_core.specs.declared.attr.Meta.{Meta}
 use Rattle.node_core.specs.Meta.{path_of_meta}
@@ -12,7 +12,7 @@ use Rattle.run_compile.specs.InputField.{InputField}
 use Rattle.run_compile.specs.FieldName.{FieldName}
 use Rattle.run_compile.specs.FieldName.TheVariants as option
 use Rattle.run_compile.specs.FieldLaws.{of_field-more}
-use Rattle.run_compile.specs.FieldOptions.{clash_of, clashes, field_faults, field_name_of, field_options, field_table, of_field, of_field_faults, read_faults, together}
+use Rattle.run_compile.specs.FieldOptions.{clash_of, clashes, field_faults, field_name_of, field_options, of_field, of_field_faults, read_faults}
 
 -- it is not both
 abbrev pub HasOneShape : InputField → Type 0

@@ -1,7 +1,7 @@
 -- One group is looked through.
 use Rattle.std.proofs.Common.{◌≡◌, ap, sym, ◌∙◌}
 use Rattle.tok_types.specs.declared.span.Span.{Span}
-use Rattle.node_expr.specs.declared.expr.Expr.{Expr, out-Expr, roll-Expr, out-roll-Expr}
+use Rattle.node_expr.specs.declared.expr.Expr.{Expr, roll-Expr, out-roll-Expr}
 use Rattle.node_expr.specs.declared.expr.Expr.TheFolds.{fold-roll-Expr}
 use Rattle.node_expr.specs.declared.expr.Expr.TheOpen.{Expr-F}
 use Rattle.node_expr.specs.declared.expr.Expr.TheVariants as expr

@@ -1,5 +1,5 @@
 -- An answer at a place has the outcome's faults at that place.
-use Rattle.std.proofs.Common.{◌≡◌, ap, ◌∙◌, refl, Result, Ok, Err}
+use Rattle.std.proofs.Common.{ap, ◌∙◌, Result, Ok, Err}
 use Rattle.tok_types.specs.declared.span.Span.{Span}
 use Rattle.error_fault.specs.Outcome.{Outcome, with_span}
 use Rattle.error_core.proofs.AnswersLemmas.{refusal_spanned}

@@ -1,5 +1,5 @@
 -- An answer at a place.
-use Rattle.std.specs.Prelude.{◌≡◌, Result, Ok, Err}
+use Rattle.std.specs.Prelude.{Result, Ok, Err}
 use Rattle.tok_types.specs.declared.span.Span.{Span}
 use Rattle.error_core.specs.Changes as errors
 use Rattle.error_core.specs.declared.fail.Fail.{Fail}

@@ -16,6 +16,7 @@ pub struct FromMetaTag<T>(PhantomData<T>);
 pub struct FromMetaTagAll<T>(PhantomData<T>);
 
 impl<T: FromMeta> FromMetaTag<T> {
+    /// The tag, which has no data.
     pub fn new() -> FromMetaTag<T> {
         FromMetaTag(PhantomData)
     }
@@ -30,10 +31,12 @@ impl<T: FromMeta> FromMetaTag<T> {
 }
 
 impl<T> FromMetaTagAll<T> {
+    /// The tag, which has no data.
     pub fn new() -> FromMetaTagAll<T> {
         FromMetaTagAll(PhantomData)
     }
 
+    /// None: where no item is there is no tag.
     pub fn from_none(self) -> Option<T>
         ensures { result ≡ None }
     {

@@ -21,6 +21,7 @@ use std::slice;
 pub struct PathList(pub Items<Path>);
 
 impl PathList {
+    /// The list of these paths, in their order.
     pub fn new(vals: Vec<Path>) -> PathList
         ensures { result.0 ≡ vals.items }
     {

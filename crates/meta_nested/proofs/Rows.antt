@@ -5,7 +5,7 @@ use Rattle.std.proofs.lemmas.List.{get_or_past, get_or-take, length-take}
 use Rattle.std.proofs.Math.Bool.{and-false, and-true}
 use Rattle.tok_types.specs.declared.tree.TokenTree.{TokenTree}
 use Rattle.syn_grammar.specs.Token.{is_comma, is_greater, is_less}
-use Rattle.law_angles.specs.Ends.{Before, behind, ends, max_angles, too_many}
+use Rattle.law_angles.specs.Ends.{Before, behind, ends, max_angles}
 use Rattle.meta_nested.specs.declared.angles.Role.{Role}
 use Rattle.meta_nested.specs.declared.angles.Role.TheVariants as role
 use Rattle.meta_nested.specs.declared.angles.Row.{Row}

@@ -21,6 +21,7 @@ pub struct SpannedValue<T> {
 }
 
 impl<T> SpannedValue<T> {
+    /// The value and where it stands.
     pub fn new(value: T, span: Span) -> SpannedValue<T>
         ensures { result ≡ spec.placed span value }
     {

@@ -20,6 +20,7 @@ pub struct WithOriginal<T, O> {
 }
 
 impl<T, O> WithOriginal<T, O> {
+    /// The value and what it was read from.
     pub fn new(parsed: T, original: O) -> WithOriginal<T, O>
         ensures { result ≡ spec.with_original original parsed }
     {
