@@ -1,21 +1,24 @@
 #!/bin/sh
-# Each block of Rust in README.md and docs/CALLERS.md stands in crates/uses/src, function by function.
+# Each block of Rust in README.md and docs/CALLERS.md stands in crates/uses/src, function by function. Each other block of
+# README.md is an example, or what the tool writes of it behind the command.
 set -eu
 cd "$(dirname "$0")/.."
-cat crates/uses/src/*.rt | awk '
+cat crates/uses/src/*.rt examples/*.txt examples/*.out | awk '
     FILENAME == "-" { all = all $0 "\n"; next }
     /^```rust/ { inside = 1; text = ""; next }
-    inside && (/^```/ || /^}$/) {
-        if (/^}$/) text = text $0 "\n"
+    /^```$/ && !inside && FILENAME == "README.md" { inside = 2; text = ""; next }
+    inside && (/^```/ || inside == 1 && /^}$/) {
+        if (!/^```/) text = text $0 "\n"
         if (text ~ /[^ \n]/) {
             sub(/^\n+/, "", text)
             count++
-            if (!index(all, text)) { bad++; print FILENAME ": not in crates/uses: " substr(text, 1, index(text, "\n")) }
+            if (!index(all, text)) { bad++; print FILENAME ": quoted wrong: " substr(text, 1, index(text, "\n")) }
         }
         text = ""
         if (/^```/) inside = 0
         next
     }
+    inside == 2 && /^\$ \.\/darling run < / { next }
     inside { text = text $0 "\n" }
     END { print count + 0 " quotes, " bad + 0 " wrong"; exit bad > 0 }
 ' - README.md docs/CALLERS.md
