@@ -1,7 +1,8 @@
 //! The trait of types that are read from attributes.
 
+use base_core::Items;
 use error_core::Result;
-use node_core::{Attribute, Items};
+use node_core::Attribute;
 use std::alloc::Global;
 
 /// A type that is read from the attributes of an item or of a part of one.

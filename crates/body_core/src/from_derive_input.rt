@@ -1,7 +1,8 @@
 //! The trait of types that are read from an item.
 
+use base_core::TryClone;
 use error_core::Result;
-use node_core::{DeriveInput, TryClone};
+use node_core::DeriveInput;
 use std::alloc::Global;
 
 /// A type that is read from an item.

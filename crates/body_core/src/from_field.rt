@@ -1,7 +1,9 @@
 //! The trait of types that are read from a field.
 
+use base_core::TryClone;
 use error_core::Result;
-use node_core::{Attribute, Field, TryClone, Type, Visibility};
+use node_core::{Attribute, Field, Visibility};
+use node_expr::Type;
 use std::alloc::Global;
 
 /// A type that is read from a field.

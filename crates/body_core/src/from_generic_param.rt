@@ -1,7 +1,8 @@
 //! The trait of types that are read from a generic parameter.
 
+use base_core::TryClone;
 use error_core::Result;
-use node_core::{GenericParam, TryClone};
+use node_core::GenericParam;
 use std::alloc::Global;
 
 /// A type that is read from a generic parameter.

@@ -1,7 +1,8 @@
 //! The trait of types that are read from the generics of an item.
 
+use base_core::TryClone;
 use error_core::{Error, Fail, Result};
-use node_core::{Generics, TryClone};
+use node_core::Generics;
 use std::alloc::Global;
 use std::result;
 

@@ -1,8 +1,10 @@
 //! The trait of types that are read from a type parameter.
 
+use base_core::TryClone;
 use error_core::Result;
-use node_core::{Attribute, Ident, TryClone, TypeParam};
+use node_core::{Attribute, TypeParam};
 use std::alloc::Global;
+use tok_types::Ident;
 
 /// A type that is read from a type parameter.
 pub trait FromTypeParam: Sized {

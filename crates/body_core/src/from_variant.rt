@@ -1,8 +1,10 @@
 //! The trait of types that are read from a variant.
 
+use base_core::TryClone;
 use error_core::Result;
-use node_core::{Attribute, Ident, TryClone, Variant};
+use node_core::{Attribute, Variant};
 use std::alloc::Global;
+use tok_types::Ident;
 
 /// A type that is read from a variant.
 pub trait FromVariant: Sized {

@@ -5,8 +5,9 @@ ghost use Rattle.error_core.specs.Answers.{Answers};
 ghost use Rattle.body_core.specs.Shape as spec;
 
 use crate::ast::{self, Style};
+use base_core::{Mem, TryClone};
 use error_core::{Error, Fail, Result};
-use node_core::{DataStruct, Fields, FieldsNamed, FieldsUnnamed, Mem, TryClone, Variant};
+use node_core::{DataStruct, Fields, FieldsNamed, FieldsUnnamed, Variant};
 use std::alloc::Global;
 use std::fmt::{self, Display};
 

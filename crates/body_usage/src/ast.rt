@@ -3,8 +3,8 @@
 use crate::list::push_all;
 use crate::mentions::Mentions;
 use crate::searched::Searched;
+use base_core::Mem;
 use body_core::ast;
-use tok_types::Mem;
 
 impl<T: Searched> Searched for ast::Fields<T> {
     ghost use Rattle.body_usage.specs.Ast.{members_mention};

@@ -7,8 +7,8 @@ ghost use Rattle.body_usage.specs.Nodes.{bound_mentions, trait_bound_mentions};
 use crate::list::push_all;
 use crate::mentions::Mentions;
 use crate::searched::Searched;
-use node_core::{TraitBound, TypeParamBound};
-use tok_types::Mem;
+use base_core::Mem;
+use node_expr::{TraitBound, TypeParamBound};
 
 impl Searched for TypeParamBound {
     ghost mentions = { bound_mentions };

@@ -5,8 +5,8 @@ ghost use Rattle.body_usage.specs.Items.{data_mentions, enum_mentions, field_men
 use crate::list::push_all;
 use crate::mentions::Mentions;
 use crate::searched::Searched;
+use base_core::Mem;
 use node_core::{Data, DataEnum, DataStruct, DataUnion, Field, Fields, FieldsNamed, Variant};
-use tok_types::Mem;
 
 impl Searched for Field {
     ghost mentions = { field_mentions };

@@ -6,8 +6,8 @@ use crate::bound::push_bounds;
 use crate::list::push_all;
 use crate::mentions::Mentions;
 use crate::searched::Searched;
+use base_core::Mem;
 use node_core::{ConstParam, GenericParam, LifetimeParam, TypeParam, WherePredicate};
-use tok_types::Mem;
 
 impl Searched for GenericParam {
     ghost mentions = { param_mentions };

@@ -7,10 +7,11 @@ ghost use Rattle.body_usage.specs.Parameters.{declared_ident, declared_lifetime,
 ghost use Rattle.body_usage.specs.Selected.{IsSetOf};
 
 use crate::sets::{IdentSet, LifetimeSet, add_copy};
+use base_core::Mem;
 use node_core::{GenericParam, Generics};
 use std::alloc::Global;
 use std::collections::HashSet;
-use tok_types::{Ident, Lifetime, Mem};
+use tok_types::{Ident, Lifetime};
 
 /// The parameters that a list of them declares. Their use is another matter: see
 /// [`UsesTypeParams`](crate::UsesTypeParams) and [`UsesLifetimes`](crate::UsesLifetimes).

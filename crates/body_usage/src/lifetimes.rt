@@ -5,8 +5,8 @@ use crate::mentions::Mentions;
 use crate::options::Options;
 use crate::searched::Searched;
 use crate::sets::{LifetimeRefSet, LifetimeSet, copies};
+use base_core::Mem;
 use std::alloc::Global;
-use tok_types::Mem;
 
 /// Searcher for lifetimes in a node.
 pub trait UsesLifetimes: Searched {

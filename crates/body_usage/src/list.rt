@@ -6,7 +6,8 @@ ghost use Rattle.body_usage.specs.Mentions.{all_of, nothing, optional, the_lifet
 
 use crate::mentions::Mentions;
 use crate::searched::Searched;
-use tok_types::{Ident, Items, Lifetime, Mem};
+use base_core::{Items, Mem};
+use tok_types::{Ident, Lifetime};
 
 impl Searched for () {
     ghost mentions = { λ it. nothing };

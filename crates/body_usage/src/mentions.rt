@@ -9,10 +9,11 @@ ghost use Rattle.body_usage.specs.Selected.{IsExtended, shown};
 
 use crate::options::Options;
 use crate::sets::{IdentRefSet, IdentSet, LifetimeRefSet, LifetimeSet, add_counted};
+use base_core::Mem;
 use std::alloc::Global;
 use std::collections::HashSet;
 use std::marker::Model;
-use tok_types::{Ident, Lifetime, Mem};
+use tok_types::{Ident, Lifetime};
 
 /// A name, and whether it stands in the type in front of a path.
 #[derive(Clone, Copy)]

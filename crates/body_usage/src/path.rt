@@ -10,8 +10,8 @@ use crate::bound::push_bounds;
 use crate::mentions::Mentions;
 use crate::searched::Searched;
 use crate::ty::{push_output, push_types};
-use node_core::{GenericArgument, Path, PathArguments, PathSegment, QSelf};
-use tok_types::Mem;
+use base_core::Mem;
+use node_expr::{GenericArgument, Path, PathArguments, PathSegment, QSelf};
 
 impl Searched for Path {
     ghost mentions = { path_mentions };

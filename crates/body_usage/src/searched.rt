@@ -1,7 +1,7 @@
 //! What can be searched for names: the trait.
 
 use crate::mentions::Mentions;
-use tok_types::Mem;
+use base_core::Mem;
 
 /// What can be searched for type parameters and lifetimes.
 pub trait Searched {

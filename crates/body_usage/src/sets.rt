@@ -3,10 +3,11 @@
 ghost use Rattle.std.specs.Prelude.{◌&&◌, ◌++◌, ◌∷◌, [], OnOk, IfOk};
 ghost use Rattle.body_usage.specs.Selected.{IsExtended, IsSetOf, shown};
 
+use base_core::{Mem, TryClone};
 use std::alloc::Global;
 use std::collections::HashSet;
 use std::hash::Hash;
-use tok_types::{Ident, Lifetime, Mem, TryClone};
+use tok_types::{Ident, Lifetime};
 
 /// A set of identifiers.
 pub type IdentSet = HashSet<Ident>;

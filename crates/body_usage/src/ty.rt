@@ -9,11 +9,11 @@ ghost use Rattle.body_usage.specs.Kinds.{fn_ptr_mentions, input_of, output_menti
 use crate::bound::push_bounds;
 use crate::mentions::Mentions;
 use crate::searched::Searched;
-use node_core::{
+use base_core::Mem;
+use node_expr::{
     NamedArg, ReturnType, Type, TypeArray, TypeFnPtr, TypeGroup, TypeImplTrait, TypeInfer,
     TypeNever, TypeParen, TypePath, TypePtr, TypeReference, TypeSlice, TypeTraitObject, TypeTuple,
 };
-use tok_types::Mem;
 
 impl Searched for Type {
     ghost mentions = { type_mentions };

@@ -5,8 +5,8 @@ use crate::mentions::Mentions;
 use crate::options::Options;
 use crate::searched::Searched;
 use crate::sets::{IdentRefSet, IdentSet, copies};
+use base_core::Mem;
 use std::alloc::Global;
-use tok_types::Mem;
 
 /// Searcher for type parameters in a node.
 pub trait UsesTypeParams: Searched {

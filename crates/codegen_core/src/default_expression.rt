@@ -3,9 +3,10 @@
 ghost use Rattle.std.specs.Prelude.{◌≡◌, IfOk};
 ghost use Rattle.codegen_core.specs.Defaults as spec;
 
+use base_core::{Mem, TryClone};
 use codegen_program::{Callable, DefaultSource, Fallback};
-use node_core::{Ident, Mem, Span, TryClone};
 use std::alloc::Global;
+use tok_types::{Ident, Span};
 
 /// The value of a field, or of a whole receiver, where no item gives one.
 pub enum DefaultExpression<'a> {

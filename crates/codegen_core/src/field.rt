@@ -6,9 +6,12 @@ ghost use Rattle.codegen_core.specs.Fields as spec;
 
 use crate::default_expression::DefaultExpression;
 use crate::overrideable_callable::OverrideableCallable;
+use base_core::{Items, Mem, Text, TryClone};
+use body_usage::{Mentions, Searched};
 use codegen_program::{Arm, Fallback, Init, PostfixTransform, Stmt};
-use node_core::{Ident, Items, Mem, Text, TryClone, Type};
+use node_expr::Type;
 use std::alloc::Global;
+use tok_types::Ident;
 
 /// A field of a receiver, as the options leave it.
 pub struct Field<'a> {
@@ -139,6 +142,17 @@ impl<'a> Field<'a> {
             Some(it) => Ok(Some(it.to_fallback(alloc)?)),
             None => Ok(None),
         }
+    }
+}
+
+/// The names that the field's type uses.
+impl<'a> Searched for Field<'a> {
+    ghost use Rattle.body_usage.specs.Nodes.{type_mentions};
+
+    ghost mentions = { λ field. type_mentions field.ty.now };
+
+    fn push_mentions<'n>(&'n self, in_qself: bool, found: &mut Mentions<'n>) -> Mem<()> {
+        self.ty.push_mentions(in_qself, found)
     }
 }
 

@@ -5,9 +5,9 @@ ghost use Rattle.std.specs.List.{list_any};
 ghost use Rattle.codegen_core.specs.Fields as spec;
 
 use crate::field::Field;
+use base_core::{Items, Mem, Text};
 use body_core::ast::Fields;
 use codegen_program::{Arm, Init, Rest, Stmt};
-use node_core::{Items, Mem, Text};
 use std::alloc::Global;
 
 /// The fields of a struct or of a variant, and whether items that are for none of them are let pass.

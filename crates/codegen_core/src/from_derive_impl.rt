@@ -4,8 +4,8 @@ ghost use Rattle.std.specs.Prelude.{◌≡◌, ◌++◌, ◌<◌, ◌^◌, lengt
 ghost use Rattle.codegen_core.specs.Compiled as spec;
 
 use crate::trait_impl::TraitImpl;
+use base_core::{Items, Mem};
 use codegen_program::{Derive, Forward, FuncName, PathList, Stmt, Unit};
-use node_core::{Items, Mem};
 use std::alloc::Global;
 
 /// A receiver that derives `FromDeriveInput`. Parts of the item that it takes as they stand are no part of it yet.

@@ -4,8 +4,8 @@ ghost use Rattle.std.specs.Prelude.{◌≡◌, ◌<◌, ◌^◌, length, IfOk};
 ghost use Rattle.codegen_core.specs.Compiled as spec;
 
 use crate::trait_impl::TraitImpl;
+use base_core::{Items, Mem};
 use codegen_program::{Callable, Derive, FuncName, Stmt, Unit};
-use node_core::{Items, Mem};
 use std::alloc::Global;
 
 /// A receiver that derives `FromMeta`.

@@ -13,10 +13,6 @@ mod overrideable_callable;
 mod trait_impl;
 mod variant;
 
-pub use codegen_program::{
-    Arm, DefaultSource, Derive, Fallback, Forward, Func, FuncName, Init, PostfixTransform, Program,
-    Rest, Stmt, Unit,
-};
 pub use default_expression::DefaultExpression;
 pub use field::Field;
 pub use fields::FieldsGen;

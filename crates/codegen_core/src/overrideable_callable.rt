@@ -3,9 +3,10 @@
 ghost use Rattle.std.specs.Prelude.{◌≡◌, IfOk};
 ghost use Rattle.codegen_core.specs.Defaults as spec;
 
+use base_core::{Mem, TryClone};
 use codegen_program::Callable;
-use node_core::{Mem, Span, TryClone};
 use std::alloc::Global;
+use tok_types::Span;
 
 /// What converts an item: a callable that the options name, or the field's type.
 pub enum OverrideableCallable<'a> {

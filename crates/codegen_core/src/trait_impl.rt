@@ -8,10 +8,13 @@ use crate::default_expression::DefaultExpression;
 use crate::field::{Field, clone_of};
 use crate::fields::FieldsGen;
 use crate::variant::Variant;
+use base_core::{Items, Mem, TryClone};
 use body_core::ast::Data;
 use codegen_program::{DefaultSource, Derive, Func, FuncName, PostfixTransform, Stmt, Unit};
-use node_core::{Generics, Ident, Items, Mem, Path, PathArguments, TryClone};
+use node_core::Generics;
+use node_expr::{Path, PathArguments};
 use std::alloc::Global;
+use tok_types::Ident;
 
 /// What options leave of a declaration, whatever it derives.
 pub struct TraitImpl<'a> {

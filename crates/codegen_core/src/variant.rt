@@ -2,7 +2,7 @@
 
 use crate::field::Field;
 use body_core::ast::Fields;
-use node_core::Ident;
+use tok_types::Ident;
 
 /// A variant of a receiver, as the options leave it.
 pub struct Variant<'a> {

@@ -1,6 +1,6 @@
 //! Which attributes are handed on as they stand.
 
-use node_core::{Items, Mem, Text, TryClone};
+use base_core::{Items, Mem, Text, TryClone};
 use std::alloc::Global;
 
 /// The attributes that are handed on as they stand: none, all, or those of these names.

@@ -1,7 +1,8 @@
 //! What a receiver's members are built from.
 
-use node_core::{Ident, Mem, Text, TryClone};
+use base_core::{Mem, Text, TryClone};
 use std::alloc::Global;
+use tok_types::Ident;
 use util_core::Callable;
 
 /// What the default of a whole receiver comes from.

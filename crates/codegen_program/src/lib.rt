@@ -14,5 +14,5 @@ pub use arm::{Arm, PostfixTransform, Rest};
 pub use forward::Forward;
 pub use init::{DefaultSource, Fallback, Init};
 pub use program::{Derive, Func, FuncName, Program, Unit};
-pub use stmt::Stmt;
+pub use stmt::{MAX_NESTING, Stmt};
 pub use util_core::{Callable, PathList};

@@ -1,8 +1,11 @@
 //! Programs, their units, and the functions of a unit.
 
 use crate::stmt::Stmt;
-use node_core::{DeriveInput, Generics, Ident, Items, Mem, Path, TryClone};
+use base_core::{Items, Mem, TryClone};
+use node_core::{DeriveInput, Generics};
+use node_expr::Path;
 use std::alloc::Global;
+use tok_types::Ident;
 
 /// The traits that a receiver derives.
 #[derive(Clone, Copy, Debug, PartialEq, Eq)]

@@ -5,8 +5,13 @@ ghost use Rattle.std.specs.Prelude.{◌≡◌, IfOk};
 use crate::arm::{Arm, PostfixTransform, Rest};
 use crate::forward::Forward;
 use crate::init::{DefaultSource, Init};
-use node_core::{Ident, Items, Mem, Text, TryClone, Type};
+use base_core::{Items, Mem, Text, TryClone};
+use node_expr::Type;
 use std::alloc::Global;
+use tok_types::Ident;
+
+/// How deep statements may stand in statements, where a program is looked through or run.
+pub const MAX_NESTING: usize = 64;
 
 /// A statement of a function that reads a struct.
 pub enum Stmt {

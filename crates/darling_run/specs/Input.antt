@@ -10,7 +10,7 @@ use Rattle.run_source.specs.Source.{AreRefused, AreRunnable}
 use Rattle.run_source.specs.Source as source
 use Rattle.run_source.specs.declared.report.Report.{Report}
 use Rattle.run_source.specs.Values.{Rules}
-use Rattle.util_table.specs.Table.{bad_line, rows_of}
+use Rattle.run_source.specs.Table.{bad_line, rows_of}
 use Rattle.darling_run.specs.declared.status.Status.{Status}
 use Rattle.darling_run.specs.declared.status.Status.TheVariants.{NotText, NoParts, BadTable, TooDeep, Syntax, Unbuilt, DuplicateName, Rejected, Unsupported, UnknownType, UnknownCallable, NoReceiver, NoMemory}
 use Rattle.darling_run.specs.Status.{status_of}

@@ -6,10 +6,9 @@ ghost use Rattle.darling_run.specs.Input as spec;
 
 use crate::status::Status;
 use run_parts::{as_text, divide};
-use run_source::{Host, RenameTable, Report, run_source};
+use run_source::{Host, RenameTable, Report, TableFail, run_source};
 use std::alloc::Global;
 use tok_core::MAX_LEN;
-use util_table::TableFail;
 
 /// Runs the declarations of an input on its subjects.
 pub(crate) fn run_input<H: Host>(alloc: Global, bytes: &[u8], host: &H) -> Result<Report, Status>

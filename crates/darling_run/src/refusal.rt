@@ -4,11 +4,13 @@ ghost use Rattle.std.specs.Prelude.{◌≡◌, IfOk};
 ghost use Rattle.darling_run.specs.Status as spec;
 
 use crate::status::Status;
+use base_core::{Mem, Text};
+use codegen_program::Derive;
 use error_fault::push_span;
-use run_source::{Derive, Form, Mem, Rejected, Span};
+use run_source::{Form, Rejected};
 use run_text::push_fault_lines;
 use std::alloc::Global;
-use tok_types::Text;
+use tok_types::Span;
 
 /// The line that tells of a refusal. It is empty for a status that is none, and where nothing can
 /// be written.

@@ -4,11 +4,13 @@ ghost use Rattle.std.specs.Prelude.{◌≡◌, ◌++◌, flat_map, IfOk, OnOk};
 ghost use Rattle.tok_types.specs.Ident.{ident_text};
 ghost use Rattle.darling_run.specs.Report.{fault_row, ok_line, err_line, outcome_text, report_text};
 
+use base_core::{Mem, Text};
 use error_fault::{Fault, push_fault_line};
+use machine_value::Value;
 use run_source::{Outcome, Report};
-use run_text::{Value, push_value};
+use run_text::push_value;
 use std::alloc::Global;
-use tok_types::{Ident, Mem, Text};
+use tok_types::Ident;
 
 /// The lines of a report, one or more for each subject; of outcomes and subjects without the other there are none.
 pub fn report_text(alloc: Global, report: &Report) -> Mem<Text>

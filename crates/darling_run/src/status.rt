@@ -3,9 +3,10 @@
 ghost use Rattle.std.specs.Prelude.{◌≡◌};
 ghost use Rattle.darling_run.specs.Status as spec;
 
-use base_core::TryClone;
-use run_source::{Form, Mem, Rejected, RunError, Span};
+use base_core::{Mem, TryClone};
+use run_source::{Form, Rejected, RunError};
 use std::alloc::{AllocError, Global};
+use tok_types::Span;
 
 /// How a run ended. Where several refusals would fit, the first of this list that does is named.
 #[derive(Debug, Drop)]

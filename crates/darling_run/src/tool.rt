@@ -6,11 +6,11 @@ use crate::input::run_input;
 use crate::refusal::refusal_text;
 use crate::report::report_text;
 use crate::status::Status;
+use base_core::{Mem, Text, TryClone};
 use edge_core::{ReadAll, Sink, Source, read_all, write_all};
 use run_source::{Host, Report};
 use std::alloc::{AllocError, Global};
 use tok_core::MAX_LEN;
-use tok_types::{Mem, Text, TryClone};
 
 /// How many bytes an input has at most.
 const LIMIT: u64 = MAX_LEN as u64;

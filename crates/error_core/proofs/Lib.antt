@@ -1,4 +1,9 @@
 pub mod ToldLemmas
-pub mod TextLemmas
 pub mod AnswersLemmas
 pub mod TokenLemmas
+pub mod PreorderLemmas
+pub mod RootsLemmas
+pub mod WalkLemmas
+pub mod WrittenLemmas
+pub mod SplitLemmas
+pub mod WiderLemmas

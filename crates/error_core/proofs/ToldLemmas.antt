@@ -1,17 +1,13 @@
 -- What the calls on errors do to the faults.
-use Rattle.std.proofs.Common.{◌<◌, Result, Ok, Err, IfOk, ◌≡◌, ◌≢◌, ℕ, ◌≤◌, List, [], ◌∷◌, ◌++◌, length, map, refl, Option, None, arith, ap, ◌∙◌, sym, append_assoc, append-nil, sum_by}
-use Rattle.std.proofs.lemmas.List.{length-map, map-append}
-use Rattle.std.proofs.lemmas.List.Concat.{length-flat_map}
+use Rattle.std.proofs.Common.{◌<◌, ◌≡◌, List, [], ◌∷◌, ◌++◌, length, map, refl, arith, ap, ◌∙◌, sym, append_assoc, append-nil}
+use Rattle.std.proofs.lemmas.List.{map-append}
 use Rattle.base_core.specs.declared.text.Text.{Text}
 use Rattle.tok_types.specs.declared.span.Span.{Span}
 use Rattle.error_fault.specs.declared.fault.Fault.{Fault}
 use Rattle.error_fault.specs.Fault.{with_sibling_names}
-use Rattle.error_fault.specs.Faults.{at, siblings}
-use Rattle.error_core.specs.ErrorView.{ErrorView, One, Several, MoreErrors, no_more, and_then, list_of, more_of, first_leaf, more_leaves, leaves, leaves_in, below, held, children_of}
-use Rattle.error_core.specs.Changes.{located, widened, more_widened, joined, flat, FlatStays}
-use Rattle.error_core.specs.declared.error.Node.{Node}
-use Rattle.error_core.specs.declared.error.Node.TheVariants.{Leaf, Many}
-use Rattle.error_core.specs.View.{of_many, of_node}
+use Rattle.error_fault.specs.Faults.{at, siblings, span_one}
+use Rattle.error_core.specs.ErrorView.{ErrorView, One, Several, MoreErrors, no_more, and_then, list_of, more_of, first_leaf, more_leaves, leaves, leaves_in, below, held, span_of}
+use Rattle.error_core.specs.Changes.{located, spanned, widened, more_widened, joined, flat, FlatStays}
 
 pub map_below-more : (name : Text) (path : List Text) (faults : List Fault)
     → map (below (name ∷ path)) faults ≡ at (map (below path) faults) name
@@ -34,23 +30,26 @@ leaves_in-more_of : (errors : List ErrorView) → leaves_in (more_of errors) ≡
 leaves_in-more_of [] = refl
 leaves_in-more_of (told ∷ errors) = ap (λ faults. leaves told ++ faults) (leaves_in-more_of errors)
 
--- the faults of a root are those of its children below its path
-pub leaves_of_many : (errors : List ErrorView) (path : List Text) (span : Option Span) → 2 ≤ length errors
-    → leaves (of_many errors path span) ≡ map (below path) (held errors)
-leaves_of_many [] path span two = absurd (omega arith)
-leaves_of_many (a ∷ []) path span two = absurd (omega arith)
-leaves_of_many (a ∷ b ∷ more) path span two =
-    ap (λ faults. map (below path) (leaves a ++ (leaves b ++ faults))) (leaves_in-more_of more)
+-- the faults of a root over errors are theirs, one after another
+pub leaves_joined : (errors : List ErrorView) (other : ErrorView) → 0 < length errors → leaves (joined errors other) ≡ held errors
+leaves_joined [] other some = absurd (omega arith)
+leaves_joined (a ∷ []) other some = sym (append-nil (leaves a))
+leaves_joined (a ∷ b ∷ more) other some =
+    map_below-none (leaves a ++ (leaves b ++ leaves_in (more_of more)))
+    ∙ ap (λ faults. leaves a ++ (leaves b ++ faults)) (leaves_in-more_of more)
 
-pub leaves_joined : (errors : List ErrorView) (span : Option Span) → 2 ≤ length errors → leaves (of_many errors [] span) ≡ held errors
-leaves_joined errors span two = leaves_of_many errors [] span two ∙ map_below-none (held errors)
+span_one-more : (span : Span) (first : Fault) (path : List Text) (before : List Fault) (next : Fault) (more : List Fault)
+    → span_one (first ∷ map (below path) (before ++ next ∷ more)) span ≡ first ∷ map (below path) (before ++ next ∷ more)
+span_one-more span first path [] next more = refl
+span_one-more span first path (other ∷ before) next more = refl
 
-pub counted_joined : (errors : List ErrorView) (n : ℕ) → 2 ≤ length errors → n ≡ sum_by (λ told. length (leaves told)) errors
-    → n ≡ length (leaves (of_many errors [] None))
-counted_joined errors n two is =
-    is ∙ sym (length-flat_map leaves errors) ∙ sym (ap (length {A = Fault}) (leaves_joined errors None two))
+-- a place for the root is one for the only fault
+pub leaves_spanned : (told : ErrorView) (span : Span) → leaves (spanned told span) ≡ span_one (leaves told) span
+leaves_spanned (One fault) span = refl
+leaves_spanned (Several path own a b more) span =
+    sym (span_one-more span (below path (first_leaf a)) path (more_leaves a) (first_leaf b) (more_leaves b ++ leaves_in more))
 
-map_below-append : (above path : List Text) (faults : List Fault)
+pub map_below-append : (above path : List Text) (faults : List Fault)
     → map (below (above ++ path)) faults ≡ map (below above) (map (below path) faults)
 map_below-append above path [] = refl
 map_below-append above path (fault ∷ faults) =
@@ -59,12 +58,6 @@ map_below-append above path (fault ∷ faults) =
     ap (λ f. f ∷ map (below (above ++ path)) faults) e
     ∙ ap (λ more. below above (below path fault) ∷ more) (map_below-append above path faults)
 
--- the faults of the children, each below the locations above the root and those of the root
-pub gathered : (errors : List ErrorView) (above path : List Text) (span : Option Span) → 2 ≤ length errors
-    → map (below (above ++ path)) (held errors) ≡ map (below above) (leaves (of_many errors path span))
-gathered errors above path span two =
-    map_below-append above path (held errors) ∙ ap (map (below above)) (sym (leaves_of_many errors path span two))
-
 nothing_left : {X : Type 0} (items : List X) → length items ≡ 0 → items ≡ []
 nothing_left [] none = refl
 nothing_left (item ∷ items) none = absurd (omega arith)
@@ -72,14 +65,6 @@ nothing_left (item ∷ items) none = absurd (omega arith)
 -- a loop by value is over all where nothing is left
 pub all_taken : {X : Type 0} (items taken left : List X) → items ≡ taken ++ left → length left ≡ 0 → items ≡ taken
 all_taken items taken left split none = split ∙ ap (λ rest. taken ++ rest) (nothing_left left none) ∙ append-nil taken
-
-pub gather_done : (errors taken left : List ErrorView) (above path : List Text) (span : Option Span) (error : ErrorView)
-    → errors ≡ taken ++ left → length left ≡ 0 → 2 ≤ length errors → of_many errors path span ≡ error
-    → map (below (above ++ path)) (held taken) ≡ map (below above) (leaves error)
-gather_done errors taken left above path span error split none two is =
-    ap (λ all. map (below (above ++ path)) (held all)) (sym (all_taken errors taken left split none))
-    ∙ gathered errors above path span two
-    ∙ ap (λ told. map (below above) (leaves told)) is
 
 siblings_below : (name : Text) (path : List Text) (faults : List Fault) (names : List Text)
     → siblings (map (below (name ∷ path)) faults) names ≡ map (below (name ∷ path)) faults
@@ -110,74 +95,18 @@ mutual
   leaves_in-widened (and_then told more) names =
       siblings_append (leaves told) (leaves_in more) _ _ names (leaves_widened told names) (leaves_in-widened more names)
 
-widened_in_many : (errors : List ErrorView) (name : Text) (path : List Text) (span : Option Span) (names : List Text)
-    → widened (of_many errors (name ∷ path) span) names ≡ of_many errors (name ∷ path) span
-widened_in_many [] name path span names = refl
-widened_in_many (a ∷ []) name path span names = refl
-widened_in_many (a ∷ b ∷ more) name path span names = refl
-
-widened_of_node : (node : Node) (path : List Text) (span : Option Span) (names : List Text) → path ≢ []
-    → widened (of_node node path span) names ≡ of_node node path span
-widened_of_node node [] span names some = absurd (some refl)
-widened_of_node (Leaf kind) (name ∷ path) span names some = refl
-widened_of_node (Many kids) (name ∷ path) span names some = widened_in_many kids.items name path span names
-
--- an error in a field takes no alternatives
-pub widened_in_field : (node : Node) (path : List Text) (span : Option Span) (names : List Text) (told : ErrorView)
-    → of_node node path span ≡ told → path ≢ [] → told ≡ widened told names
-widened_in_field node path span names told is some =
-    sym is ∙ sym (widened_of_node node path span names some) ∙ ap (λ it. widened it names) is
-
-more_of-map_widened : (errors : List ErrorView) (names : List Text)
-    → more_of (map (λ told. widened told names) errors) ≡ more_widened (more_of errors) names
-more_of-map_widened [] names = refl
-more_of-map_widened (told ∷ errors) names = ap (and_then (widened told names)) (more_of-map_widened errors names)
-
-widened_of_many : (errors : List ErrorView) (span : Option Span) (names : List Text) → 2 ≤ length errors
-    → of_many (map (λ told. widened told names) errors) [] span ≡ widened (of_many errors [] span) names
-widened_of_many [] span names two = absurd (omega arith)
-widened_of_many (a ∷ []) span names two = absurd (omega arith)
-widened_of_many (a ∷ b ∷ more) span names two =
-    ap (Several [] span (widened a names) (widened b names)) (more_of-map_widened more names)
-
-pub length-widened : (taken children : List ErrorView) (names : List Text) → children ≡ map (λ told. widened told names) taken
-    → length children ≡ length taken
-length-widened taken children names each =
-    ap (length {A = ErrorView}) each ∙ length-map taken (λ told. widened told names)
-
--- the root over the widened children is the widened root
-pub widened_done : (errors taken left children : List ErrorView) (path : List Text) (span : Option Span) (names : List Text) (told : ErrorView)
-    → errors ≡ taken ++ left → length left ≡ 0 → 2 ≤ length errors → path ≡ []
-    → children ≡ map (λ it. widened it names) taken → of_many errors path span ≡ told
-    → of_many children path span ≡ widened told names
-widened_done errors taken left children path span names told split none two top each is =
-    let kept = each ∙ ap (map (λ it. widened it names)) (sym (all_taken errors taken left split none)) in
-    ap (λ p. of_many children p span) top
-    ∙ ap (λ kids. of_many kids [] span) kept
-    ∙ widened_of_many errors span names two
-    ∙ ap (λ p. widened (of_many errors p span) names) (sym top)
-    ∙ ap (λ it. widened it names) is
+pub span_widened : (told : ErrorView) (names : List Text) → span_of (widened told names) ≡ span_of told
+span_widened (One fault) names = refl
+span_widened (Several [] span a b more) names = refl
+span_widened (Several (name ∷ path) span a b more) names = refl
 
 pub leaves-is_widened : (told error : ErrorView) (names : List Text) → error ≡ widened told names
     → leaves error ≡ siblings (leaves told) names
 leaves-is_widened told error names is = ap leaves is ∙ leaves_widened told names
 
-pub counted_widened : (told error : ErrorView) (names : List Text) (n : ℕ) → error ≡ widened told names
-    → n ≡ length (leaves told) → n ≡ length (leaves error)
-counted_widened told error names n is counted =
-    counted ∙ sym (length-map (leaves told) (λ fault. with_sibling_names fault names))
-    ∙ ap (length {A = Fault}) (sym (leaves-is_widened told error names is))
-
-list_of-more_of : (errors : List ErrorView) → list_of (more_of errors) ≡ errors
+pub list_of-more_of : (errors : List ErrorView) → list_of (more_of errors) ≡ errors
 list_of-more_of [] = refl
 list_of-more_of (told ∷ errors) = ap (λ more. told ∷ more) (list_of-more_of errors)
-
--- the children of a root are those that it was made over
-pub children_of_many : (errors : List ErrorView) (path : List Text) (span : Option Span) → 2 ≤ length errors
-    → children_of (of_many errors path span) ≡ errors
-children_of_many [] path span two = absurd (omega arith)
-children_of_many (a ∷ []) path span two = absurd (omega arith)
-children_of_many (a ∷ b ∷ more) path span two = ap (λ rest. a ∷ b ∷ rest) (list_of-more_of more)
 
 flat_ones : (faults : List Fault) → leaves_in (more_of (map One faults)) ≡ faults
 flat_ones [] = refl
@@ -204,16 +133,3 @@ flat_stays told = (
       ∙ joined-other (map One (leaves told)) (flat told) told (omega arith),
   leaves_flat told,
 )
-
-pub IfOk-flat : {E : Type 0} (r : Result ErrorView E) (errors : List ErrorView) (faults : List Fault) (told : ErrorView)
-    → errors ≡ map One faults → leaves told ≡ faults → IfOk r (λ error. error ≡ joined errors error)
-    → IfOk r (λ error. error ≡ flat told)
-IfOk-flat (Ok error) errors faults told ones are is =
-    is ∙ ap (λ list. joined list error) (ones ∙ ap (map One) (sym are))
-    ∙ joined-other (map One (leaves told)) error told (omega arith)
-IfOk-flat (Err e) errors faults told ones are is = tt
-
-pub IfOk-leaves_flat : {E : Type 0} (r : Result ErrorView E) (told : ErrorView) → IfOk r (λ error. error ≡ flat told)
-    → IfOk r (λ error. leaves error ≡ leaves told)
-IfOk-leaves_flat (Ok error) told is = ap leaves is ∙ leaves_flat told
-IfOk-leaves_flat (Err e) told is = tt

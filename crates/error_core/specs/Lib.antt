@@ -1,8 +1,11 @@
 pub mod ErrorView
 pub mod Coded
 pub mod Changes
-pub mod View
-pub mod Falls
+pub mod Preorder
+pub mod Walk
+pub mod Written
+pub mod Split
+pub mod Wider
 pub mod Answers
 pub mod Each
 pub mod NodeKinds
@@ -15,6 +18,5 @@ pub use Rattle.error_fault.specs.Faults
 pub use Rattle.error_fault.specs.Kind
 pub use Rattle.error_fault.specs.Outcome
 pub use Rattle.node_core.specs.Error
-pub use Rattle.node_core.specs.Nodes
-pub use Rattle.node_core.specs.PathText
+pub use Rattle.node_make.specs.PathText
 pub use Rattle.node_span.specs.Spanned

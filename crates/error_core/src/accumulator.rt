@@ -7,7 +7,7 @@ ghost use Rattle.error_core.specs.Answers.{Answers, Handles, IsJoined};
 
 use crate::error::Error;
 use crate::fail::{Fail, Result};
-use error_fault::Mem;
+use base_core::Mem;
 use std::alloc::{AllocError, Global};
 use std::marker::Model;
 

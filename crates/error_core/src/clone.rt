@@ -1,29 +1,24 @@
 //! Clones of errors, and of why a call gives no value.
 
-use crate::error::{Error, Node, push_child};
+use crate::error::{Error, Node};
 use crate::fail::Fail;
-use error_fault::{Mem, TryClone};
+use base_core::{Mem, TryClone};
 use std::alloc::Global;
 
 impl TryClone for Error {
     fn try_clone(&self, alloc: Global) -> Mem<Error> {
-        let node = match &self.node {
-            Node::Leaf(kind) => Node::Leaf(kind.try_clone(alloc)?),
-            Node::Many(errors) => {
-                let mut children = Vec::new(alloc);
-                for child in errors {
-                    let child = child.try_clone(alloc)?;
-                    push_child(&mut children, child)?;
-                }
-                Node::Many(children)
-            }
-        };
-        Ok(Error {
-            node,
+        let nodes = self.nodes.try_clone(alloc)?;
+        Ok(Error { nodes, alloc })
+    }
+}
+
+impl TryClone for Node {
+    fn try_clone(&self, alloc: Global) -> Mem<Node> {
+        Ok(Node {
+            size: self.size,
             locations: self.locations.try_clone(alloc)?,
             span: self.span,
-            count: self.count,
-            alloc,
+            kind: self.kind.try_clone(alloc)?,
         })
     }
 }

@@ -6,11 +6,11 @@ ghost use Rattle.error_core.specs.Syn.{syn_fault};
 ghost use Rattle.error_core.specs.ErrorView.{leaves};
 
 use crate::error::Error;
-use error_fault::{Items, Mem, Span, Text};
+use base_core::{Boxed, Items, Mem, Text};
 use node_core::SynError;
 use std::alloc::Global;
 use tok_core::quoted;
-use tok_types::{Boxed, Delimiter, Group, Ident, Literal, Punct, TokenStream, TokenTree};
+use tok_types::{Delimiter, Group, Ident, Literal, Punct, Span, TokenStream, TokenTree};
 
 /// For each fault, in order, `::core::compile_error!{"text"}` with each token at its place. Want of
 /// memory drops the faults.

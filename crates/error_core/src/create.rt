@@ -5,14 +5,15 @@ ghost use Rattle.error_fault.specs.Kind.{set_of};
 ghost use Rattle.error_core.specs.Changes.{leaf};
 
 use crate::error::Error;
-use error_fault::{Fault, FaultKind, Mem, Shared, Text, name_set};
+use base_core::{Mem, Text};
+use error_fault::{Fault, FaultKind, Shared, name_set};
 use std::alloc::Global;
 use std::collections::BTreeSet;
 
 /// Errors of one fault, in no field and at no place.
 impl Error {
-    fn leaf(alloc: Global, kind: FaultKind) -> Error
-        ensures { result ≡ leaf kind }
+    fn leaf(alloc: Global, kind: FaultKind) -> Mem<Error>
+        ensures { IfOk result (λ error. error ≡ leaf kind) }
     {
         Error::from_fault(alloc, Fault::new(alloc, kind))
     }
@@ -22,7 +23,7 @@ impl Error {
         ensures { IfOk result (λ error. error ≡ leaf (FaultKind.Custom msg.now)) }
     {
         let message = Text::from_str(alloc, msg)?;
-        Ok(Error::leaf(alloc, FaultKind::Custom(message)))
+        Error::leaf(alloc, FaultKind::Custom(message))
     }
 
     /// A field that stands more than once.
@@ -30,7 +31,7 @@ impl Error {
         ensures { IfOk result (λ error. error ≡ leaf (FaultKind.DuplicateField name.now)) }
     {
         let name = Text::from_str(alloc, name)?;
-        Ok(Error::leaf(alloc, FaultKind::DuplicateField(name)))
+        Error::leaf(alloc, FaultKind::DuplicateField(name))
     }
 
     /// A field that has to stand and does not.
@@ -38,7 +39,7 @@ impl Error {
         ensures { IfOk result (λ error. error ≡ leaf (FaultKind.MissingField name.now)) }
     {
         let name = Text::from_str(alloc, name)?;
-        Ok(Error::leaf(alloc, FaultKind::MissingField(name)))
+        Error::leaf(alloc, FaultKind::MissingField(name))
     }
 
     /// A field that is not known, with no alternatives.
@@ -47,7 +48,7 @@ impl Error {
     {
         let name = Text::from_str(alloc, name)?;
         let alts = Shared::new(alloc, BTreeSet::new(alloc))?;
-        Ok(Error::leaf(alloc, FaultKind::UnknownField { name, alts }))
+        Error::leaf(alloc, FaultKind::UnknownField { name, alts })
     }
 
     /// A field that is not known, where `alts` are.
@@ -57,7 +58,7 @@ impl Error {
     {
         let name = Text::from_str(alloc, field)?;
         let alts = Shared::new(alloc, name_set(alloc, alts)?)?;
-        Ok(Error::leaf(alloc, FaultKind::UnknownField { name, alts }))
+        Error::leaf(alloc, FaultKind::UnknownField { name, alts })
     }
 
     /// A declaration of a shape that is not taken.
@@ -67,7 +68,7 @@ impl Error {
         let observed = Text::from_str(alloc, shape)?;
         let expected = None;
         let kind = FaultKind::UnsupportedShape { observed, expected };
-        Ok(Error::leaf(alloc, kind))
+        Error::leaf(alloc, kind)
     }
 
     /// A declaration of a shape that is not taken; `expected` names those that are.
@@ -78,7 +79,7 @@ impl Error {
         let observed = Text::from_str(alloc, shape)?;
         let expected = Some(Text::from_str(alloc, expected)?);
         let kind = FaultKind::UnsupportedShape { observed, expected };
-        Ok(Error::leaf(alloc, kind))
+        Error::leaf(alloc, kind)
     }
 
     /// An item of a format that is not read, as `word` or `list`.
@@ -86,7 +87,7 @@ impl Error {
         ensures { IfOk result (λ error. error ≡ leaf (FaultKind.UnexpectedFormat format.now)) }
     {
         let format = Text::from_str(alloc, format)?;
-        Ok(Error::leaf(alloc, FaultKind::UnexpectedFormat(format)))
+        Error::leaf(alloc, FaultKind::UnexpectedFormat(format))
     }
 
     /// A literal or an expression of a type that is not read.
@@ -94,7 +95,7 @@ impl Error {
         ensures { IfOk result (λ error. error ≡ leaf (FaultKind.UnexpectedType ty.now)) }
     {
         let name = Text::from_str(alloc, ty)?;
-        Ok(Error::leaf(alloc, FaultKind::UnexpectedType(name)))
+        Error::leaf(alloc, FaultKind::UnexpectedType(name))
     }
 
     /// A value that is not known, with no alternatives.
@@ -103,7 +104,7 @@ impl Error {
     {
         let name = Text::from_str(alloc, value)?;
         let alts = Shared::new(alloc, BTreeSet::new(alloc))?;
-        Ok(Error::leaf(alloc, FaultKind::UnknownValue { name, alts }))
+        Error::leaf(alloc, FaultKind::UnknownValue { name, alts })
     }
 
     /// A value that is not known, where `alts` are.
@@ -113,20 +114,20 @@ impl Error {
     {
         let name = Text::from_str(alloc, value)?;
         let alts = Shared::new(alloc, name_set(alloc, alts)?)?;
-        Ok(Error::leaf(alloc, FaultKind::UnknownValue { name, alts }))
+        Error::leaf(alloc, FaultKind::UnknownValue { name, alts })
     }
 
     /// A list of fewer than `min` items.
     pub fn too_few_items(alloc: Global, min: usize) -> Mem<Error>
         ensures { IfOk result (λ error. error ≡ leaf (FaultKind.TooFewItems min)) }
     {
-        Ok(Error::leaf(alloc, FaultKind::TooFewItems(min)))
+        Error::leaf(alloc, FaultKind::TooFewItems(min))
     }
 
     /// A list of more than `max` items.
     pub fn too_many_items(alloc: Global, max: usize) -> Mem<Error>
         ensures { IfOk result (λ error. error ≡ leaf (FaultKind.TooManyItems max)) }
     {
-        Ok(Error::leaf(alloc, FaultKind::TooManyItems(max)))
+        Error::leaf(alloc, FaultKind::TooManyItems(max))
     }
 }

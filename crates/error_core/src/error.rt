@@ -1,92 +1,70 @@
-//! An error: a tree of faults that is never empty.
+//! An error: the nodes of a tree of faults in preorder, and the calls on its root.
 
-ghost use Rattle.std.specs.Prelude.{◌≡◌, ◌+◌, ◌++◌, ◌<◌, ◌≤◌, [], ◌∷◌, length, map, flat_map, IfOk, OnOk, IsTrue, ◌↔◌, IsSome, sum_by};
+ghost use Rattle.std.specs.Prelude.{◌≡◌, ◌<◌, ◌++◌, ◌∷◌, [], length, flat_map, IfOk, OnOk, IsTrue, ◌↔◌, IsSome};
 ghost use Rattle.std.specs.Option.{unwrap_or};
-ghost use Rattle.error_fault.specs.Faults.{span_one, at, siblings};
-ghost use Rattle.error_fault.specs.Kind.{with_alternatives};
-ghost use Rattle.error_core.specs.ErrorView.{One, below, leaves, children_of, span_of, held};
-ghost use Rattle.error_core.specs.Changes.{spanned, located, widened, joined};
-ghost use Rattle.error_core.specs.View.{node_of};
+ghost use Rattle.error_fault.specs.Faults.{span_one, at};
+ghost use Rattle.error_core.specs.ErrorView.{One, leaves, span_of};
+ghost use Rattle.error_core.specs.Changes.{spanned, located, joined};
+ghost use Rattle.error_core.specs.Preorder.{nodes_of, all_nodes, leaf_node, root_node, rooted, leaf_count, placed, set_at, root_span};
 
-use error_fault::{Fault, FaultKind, Items, Mem, Span, Text};
+use base_core::{Items, Mem, Text};
+use error_fault::{Fault, FaultKind};
 use std::alloc::{AllocError, Global};
 use std::marker::Model;
+use tok_types::Span;
 
 /// What is wrong with an input: at least one fault. An error is a leaf with one fault, or a root over
 /// at least two errors; either has the names of the fields that lead to it, and perhaps a place.
-#[cycle(error)]
+///
+/// The nodes of this tree stand in one vector, each in front of its children, so that a tree of any
+/// depth is read, copied and dropped without stack.
 #[derive_where(Debug)]
 pub struct Error {
-    pub(crate) node: Node,
-    pub(crate) locations: Items<Text>,
-    pub(crate) span: Option<Span>,
-    // The number of leaves: `len` takes no memory, and a sum over the tree might not fit.
-    #[derive_where(skip(Debug))]
-    pub(crate) count: usize,
+    pub(crate) nodes: Items<Node>,
     // `Display` is handed no allocator.
     #[derive_where(skip(Debug))]
     pub(crate) alloc: Global,
 }
 
-#[cycle(error)]
+/// A leaf, which has a kind, or an inner node, which has none.
 #[derive(Debug)]
-pub(crate) enum Node {
-    Leaf(FaultKind),
-    Many(Vec<Error>),
-}
-
-impl Node {
-    /// The fault, or else the children.
-    fn into_kind(self) -> std::result::Result<FaultKind, Vec<Error>>
-        ensures { self ≡ node_of result }
-    {
-        match self {
-            Node::Leaf(kind) => Ok(kind),
-            Node::Many(errors) => Err(errors),
-        }
-    }
+pub(crate) struct Node {
+    /// How many nodes its subtree has, itself counted.
+    pub size: usize,
+    /// The names of the fields that lead to it from the node above.
+    pub locations: Items<Text>,
+    pub span: Option<Span>,
+    pub kind: Option<FaultKind>,
 }
 
 impl Model for Error {
-    ghost use Rattle.std.specs.Prelude.{length};
     ghost use Rattle.std.specs.Coded.{codes};
-    ghost use Rattle.error_core.specs.ErrorView.{ErrorView, leaves};
+    ghost use Rattle.error_core.specs.ErrorView.{ErrorView};
     ghost use Rattle.error_core.specs.Coded.{error_code};
 
     ghost Value = { ErrorView };
 
     ghost coded = { error_code (Prim.hlevel (codes)) };
 
-    ghost use Rattle.error_core.specs.View.{told, IsError};
+    ghost use Rattle.error_core.specs.Preorder.{shown, IsPreorder};
 
-    ghost view = { told };
+    ghost view = { λ inside. shown inside.nodes };
 
-    ghost invariant = { IsError };
-
-    ghost size = { λ told. length (leaves told) };
-
-    ghost use Rattle.error_core.specs.Falls.{falls};
-
-    ghost size_decreases = { λ inside is. falls inside.node inside.locations inside.span is.node };
+    ghost invariant = { λ inside. IsPreorder inside.nodes };
 }
 
 impl Error {
-    /// The error of a fault, with its place and the fields that it is in.
-    pub fn from_fault(alloc: Global, fault: Fault) -> Error
-        ensures { result ≡ One fault }
+    /// The error of a fault, with its place and the fields that it is in. Want of memory drops the
+    /// fault.
+    pub fn from_fault(alloc: Global, fault: Fault) -> Mem<Error>
+        ensures { IfOk result (λ error. error ≡ One fault) }
     {
-        let (kind, locations, span) = fault.into_parts();
-        Error {
-            node: Node::Leaf(kind),
-            locations,
-            span,
-            count: 1,
-            alloc,
-        }
+        let nodes = Items::of(alloc, Node::leaf(fault))?;
+        Ok(Error { nodes, alloc })
     }
 
-    /// The one error of a list of one; the errors of a longer list as the children of one root. A
-    /// number of faults that no `usize` holds is want of memory, which drops the errors.
+    /// The one error of a list of one; the errors of a longer list as the children of one root. Want
+    /// of memory drops the errors.
     pub fn multiple(alloc: Global, errors: Vec<Error>) -> Mem<Error>
         requires { 0 < length errors.items }
         ensures told { IfOk result (λ error. error ≡ joined errors.items error) }
@@ -95,151 +73,108 @@ impl Error {
         if errors.len() == 1 {
             return Ok(only(errors));
         }
-        let count = count_all(&errors)?;
-        Ok(Error {
-            node: Node::Many(errors),
-            locations: Items::new(alloc),
-            span: None,
-            count,
-            alloc,
-        })
+        let inside = joined_nodes(alloc, errors)?;
+        let nodes = under_root(alloc, inside)?;
+        Ok(Error { nodes, alloc })
     }
 
     /// The number of faults; never 0.
     pub fn len(&self) -> usize
         ensures { result ≡ length (leaves self.now) }
     {
-        self.count
+        count_leaves(self.nodes.as_slice())
     }
 
     /// Whether the root has a place.
     pub fn has_span(&self) -> bool
         ensures { IsTrue result ↔ IsSome (span_of self.now) }
     {
-        self.span.is_some()
+        self.explicit_span().is_some()
     }
 
     /// The place of the root, where it has one.
     pub fn explicit_span(&self) -> Option<Span>
         ensures { result ≡ span_of self.now }
     {
-        self.span
+        root_span(&self.nodes)
     }
 
     /// The place of the root, or [`Span::CallSite`].
     pub fn span(&self) -> Span
         ensures { result ≡ unwrap_or (span_of self.now) Span.CallSite }
     {
-        self.span.unwrap_or(Span::CallSite)
+        self.explicit_span().unwrap_or(Span::CallSite)
     }
 
     /// Puts the root at this place, where it has none; children keep theirs.
-    pub fn with_span_at(mut self, span: Span) -> Error
+    pub fn with_span_at(self, span: Span) -> Error
         ensures told { result ≡ spanned self span }
         ensures leaves { leaves result ≡ span_one (leaves self) span }
     {
-        if self.span.is_none() {
-            self.span = Some(span);
-        }
-        self
+        let alloc = self.alloc;
+        let mut nodes = self.into_nodes();
+        set_span(&mut nodes, span);
+        Error { nodes, alloc }
     }
 
     /// The error one field further in: the location stands in front of the root's. Want of memory
     /// drops the error.
-    pub fn at(mut self, alloc: Global, location: &str) -> Mem<Error>
+    pub fn at(self, alloc: Global, location: &str) -> Mem<Error>
         ensures told { IfOk result (λ error. error ≡ located self location.now) }
         ensures leaves { IfOk result (λ error. leaves error ≡ at (leaves self) location.now) }
     {
         let name = Text::from_str(alloc, location)?;
-        self.locations.insert(0, name)?;
-        Ok(self)
+        let mut nodes = self.into_nodes();
+        locate(&mut nodes, name)?;
+        Ok(Error { nodes, alloc })
     }
 
-    /// An unknown field that stands in no field has these alternatives too; all else stays. Want of
-    /// memory drops the error.
-    pub fn add_sibling_alts_for_unknown_field(self, alloc: Global, alts: &[Text]) -> Mem<Error>
-        ensures told { IfOk result (λ error. error ≡ widened self alts.now) }
-        ensures leaves { IfOk result (λ error. leaves error ≡ siblings (leaves self) alts.now) }
-        ensures span { IfOk result (λ error. span_of error ≡ span_of self) }
+    /// The nodes in preorder.
+    pub(crate) fn into_nodes(self) -> Items<Node>
+        ensures { result ≡ nodes_of self }
     {
-        if !self.locations.is_empty() {
-            return Ok(self);
-        }
-        let Error {
-            node,
+        let Error { nodes, alloc: _ } = self;
+        nodes
+    }
+}
+
+impl Node {
+    /// The node of a fault.
+    pub(crate) fn leaf(fault: Fault) -> Node
+        ensures { result ≡ leaf_node fault }
+    {
+        let (kind, locations, span) = fault.into_parts();
+        Node {
+            size: 1,
             locations,
             span,
-            count,
-            alloc: _,
-        } = self;
-        match node.into_kind() {
-            Ok(kind) => Ok(Error {
-                node: Node::Leaf(kind_widened(alloc, kind, alts)?),
-                locations,
-                span,
-                count,
-                alloc,
-            }),
-            Err(errors) => {
-                let mut children = Vec::new(alloc);
-                for child in errors {
-                    let wider = child.add_sibling_alts_for_unknown_field(alloc, alts)?;
-                    push_child(&mut children, wider)?;
-                }
-                Ok(Error {
-                    node: Node::Many(children),
-                    locations,
-                    span,
-                    count,
-                    alloc,
-                })
-            }
+            kind: Some(kind),
         }
     }
 
-    /// The children of the root in order, or the one leaf itself.
-    pub(crate) fn into_children(self, alloc: Global) -> Mem<Vec<Error>>
-        ensures { IfOk result (λ children. children.items ≡ children_of self) }
+    /// A root in no field and at no place, with so many nodes in its subtree.
+    fn root(alloc: Global, size: usize) -> Node
+        ensures { result ≡ root_node size [] None }
     {
-        let Error {
-            node,
-            locations,
-            span,
-            count: _,
-            alloc: _,
-        } = self;
-        match node.into_kind() {
-            Ok(kind) => {
-                let mut one = Vec::new(alloc);
-                let path = locations;
-                one.push(Error::from_fault(alloc, Fault { kind, path, span }))?;
-                Ok(one)
-            }
-            Err(errors) => Ok(errors),
+        Node {
+            size,
+            locations: Items::new(alloc),
+            span: None,
+            kind: None,
         }
     }
 
-    /// Puts the faults of the error behind the others, each with the path `above` in front of its own.
-    pub(crate) fn gather(self, alloc: Global, above: &[Text], faults: &mut Items<Fault>) -> Mem<()>
-        ensures { OnOk result (faults.new ≡ faults.old ++ map (below above.now) (leaves self)) }
+    /// The size, the locations, the place and the kind.
+    pub(crate) fn into_parts(self) -> (usize, Items<Text>, Option<Span>, Option<FaultKind>)
+        ensures { result ≡ (self.size, self.locations, self.span, self.kind) }
     {
-        let Error {
-            node,
+        let Node {
+            size,
             locations,
             span,
-            count: _,
-            alloc: _,
+            kind,
         } = self;
-        let path = path_below(alloc, above, locations)?;
-        match node.into_kind() {
-            Ok(kind) => push_fault(faults, kind, path, span),
-            Err(errors) => {
-                for child in errors {
-                    child.gather(alloc, path.as_slice(), faults)?;
-                }
-                Ok(())
-            }
-        }
+        (size, locations, span, kind)
     }
 }
 
@@ -254,73 +189,94 @@ fn only(errors: Vec<Error>) -> Error
     }
 }
 
-fn count_all(errors: &[Error]) -> Mem<usize>
-    ensures { IfOk result (λ count. count ≡ sum_by (λ told. length (leaves told)) errors.now) }
+/// The nodes of the errors, one after another.
+fn joined_nodes(alloc: Global, errors: Vec<Error>) -> Mem<Items<Node>>
+    ensures { IfOk result (λ nodes. nodes ≡ all_nodes errors.items) }
 {
-    let mut count: usize = 0;
+    let mut nodes = Items::new(alloc);
     for error in errors {
-        count = count.checked_add(error.len()).ok_or(AllocError)?;
+        put_behind(&mut nodes, error.into_nodes())?;
     }
-    Ok(count)
+    Ok(nodes)
 }
 
-// What does not recur in the walks over a tree stands apart, so that each level takes little stack.
-
-#[inline(never)]
-fn kind_widened(alloc: Global, kind: FaultKind, alts: &[Text]) -> Mem<FaultKind>
-    ensures { IfOk result (λ it. it ≡ with_alternatives kind alts.now) }
+/// Puts the nodes behind the others. Where there are no others their vector is kept: it may hold most of a tree.
+fn put_behind(nodes: &mut Items<Node>, more: Items<Node>) -> Mem<()>
+    ensures { OnOk result (nodes.new ≡ nodes.old ++ more) }
 {
-    kind.with_alternatives(alloc, alts)
+    if nodes.is_empty() {
+        *nodes = more;
+        return Ok(());
+    }
+    nodes.append(more)
 }
 
-#[inline(never)]
-pub(crate) fn push_child(children: &mut Vec<Error>, child: Error) -> Mem<()>
-    ensures { OnOk result (children.new.items ≡ children.old.items ++ child ∷ []) }
+/// A root in no field and at no place, and behind it these nodes.
+pub(crate) fn under_root(alloc: Global, nodes: Items<Node>) -> Mem<Items<Node>>
+    ensures { IfOk result (λ all. all ≡ rooted [] None nodes) }
 {
-    children.push(child)?;
+    let mut nodes = nodes;
+    let size = nodes.len().checked_add(1).ok_or(AllocError)?;
+    nodes.insert(0, Node::root(alloc, size))?;
+    Ok(nodes)
+}
+
+// A call on a root changes the nodes beside the error, since only a whole tree is an error.
+
+fn set_span(nodes: &mut Items<Node>, span: Span)
+    ensures { nodes.new ≡ set_at nodes.old span }
+{
+    if let Some(root) = nodes.get_mut(0) {
+        root.span = Some(root.span.unwrap_or(span));
+    }
+}
+
+fn locate(nodes: &mut Items<Node>, name: Text) -> Mem<()>
+    ensures { OnOk result (nodes.new ≡ placed nodes.old name) }
+{
+    if let Some(root) = nodes.get_mut(0) {
+        root.locations.insert(0, name)?;
+    }
     Ok(())
 }
 
-#[inline(never)]
-fn path_below(alloc: Global, above: &[Text], locations: Items<Text>) -> Mem<Items<Text>>
-    ensures { IfOk result (λ path. path ≡ above.now ++ locations) }
+fn root_span(nodes: &Items<Node>) -> Option<Span>
+    ensures { result ≡ root_span nodes.now }
 {
-    let mut path = Items::from_slice(alloc, above)?;
-    path.append(locations)?;
-    Ok(path)
+    match nodes.first() {
+        Some(root) => root.span,
+        None => None,
+    }
 }
 
-#[inline(never)]
-fn push_fault(
-    faults: &mut Items<Fault>,
-    kind: FaultKind,
-    path: Items<Text>,
-    span: Option<Span>,
-) -> Mem<()>
-    ensures { OnOk result (faults.new ≡ faults.old ++ record { kind = kind; path = path; span = span } ∷ []) }
+fn count_leaves(nodes: &[Node]) -> usize
+    ensures { result ≡ leaf_count nodes.now }
 {
-    faults.push(Fault { kind, path, span })
+    let mut count = 0;
+    for node in nodes {
+        if node.size == 1 {
+            count += 1;
+        }
+    }
+    count
 }
 
 impl Drop for Error {
-    #[cycle(drops)]
     fn drop(self) {
         let Self {
-            node: _node,
-            locations: _locations,
-            span: _,
-            count: _,
+            nodes: _nodes,
             alloc: _,
         } = self;
     }
 }
 
 impl Drop for Node {
-    #[cycle(drops)]
     fn drop(self) {
-        match self {
-            Node::Leaf(_kind) => {}
-            Node::Many(_errors) => {}
-        }
+        let Self {
+            size: _,
+            locations: _locations,
+            span: _,
+            kind: _kind,
+        } = self;
     }
 }

@@ -3,9 +3,10 @@
 ghost use Rattle.std.specs.Prelude.{◌≡◌, length, IfOk};
 ghost use Rattle.std.specs.Iterator.{YieldsFirst, item_count};
 ghost use Rattle.error_core.specs.ErrorView.{children_of};
+ghost use Rattle.error_core.specs.Split.{IsForest, trees, is_whole};
 
-use crate::error::Error;
-use error_fault::Mem;
+use crate::error::{Error, Node};
+use base_core::{Items, Mem};
 use std::alloc::Global;
 use std::iter::FusedIterator;
 use std::marker::Model;
@@ -53,6 +54,47 @@ impl Error {
         Ok(IntoIter {
             inner: children.into_iter(),
         })
+    }
+
+    /// The children all at once, so that `next` takes no memory.
+    fn into_children(self, alloc: Global) -> Mem<Vec<Error>>
+        ensures { IfOk result (λ children. children.items ≡ children_of self) }
+    {
+        if self.nodes.len() == 1 {
+            let mut one = Vec::new(alloc);
+            one.push(self)?;
+            return Ok(one);
+        }
+        let mut nodes = self.into_nodes();
+        let _root = nodes.remove(0);
+        split(alloc, nodes)
+    }
+}
+
+/// The errors whose nodes stand one after another.
+fn split(alloc: Global, nodes: Items<Node>) -> Mem<Vec<Error>>
+    requires { IsForest nodes }
+    ensures { IfOk result (λ errors. errors.items ≡ trees nodes) }
+{
+    let mut errors = Vec::new(alloc);
+    let mut grown = Items::new(alloc);
+    for node in nodes.into_vec() {
+        grown.push(node)?;
+        if is_whole(&grown) {
+            let nodes = std::mem::replace(&mut grown, Items::new(alloc));
+            errors.push(Error { nodes, alloc })?;
+        }
+    }
+    Ok(errors)
+}
+
+/// Whether these are as many nodes as the first says.
+fn is_whole(grown: &Items<Node>) -> bool
+    ensures { result ≡ is_whole grown.now }
+{
+    match grown.first() {
+        Some(node) => node.size == grown.len(),
+        None => false,
     }
 }
 

@@ -11,8 +11,10 @@ ghost use Rattle.error_core.specs.NodeKinds.{expr_kind, lit_kind};
 ghost use Rattle.error_core.specs.ErrorView.{One, leaves};
 
 use crate::error::Error;
-use error_fault::{FaultKind, Mem, Text};
-use node_core::{Expr, Lit, LitStr, Path, path_to_string};
+use base_core::{Mem, Text};
+use error_fault::FaultKind;
+use node_expr::{Expr, Lit, LitStr, Path};
+use node_make::path_to_string;
 use node_span::Spanned;
 use std::alloc::Global;
 

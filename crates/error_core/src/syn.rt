@@ -7,9 +7,11 @@ ghost use Rattle.error_core.specs.Syn.{syn_fault};
 ghost use Rattle.error_core.specs.ErrorView.{One, leaves};
 
 use crate::error::Error;
-use error_fault::{Fault, FaultKind, Items, Mem, Span, Text, fault_text, kind_text};
+use base_core::{Items, Mem, Text};
+use error_fault::{Fault, FaultKind, fault_text, kind_text};
 use node_core::SynError;
 use std::alloc::Global;
+use tok_types::Span;
 
 impl Error {
     /// The first fault of the error of syntax: its text is the message, and it stands at its place.
@@ -18,7 +20,7 @@ impl Error {
     {
         let message = std::mem::replace(&mut e.first.1, Text::new(alloc));
         let fault = Fault::at_span(alloc, FaultKind::Custom(message), e.first.0);
-        Ok(Error::from_fault(alloc, fault))
+        Error::from_fault(alloc, fault)
     }
 
     /// The faults as errors of syntax, in order: one with a place is told there, without its path, and

@@ -11,7 +11,6 @@ mod names;
 mod shared;
 mod text;
 
-pub use base_core::{Items, Mem, Text, TryClone};
 pub use fault::Fault;
 pub use kind::FaultKind;
 pub use names::name_set;
@@ -20,4 +19,3 @@ pub use text::{
     escaped, fault_line, fault_text, kind_text, path_text, push_escaped, push_escaped_char,
     push_fault_line, push_span, span_text,
 };
-pub use tok_types::Span;

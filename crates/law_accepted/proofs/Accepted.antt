@@ -12,23 +12,24 @@ use Rattle.node_core.specs.declared.derive.DeriveInput.{DeriveInput}
 use Rattle.codegen_core.specs.Compiled.{compiled_meta}
 use Rattle.codegen_program.specs.declared.program.Derive.TheVariants as derive
 use Rattle.codegen_program.specs.declared.program.Program.{Program}
-use Rattle.run_accepted.specs.HostSays.{HostSays}
-use Rattle.law_asks.specs.Decls.{member_name}
-use Rattle.law_asks.specs.Made.{named_type}
-use Rattle.run_accepted.specs.Places.{earliest, earliest_of}
+use Rattle.meaning_core.specs.HostSays.{HostSays}
+use Rattle.meaning_core.specs.Decls.{member_name}
+use Rattle.meaning_core.specs.Made.{named_type}
+use Rattle.law_asks.specs.Places.{earliest, earliest_of}
 use Rattle.law_asks.specs.Refusals.{first_in_text}
-use Rattle.run_accepted.specs.Units.{is_receiver}
-use Rattle.law_asks.specs.FormsRefusals.{Refusals}
+use Rattle.law_asks.specs.Units.{is_receiver}
+use Rattle.law_asks.specs.MachineFormsRefusals.{Refusals}
 use Rattle.law_asks.specs.Unsupported.{Unsupported}
-use Rattle.run_accepted.specs.Unfitness.{refusals}
-use Rattle.law_asks.specs.Decl.{Decl}
-use Rattle.law_options.specs.Machine.{unit_type}
-use Rattle.run_compile.specs.Attributes.{without_attributes}
-use Rattle.run_compile.specs.Members.{fields_of, listed_fields}
-use Rattle.run_compile.specs.Stages.{meta_reader, options_of}
-use Rattle.run_compile.specs.Unbuilt.{IsBuilt, are_named, has_named_fields}
-use Rattle.run_compile.specs.Values.{Rules}
-use Rattle.run_compile.proofs.BuiltLemmas.{named}
+use Rattle.law_asks.specs.Unfitness.{refusals}
+use Rattle.meaning_core.specs.Decl.{Decl}
+use Rattle.machine_steps.specs.Machine.{unit_type}
+use Rattle.run_accepted.specs.Attributes.{without_attributes}
+use Rattle.run_source.specs.Members.{fields_of}
+use Rattle.node_core.specs.Bodies.{field_list}
+use Rattle.run_source.specs.Stages.{meta_reader, options_of}
+use Rattle.run_accepted.specs.Unbuilt.{IsBuilt, are_named, has_named_fields}
+use Rattle.run_source.specs.Values.{Rules}
+use Rattle.run_accepted.proofs.BuiltLemmas.{named}
 use Rattle.run_accepted.specs.Accepted.{IsAccepted}
 use Rattle.run_accepted.proofs.FitLemmas.{no_rows}
 use Rattle.run_accepted.proofs.ListLemmas.{at_place}
@@ -38,7 +39,7 @@ use Rattle.law_options.specs.Texts.{input_decl, item_decls}
 use Rattle.law_options.proofs.Declared.{input_options_are, item_options_are}
 use Rattle.law_options.proofs.Idents.{no_ident}
 use Rattle.law_asks.specs.Compiles.{IsInputUnit}
-use Rattle.law_asks.specs.FitsClaims.{AreSound, has_names}
+use Rattle.law_asks.specs.LawFitsClaims.{AreSound, has_names}
 use Rattle.law_asks.specs.Sound.{AreNamed, Differ, IsSound}
 use Rattle.law_asks.specs.Asked.{IsMet, IsOf}
 use Rattle.law_fields.specs.Fields.{AreTextFields, HasTextFields, IsTextBody, IsTextField}
@@ -75,7 +76,7 @@ sound_by host program declared decl reads stands is met =
     }
 
 -- fields in braces that a text declares
-listed_are : (it : Fields) → are_named it ≡ true → AreTextFields it → AllByRecursion IsTextField (listed_fields it)
+listed_are : (it : Fields) → are_named it ≡ true → AreTextFields it → AllByRecursion IsTextField (field_list it)
 listed_are (fields.Named it) named have = recursion_from_All IsTextField it.named have
 listed_are (fields.Unnamed it) named have = absurd cc
 listed_are fields.Unit named have = absurd cc

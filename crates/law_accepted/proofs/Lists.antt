@@ -5,7 +5,7 @@ use Rattle.std.proofs.lemmas.Bool.{cond-false, cond-true, not_from_false, not_fr
 use Rattle.std.proofs.lemmas.Bool.Decides.{Decides-ltb}
 use Rattle.std.proofs.lemmas.Option.{get_or_from_slice_get, none-some, same_Some, slice_get_within}
 use mathlib.Core.List.{append-eq-nil_iff}
-use Rattle.run_accepted.specs.Places.{places_from}
+use Rattle.law_asks.specs.Places.{places_from}
 
 module _ {A : Type 0} where
   pub contained : (things : List A) (place : ℕ) (thing : A) → slice_get things place ≡ Some thing → Contains things thing

@@ -20,13 +20,14 @@ use Rattle.node_core.specs.declared.derive.DeriveInput.{DeriveInput}
 use Rattle.machine_rows.specs.Paths.{same_ident}
 use Rattle.machine_rows.specs.Rows.{row_of}
 use Rattle.machine_rows.specs.declared.row.Row.TheVariants as row
-use Rattle.law_asks.specs.Decls.{decl_names, list_of, member_name}
-use Rattle.law_asks.specs.Made.{name_of, named_type}
+use Rattle.meaning_core.specs.Decls.{decl_names, member_name}
+use Rattle.node_core.specs.Bodies.{field_list}
+use Rattle.meaning_core.specs.Made.{name_of, named_type}
 use Rattle.law_asks.specs.Names.{field_names, has_name, repeated_field, repeated_fields, repeated_members, repeated_names}
-use Rattle.run_accepted.specs.Places.{refused_if}
-use Rattle.run_compile.specs.Attributes.{without_attributes}
-use Rattle.run_compile.specs.Members.{fields_of, listed_fields}
-use Rattle.run_compile.specs.Unbuilt.{has_named_fields}
+use Rattle.law_asks.specs.Places.{refused_if}
+use Rattle.run_accepted.specs.Attributes.{without_attributes}
+use Rattle.run_source.specs.Members.{fields_of}
+use Rattle.run_accepted.specs.Unbuilt.{has_named_fields}
 use Rattle.run_accepted.specs.Accepted.{derives_named_again, duplicate}
 use Rattle.run_accepted.proofs.NameLemmas.{same_names}
 use Rattle.run_accepted.proofs.PlaceLemmas.{none_first}
@@ -150,7 +151,7 @@ fields_differ its have single =
     ∙ ap (bytes_eq (ident_text first.one)) (sym second.written)
     ∙ written_apart first.one second.one first.token second.token apart)
 
-same_list : (its : Fields) → repeated_fields (list_of its) ≡ [] → repeated_fields (listed_fields its) ≡ []
+same_list : (its : Fields) → repeated_fields (field_list its) ≡ [] → repeated_fields (field_list its) ≡ []
 same_list (fields.Named it) single = single
 same_list (fields.Unnamed it) single = single
 same_list fields.Unit single = single

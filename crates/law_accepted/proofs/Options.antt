@@ -16,22 +16,23 @@ use Rattle.error_fault.specs.Outcome.{Value, faults_of, on_value, settle, value_
 use Rattle.error_fault.specs.declared.fault.Fault.{Fault}
 use Rattle.codegen_program.specs.declared.program.Derive.{Derive}
 use Rattle.codegen_program.specs.declared.program.Derive.TheVariants as derive
-use Rattle.law_asks.specs.Decls.{member_name}
-use Rattle.law_asks.specs.Made.{named_type}
-use Rattle.law_asks.specs.Decl.{FieldDecl}
-use Rattle.run_compile.specs.Attributes.{body_without, field_without, fields_without, without_attributes}
-use Rattle.run_compile.specs.Body.{field_ident, field_meaning, field_start, inherited, start_body, unnamed, with_fields}
-use Rattle.run_compile.specs.Core.{Core}
-use Rattle.run_compile.specs.Entries.{items, option_entries}
-use Rattle.run_compile.specs.FieldOptions.{of_field, of_field_faults}
-use Rattle.run_compile.specs.InputField.{InputField}
-use Rattle.run_compile.specs.Members.{fields_of, is_union, listed_fields, no_variant, variants_of}
-use Rattle.run_compile.specs.Pairs.{faults_under}
-use Rattle.run_compile.specs.Rows.{else_faults, list_of}
-use Rattle.run_compile.specs.Stages.{Reader, body_faults, container_options, fdi_reader, field_faults, good_fields, meta_reader, option_faults, options_of, union_faults}
-use Rattle.run_compile.specs.Unbuilt.{are_named, has_named_fields}
-use Rattle.run_compile.specs.Values.{Rules}
-use Rattle.run_compile.specs.Walk.{all_faults}
+use Rattle.meaning_core.specs.Decls.{member_name}
+use Rattle.meaning_core.specs.Made.{named_type}
+use Rattle.meaning_core.specs.Decl.{FieldDecl}
+use Rattle.run_accepted.specs.Attributes.{body_without, field_without, fields_without, without_attributes}
+use Rattle.run_source.specs.Body.{field_ident, field_meaning, field_start, inherited, start_body, unnamed, with_fields}
+use Rattle.run_source.specs.Core.{Core}
+use Rattle.run_source.specs.Entries.{items, option_entries}
+use Rattle.run_source.specs.FieldOptions.{of_field, of_field_faults}
+use Rattle.run_source.specs.InputField.{InputField}
+use Rattle.run_source.specs.Members.{fields_of, no_variant, variants_of}
+use Rattle.node_core.specs.Bodies.{is_union, field_list}
+use Rattle.run_accepted.specs.Pairs.{faults_under}
+use Rattle.run_source.specs.Rows.{else_faults, list_of}
+use Rattle.run_source.specs.Stages.{Reader, body_faults, container_options, fdi_reader, field_faults, good_fields, meta_reader, option_faults, options_of, union_faults}
+use Rattle.run_accepted.specs.Unbuilt.{are_named, has_named_fields}
+use Rattle.run_source.specs.Values.{Rules}
+use Rattle.run_source.specs.Walk.{all_faults}
 use Rattle.law_options.specs.Meant.{fields_in, meant_decl, meant_field, meant_items}
 use Rattle.law_options.specs.Texts.{input_decl}
 use Rattle.law_asks.specs.Sound.{Differ, IsFieldOf, named_fields, named_of}
@@ -89,7 +90,7 @@ same_members (field ∷ its) (it ∷ meant) zip = ap₂ ◌∷◌ zip.0.0 (same_
 bare_named : (it : «Data») → has_named_fields it ≡ true → named_fields (body_without it) ≡ Some (map field_without (fields_of it))
 bare_named (body.Struct it) is = of_fields it.fields is
   where
-    of_fields : (its : Fields) → are_named its ≡ true → named_of (fields_without its) ≡ Some (map field_without (listed_fields its))
+    of_fields : (its : Fields) → are_named its ≡ true → named_of (fields_without its) ≡ Some (map field_without (field_list its))
     of_fields (fields.Named it) is = refl
     of_fields (fields.Unnamed it) is = cc
     of_fields fields.Unit is = cc

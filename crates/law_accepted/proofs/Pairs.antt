@@ -10,14 +10,15 @@ use Rattle.error_fault.specs.declared.fault.Fault.{Fault}
 use Rattle.codegen_program.specs.declared.program.Derive.{Derive}
 use Rattle.codegen_program.specs.declared.program.Derive.TheVariants as derive
 use Rattle.codegen_program.specs.declared.program.«Unit».{«Unit» as Unit'}
-use Rattle.run_accepted.specs.Units.{is_input, is_of, is_receiver}
-use Rattle.law_asks.specs.Decl.{Decl}
-use Rattle.law_asks.specs.Declarations.{meta_decl}
-use Rattle.run_compile.specs.Compiled.{IsUnit, IsUnitUnder}
-use Rattle.run_compile.specs.Pairs.{Pair, faults_under, pair, pairs_from, rejected, rejected_with}
-use Rattle.run_compile.specs.Stages.{meta_reader, options_of}
-use Rattle.run_compile.specs.Values.{Rules}
-use Rattle.run_compile.specs.declared.rejected.Rejected.{Rejected}
+use Rattle.codegen_program.specs.Traits.{is_input}
+use Rattle.law_asks.specs.Units.{is_of, is_receiver}
+use Rattle.meaning_core.specs.Decl.{Decl}
+use Rattle.meaning_core.specs.Declarations.{meta_decl}
+use Rattle.run_accepted.specs.Compiled.{IsUnit, IsUnitUnder}
+use Rattle.run_accepted.specs.Pairs.{Pair, faults_under, pair, pairs_from, rejected, rejected_with}
+use Rattle.run_source.specs.Stages.{meta_reader, options_of}
+use Rattle.run_source.specs.Values.{Rules}
+use Rattle.run_accepted.specs.declared.rejected.Rejected.{Rejected}
 use Rattle.law_options.specs.Meant.{meant_items}
 use Rattle.law_options.specs.Texts.{item_decls, pair_decls}
 use Rattle.run_accepted.proofs.ListLemmas.{at_place, opposite}

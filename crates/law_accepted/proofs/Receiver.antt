@@ -4,14 +4,14 @@ use Rattle.std.proofs.lemmas.Bool.{and_parts}
 use Rattle.std.proofs.lemmas.List.{length-map}
 use Rattle.node_core.specs.declared.derive.DeriveInput.{DeriveInput}
 use Rattle.codegen_program.specs.declared.program.Program.{Program}
-use Rattle.law_asks.specs.Decls.{FitsAmong}
-use Rattle.run_accepted.specs.HostSays.{HostSays}
-use Rattle.law_asks.specs.Setting.{Setting}
-use Rattle.run_accepted.specs.Units.{is_receiver}
-use Rattle.run_accepted.specs.Unfitness.{refusals}
-use Rattle.law_asks.specs.Declarations.{declared_meaning}
-use Rattle.run_compile.specs.Attributes.{without_attributes}
-use Rattle.run_compile.specs.Values.{Rules}
+use Rattle.meaning_core.specs.Decls.{FitsAmong}
+use Rattle.meaning_core.specs.HostSays.{HostSays}
+use Rattle.machine_steps.specs.Setting.{Setting}
+use Rattle.law_asks.specs.Units.{is_receiver}
+use Rattle.law_asks.specs.Unfitness.{refusals}
+use Rattle.meaning_core.specs.Declarations.{declared_meaning}
+use Rattle.run_accepted.specs.Attributes.{without_attributes}
+use Rattle.run_source.specs.Values.{Rules}
 use Rattle.run_accepted.specs.Accepted.{IsAccepted}
 use Rattle.run_accepted.proofs.FitLemmas.{has_receiver}
 use Rattle.law_options.specs.Texts.{input_decl, item_decls}

@@ -7,16 +7,16 @@ use Rattle.node_core.specs.declared.derive.DeriveInput.{DeriveInput}
 use Rattle.error_fault.specs.Outcome.{Outcome}
 use Rattle.codegen_program.specs.declared.program.Program.{Program}
 use Rattle.machine_value.specs.declared.value.Value.{Value as Datum}
-use Rattle.run_accepted.specs.HostSays.{HostSays}
-use Rattle.run_compile.specs.Attributes.{without_attributes}
-use Rattle.run_compile.specs.Unbuilt.{IsBuilt}
-use Rattle.run_compile.specs.Values.{Rules}
+use Rattle.meaning_core.specs.HostSays.{HostSays}
+use Rattle.run_accepted.specs.Attributes.{without_attributes}
+use Rattle.run_accepted.specs.Unbuilt.{IsBuilt}
+use Rattle.run_source.specs.Values.{Rules}
 use Rattle.law_options.specs.Texts.{text_meaning}
 use Rattle.run_accepted.specs.Accepted.{IsAccepted}
 use Rattle.run_source.specs.Meaning.{item_meaning}
 use Rattle.run_source.proofs.RunLemmas.{is_built}
-use Rattle.law_asks.specs.Decls.{FitsAmong}
-use Rattle.law_asks.specs.Lawful.{IsLawful}
+use Rattle.meaning_core.specs.Decls.{FitsAmong}
+use Rattle.meaning_core.specs.Lawful.{IsLawful}
 use Rattle.law_asks.specs.Reads.{OnValue}
 use Rattle.law_fields.specs.Fields.{HasTextFields}
 use Rattle.law_fields.proofs.Items.{spelled_items}

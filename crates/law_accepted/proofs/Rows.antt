@@ -18,7 +18,7 @@ use Rattle.machine_rows.specs.declared.arguments.Arguments.TheVariants as argume
 use Rattle.machine_rows.specs.declared.head.Head.TheVariants as head
 use Rattle.machine_rows.specs.declared.path.Meant.TheVariants as meants
 use Rattle.machine_rows.specs.declared.row.Row.TheVariants as row
-use Rattle.law_asks.specs.Made.{name_of, named_path, named_type}
+use Rattle.meaning_core.specs.Made.{name_of, named_path, named_type}
 
 -- the name alone
 abbrev segment : Text → PathSegment

@@ -2,20 +2,20 @@
 use Rattle.std.specs.Prelude.{◌≡◌, ◌-◌, ℕ, List, length, map, Some, All, IsTrue, slice_get}
 use Rattle.node_core.specs.declared.derive.DeriveInput.{DeriveInput}
 use Rattle.codegen_program.specs.declared.program.Program.{Program}
-use Rattle.law_asks.specs.Decls.{FitsAmong}
-use Rattle.run_accepted.specs.HostSays.{HostSays}
-use Rattle.law_asks.specs.Lawful.{IsLawful}
-use Rattle.run_accepted.specs.Units.{is_receiver}
-use Rattle.run_compile.specs.Attributes.{without_attributes}
-use Rattle.run_compile.specs.Unbuilt.{IsBuilt}
-use Rattle.run_compile.specs.Values.{Rules}
+use Rattle.meaning_core.specs.Decls.{FitsAmong}
+use Rattle.meaning_core.specs.HostSays.{HostSays}
+use Rattle.meaning_core.specs.Lawful.{IsLawful}
+use Rattle.law_asks.specs.Units.{is_receiver}
+use Rattle.run_accepted.specs.Attributes.{without_attributes}
+use Rattle.run_accepted.specs.Unbuilt.{IsBuilt}
+use Rattle.run_source.specs.Values.{Rules}
 use Rattle.law_options.specs.Texts.{input_decl, item_decls, text_meaning}
 use Rattle.run_accepted.specs.Accepted.{IsAccepted}
 use Rattle.run_source.specs.Source.{IsReport}
 use Rattle.run_source.specs.declared.report.Report.{Report}
 use Rattle.law_fields.specs.Fields.{HasTextFields}
 use Rattle.law_asks.specs.Reads.{OnValue}
-use Rattle.law_asks.specs.FitsClaims.{AreSound, has_names}
+use Rattle.law_asks.specs.LawFitsClaims.{AreSound, has_names}
 use Rattle.law_asks.specs.Sound.{AreNamed, IsSound}
 
 -- What is accepted can be run: names are those of declarations, and options leave each declaration so.

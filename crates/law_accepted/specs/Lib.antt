@@ -1,1 +1,2 @@
+pub mod MoreFaults
 pub mod Claims

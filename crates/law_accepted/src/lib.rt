@@ -1,8 +1,9 @@
-//! Laws of accepted declarations: they can be run, and a value of what an item means fits the last of them, as does each
-//! value of a report.
+//! Laws of what declarations mean. Accepted ones can be run, and a value of what an item means fits the last of them, as
+//! does each value of a report; an item that no field takes is one more fault.
 #![tactic(auto)]
 
 ghost use Rattle.law_accepted.specs.Claims.{AcceptedFits, AcceptedIsSound, ReportFits};
+ghost use Rattle.law_accepted.specs.MoreFaults.{OneMoreFault};
 
 /// What is accepted can be run, as options leave it.
 pub fn what_is_accepted_can_be_run()
@@ -17,4 +18,9 @@ pub fn a_meant_value_fits_the_receiver()
 /// Each value of a report fits the receiver, by the laws of the host.
 pub fn the_values_of_a_report_fit_the_receiver()
     ensures { ReportFits }
+{}
+
+/// One more item that no field takes is one more fault, at its place, where a declaration refuses such items.
+pub fn an_unknown_item_is_one_more_fault()
+    ensures { OneMoreFault }
 {}

@@ -13,15 +13,15 @@ use Rattle.codegen_program.specs.declared.program.Program.{Program}
 use Rattle.codegen_program.specs.declared.program.«Unit».{«Unit» as Unit'}
 use Rattle.codegen_core.specs.Compiled.{default_of, fields_of}
 use Rattle.codegen_core.specs.declared.trait_impl.TraitImpl.{TraitImpl}
-use Rattle.law_machine.specs.HostSays.{HostSays}
-use Rattle.machine_forms.specs.Use.TheVariants as use_at
+use Rattle.law_fits.specs.HostSays.{HostSays}
+use Rattle.law_fits.specs.Use.TheVariants as use_at
 use Rattle.law_fits.specs.Reading.{transform_use}
-use Rattle.law_machine.specs.Setting.{called}
+use Rattle.law_fits.specs.Setting.{called}
 use Rattle.machine_forms.specs.Asks.{Ask, Whole, Transform, unit_asks}
 use Rattle.law_fits.specs.Callables.{offers, unknown_callables, unoffered_ask, unoffered_post}
 use Rattle.law_fits.specs.Fits.{has_default}
 use Rattle.law_fits.specs.Types.{decl_type, unknown_types}
-use Rattle.law_machine.specs.Decl.{Decl}
+use Rattle.law_fits.specs.Decl.{Decl}
 use Rattle.law_machine.specs.Compiles.{IsDecl, meant_default}
 use Rattle.law_fits.specs.Claims.{has_names}
 use Rattle.law_fits.specs.Sound.{IsDefault, IsTransform}

@@ -16,8 +16,8 @@ use Rattle.node_core.specs.declared.derive.DeriveInput.{DeriveInput}
 use Rattle.codegen_program.specs.declared.init.DefaultSource.TheVariants as sources
 use Rattle.codegen_program.specs.declared.program.Program.{Program}
 use Rattle.codegen_program.specs.declared.program.«Unit».{«Unit» as Unit'}
-use Rattle.machine_forms.specs.Decls.{list_of}
-use Rattle.law_machine.specs.HostSays.{HostSays}
+use Rattle.node_core.specs.Bodies.{field_list}
+use Rattle.law_fits.specs.HostSays.{HostSays}
 use Rattle.machine_forms.specs.Asks.{Ask, SlotAsks, Whole, is_whole_default, slot_asks, unit_asks}
 use Rattle.machine_forms.specs.Places.{places_from, refused_if, refused_unless}
 use Rattle.machine_forms.specs.Units.{asks_of, is_of, units_of}
@@ -109,7 +109,7 @@ among_readings (first ∷ units) unit among = contains-map reading (first ∷ un
 
 -- ---- the fields of a struct
 
-named_are : (it : Fields) (named : List Field) → named_of it ≡ Some named → list_of it ≡ named
+named_are : (it : Fields) (named : List Field) → named_of it ≡ Some named → field_list it ≡ named
 named_are (fields.Named it) named is = same_Some it.named named is
 named_are (fields.Unnamed it) named is = absurd (none-some named is)
 named_are fields.Unit named is = absurd (none-some named is)

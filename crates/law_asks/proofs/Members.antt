@@ -8,7 +8,7 @@ use Rattle.node_span.specs.Spanned.{expr_span, path_span}
 use Rattle.syn_grammar.specs.Depth.{type_depth}
 use Rattle.syn_grammar.specs.Grammar.{max_depth}
 use Rattle.node_core.specs.declared.data.Field.{Field}
-use Rattle.codegen_program.specs.Callable.{Callable}
+use Rattle.law_fits.specs.Callable.{Callable}
 use Rattle.codegen_program.specs.declared.arm.Arm.{Arm}
 use Rattle.codegen_program.specs.declared.arm.PostfixTransform.{PostfixTransform}
 use Rattle.codegen_program.specs.declared.init.Fallback.{Fallback as Falls}
@@ -17,20 +17,20 @@ use Rattle.codegen_program.specs.declared.init.Init.{Init}
 use Rattle.codegen_program.specs.declared.program.Program.{Program}
 use Rattle.codegen_core.specs.Fields.{at_slots, declaration, fallback_of, init}
 use Rattle.codegen_core.specs.declared.field.Field.{Field as Left}
-use Rattle.machine_forms.specs.Erased.{erased_path}
-use Rattle.law_machine.specs.HostSays.{HostSays}
-use Rattle.machine_forms.specs.Use.{Use}
-use Rattle.machine_forms.specs.Use.TheVariants as use_at
-use Rattle.law_machine.specs.Machine.{setting_of}
+use Rattle.law_spans.specs.Erased.{erased_path}
+use Rattle.law_fits.specs.HostSays.{HostSays}
+use Rattle.law_fits.specs.Use.{Use}
+use Rattle.law_fits.specs.Use.TheVariants as use_at
+use Rattle.law_fits.specs.Machine.{setting_of}
 use Rattle.law_fits.specs.Reading.{transform_use}
-use Rattle.law_machine.specs.Setting.{called}
+use Rattle.law_fits.specs.Setting.{called}
 use Rattle.machine_forms.specs.Asks.{Ask, Read, Member, all_asks, asked_slot, is_asked, is_slot, is_trait, slot_asks}
 use Rattle.machine_forms.specs.Forms.{fallback_call}
 use Rattle.machine_forms.specs.declared.ask.Asked.TheVariants as asked
 use Rattle.law_fits.specs.Callables.{converted, offers, taken, unknown_post, unoffered, unoffered_arm, unoffered_ask, unoffered_member, unoffered_read, value_type}
 use Rattle.law_fits.specs.Fits.{field_fits, has_default, type_fits}
 use Rattle.law_fits.specs.Types.{fits_asks, unfit_ask, unfit_post, unfit_taken}
-use Rattle.law_machine.specs.Decl.{Decl, FieldDecl, Shape, Single, Many, Flat, is_many, is_named}
+use Rattle.law_fits.specs.Decl.{Decl, FieldDecl, Shape, Single, Many, Flat, is_many, is_named}
 use Rattle.law_fits.specs.EntryFaults.{element_by}
 use Rattle.law_fits.specs.EntrySteps.{arm, arms_from}
 use Rattle.law_fits.proofs.Clean.{nil_left, nil_right}

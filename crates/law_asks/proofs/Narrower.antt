@@ -15,9 +15,9 @@ use Rattle.machine_rows.specs.declared.row.Row.TheOpen.{Row-F}
 use Rattle.machine_rows.specs.declared.row.Row.TheVariants as row
 use Rattle.machine_rows.specs.declared.wrapper.Wrapper.{Wrapper}
 use Rattle.machine_rows.specs.declared.wrapper.Wrapper.TheVariants as wrapper
-use Rattle.machine_forms.specs.Decls.{decl_names}
-use Rattle.machine_forms.specs.Erased.{erased_type}
-use Rattle.law_machine.specs.HostSays.{HostSays}
+use Rattle.law_fits.specs.Decls.{decl_names}
+use Rattle.law_spans.specs.Erased.{erased_type}
+use Rattle.law_fits.specs.HostSays.{HostSays}
 use Rattle.law_fits.specs.Fits.{element_fits, field_fits, layer_fits, may_name, row_fits, type_fits}
 
 -- a row around one that fits, or not

@@ -17,7 +17,7 @@ use Rattle.codegen_core.specs.declared.field.Field.{Field}
 use Rattle.codegen_core.specs.declared.trait_impl.TraitImpl.{TraitImpl}
 use Rattle.machine_forms.specs.Asks.{Ask, Read, Member, all_asks, asked_slot, is_asked, is_slot}
 use Rattle.machine_forms.specs.declared.ask.Asked.TheVariants as asked
-use Rattle.law_machine.specs.Decl.{Decl}
+use Rattle.law_fits.specs.Decl.{Decl}
 use Rattle.law_fits.specs.EntrySteps.{arms}
 use Rattle.law_asks.proofs.Stmts as asks
 use Rattle.law_asks.proofs.Stmts.{all_asks-append}

@@ -19,7 +19,7 @@ use Rattle.codegen_core.specs.declared.from_derive_impl.FromDeriveInputImpl.{Fro
 use Rattle.codegen_core.specs.declared.from_meta_impl.FromMetaImpl.{FromMetaImpl}
 use Rattle.codegen_core.specs.declared.trait_impl.TraitImpl.{TraitImpl}
 use Rattle.machine_forms.specs.Asks.{Ask, Read, Whole, Member, Transform, all_asks, asks_in, unit_asks}
-use Rattle.law_machine.specs.Decl.{Decl}
+use Rattle.law_fits.specs.Decl.{Decl}
 use Rattle.law_fits.specs.EntrySteps.{arms, rest}
 use Rattle.law_machine.specs.Compiles.{IsDecl, IsInputDecl}
 use Rattle.law_machine.proofs.Arms.{for_items_is}

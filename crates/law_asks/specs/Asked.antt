@@ -5,9 +5,9 @@ use Rattle.tok_types.specs.Ident.{ident_text}
 use Rattle.node_core.specs.declared.data.Field.{Field}
 use Rattle.node_core.specs.declared.derive.DeriveInput.{DeriveInput}
 use Rattle.codegen_program.specs.declared.program.Program.{Program}
-use Rattle.law_machine.specs.HostSays.{HostSays}
-use Rattle.law_machine.specs.Made.{named_type}
-use Rattle.law_machine.specs.Decl.{Decl}
+use Rattle.law_fits.specs.HostSays.{HostSays}
+use Rattle.law_fits.specs.Made.{named_type}
+use Rattle.law_fits.specs.Decl.{Decl}
 use Rattle.law_fits.specs.Sound.{Differ, IsDefault, IsFieldOf, IsSoundField, IsTransform, named_fields}
 
 -- The declaration is of named fields, and options leave its names, types and fields so.

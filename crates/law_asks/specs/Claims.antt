@@ -5,10 +5,10 @@ use Rattle.codegen_program.specs.declared.program.Program.{Program}
 use Rattle.codegen_program.specs.declared.program.«Unit».{«Unit» as Unit'}
 use Rattle.codegen_core.specs.Compiled.{compiled_meta}
 use Rattle.codegen_core.specs.declared.from_meta_impl.FromMetaImpl.{FromMetaImpl}
-use Rattle.law_machine.specs.HostSays.{HostSays}
+use Rattle.law_fits.specs.HostSays.{HostSays}
 use Rattle.law_fits.specs.Callables.{unknown_callables}
 use Rattle.law_fits.specs.Types.{unknown_types}
-use Rattle.law_machine.specs.Decl.{Decl}
+use Rattle.law_fits.specs.Decl.{Decl}
 use Rattle.law_machine.specs.Compiles.{IsDecl, IsInputUnit}
 use Rattle.law_fits.specs.Claims.{has_names}
 use Rattle.law_asks.specs.Asked.{IsMet, IsOf}

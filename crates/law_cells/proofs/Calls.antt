@@ -14,16 +14,17 @@ use Rattle.node_expr.specs.declared.lit.Lit.{Lit}
 use Rattle.node_expr.specs.declared.lit.Lit.TheVariants as lit
 use Rattle.meta_nested.specs.Answers.{refused}
 use Rattle.error_fault.specs.Outcome.{Outcome, Value, Faults}
-use Rattle.util_core.specs.Groups.{without_groups}
-use Rattle.util_core.specs.Nested.{nested_of}
-use Rattle.machine_cells.specs.Cells.{Cells, no_cells}
-use Rattle.machine_cells.specs.Dispatch.{by_expr, by_lit, by_meta, from_invalid_expr, from_list, from_meta, from_none, from_value, items_of}
-use Rattle.machine_cells.specs.NestedMeta.{NestedMeta}
-use Rattle.machine_cells.specs.NestedMeta.TheVariants as nested
+use Rattle.meta_nested.specs.Groups.{without_groups}
+use Rattle.meta_nested.specs.Nested.{nested_of}
+use Rattle.meta_nested.specs.Cells.{Cells, no_cells}
+use Rattle.meta_nested.specs.Dispatch.{by_expr, by_lit, by_meta, from_invalid_expr, from_list, from_meta, from_none, from_value, items_of}
+use Rattle.meta_nested.specs.declared.nested.NestedMeta.{NestedMeta}
+use Rattle.meta_nested.specs.declared.nested.NestedMeta.TheVariants as nested
 use Rattle.machine_cells.specs.Shown.{shown_cells}
 use Rattle.machine_cells.proofs.Showing.{shows}
 use Rattle.law_listed.proofs.Items.{all-listed}
-use Rattle.law_cells.specs.Reads.{IsListed, OnValue, Reads}
+use Rattle.law_listed.specs.Listed.{IsListed}
+use Rattle.law_cells.specs.Reads.{OnValue, Reads}
 use Rattle.law_cells.proofs.Outcomes.{at_span, bound, found_says, is_tree, mapped, mapped_some, or_else, or_refused, weaker}
 
 -- what shown cells read is what the cells read, shown

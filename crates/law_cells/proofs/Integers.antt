@@ -7,7 +7,7 @@ use Rattle.node_expr.specs.declared.lit.Lit.TheVariants as lit
 use Rattle.node_expr.specs.declared.lit.LitInt.{LitInt}
 use Rattle.error_fault.specs.Outcome.{Outcome, Value, bind, refused}
 use Rattle.error_fault.specs.declared.kind.FaultKind.TheVariants.{Custom}
-use Rattle.machine_cells.specs.Integers.{integer_cells, is_numeral, is_within, non_zero_cells, non_zero_in, non_zero_of, non_zero_signed_cells, non_zero_unsigned_cells, number_of, signed_cells, signed_in, signed_of, too_large, unsigned_cells, unsigned_in, unsigned_of}
+use Rattle.machine_host.specs.MetaReadsIntegers.{integer_cells, is_numeral, is_within, non_zero_cells, non_zero_in, non_zero_of, non_zero_signed_cells, non_zero_unsigned_cells, number_of, signed_cells, signed_in, signed_of, too_large, unsigned_cells, unsigned_in, unsigned_of}
 use Rattle.machine_cells.specs.Leaves as leaves
 use Rattle.machine_cells.specs.Shown.{shown_cells}
 use Rattle.machine_cells.specs.Values.{integer, natural}

@@ -18,16 +18,15 @@ use Rattle.util_core.specs.Callable.{callable_cells}
 use Rattle.util_core.specs.Exprs.{preserved_cells}
 use Rattle.util_core.specs.Flag.{flag_cells}
 use Rattle.util_core.specs.IdentString.{ident_string_cells}
-use Rattle.util_core.specs.Keys.{ident_same, path_same}
-use Rattle.util_core.specs.Lists.{ident_item, path_item}
-use Rattle.util_core.specs.MetaExprs.{expr_cells, ident_cells, path_cells, type_path_cells}
-use Rattle.util_core.specs.PathLists.{path_word}
-use Rattle.util_core.specs.Rows as row
-use Rattle.util_core.specs.Syntax.{where_predicates_cells}
-use Rattle.machine_cells.specs.Cells.{no_cells}
+use Rattle.machine_host.specs.Keys.{ident_same, path_same}
+use Rattle.machine_host.specs.Lists.{ident_item, path_item, integers_cells}
+use Rattle.machine_host.specs.Exprs.{expr_cells, ident_cells, path_cells, type_path_cells}
+use Rattle.machine_host.specs.PathLists.{path_word}
+use Rattle.machine_host.specs.Rows as row
+use Rattle.machine_host.specs.Syntax.{where_predicates_cells}
+use Rattle.meta_nested.specs.Cells.{no_cells}
 use Rattle.machine_cells.specs.Leaves.{lit_kind_cells, lit_list_cells, parsed_cells, plain, punctuated_cells, set_cells, unsigned_list_cells, vec_cells}
-use Rattle.machine_cells.specs.Integers.{unsigned_cells}
-use Rattle.machine_cells.specs.Lists.{integers_cells}
+use Rattle.machine_host.specs.MetaReadsIntegers.{unsigned_cells}
 use Rattle.machine_cells.specs.Shown.{shown_cells}
 use Rattle.machine_cells.specs.Values.{flag, ignored, natural, naturals}
 use Rattle.machine_rows.specs.declared.leaf.Leaf.TheVariants as leaf

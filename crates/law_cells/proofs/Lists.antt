@@ -15,14 +15,14 @@ use Rattle.syn_grammar.specs.Trees.{expr_array_of}
 use Rattle.print_core.specs.Marks.{Trees}
 use Rattle.error_core.specs.Each.{each, every}
 use Rattle.error_fault.specs.Outcome.{Outcome, Value, bind, settle, value_of}
-use Rattle.util_core.specs.Groups.{in_group, without_groups}
-use Rattle.machine_cells.specs.Cells.{Cells, no_cells}
-use Rattle.machine_cells.specs.Dispatch.{from_expr, from_nested_meta, known}
-use Rattle.machine_cells.specs.Lists.{array_cells, by_element, elements, integer_element, integers_cells, literals_cells, names_cells, quoted_elements}
+use Rattle.meta_nested.specs.Groups.{in_group, without_groups}
+use Rattle.meta_nested.specs.Cells.{Cells, no_cells}
+use Rattle.meta_nested.specs.Dispatch.{from_expr, from_nested_meta, known}
+use Rattle.machine_host.specs.Lists.{array_cells, by_element, elements, integer_element, integers_cells, literals_cells, names_cells, quoted_elements}
 use Rattle.machine_cells.specs.Maps as maps
-use Rattle.util_core.specs.Maps.{text_order}
-use Rattle.machine_cells.specs.NestedMeta.{NestedMeta}
-use Rattle.machine_cells.specs.Sets.{set_faults}
+use Rattle.machine_host.specs.Maps.{text_order}
+use Rattle.meta_nested.specs.declared.nested.NestedMeta.{NestedMeta}
+use Rattle.machine_host.specs.Sets.{set_faults}
 use Rattle.machine_cells.specs.Shown.{shown_cells}
 use Rattle.machine_cells.specs.Texts.{by_text, put, put_by}
 use Rattle.machine_cells.specs.Values.{syntax, syntax_list}
@@ -31,9 +31,9 @@ use Rattle.machine_value.specs.declared.value.Value.TheOpen.{Value-F}
 use Rattle.machine_value.specs.declared.value.Value.TheVariants as value
 use Rattle.machine_host.specs.Forms.{Form, IsListOf, list_layer}
 use Rattle.machine_host.specs.Nodes.{IsOf, IsRead, IsReadAs}
-use Rattle.law_cells.specs.Reads.{IsListed, OnValue, Reads}
+use Rattle.law_listed.specs.Listed.{IsListed, HasListed, IsListedLit}
+use Rattle.law_cells.specs.Reads.{OnValue, Reads}
 use Rattle.law_cells.proofs.Calls.{Gives, list_reads, only, reads, shown_reads, value_says, weaker_reads}
-use Rattle.law_listed.specs.Listed.{HasListed, IsListedLit}
 use Rattle.law_listed.proofs.Elements.{array_elements, value_elements}
 use Rattle.law_cells.proofs.Forms.{fits_shown}
 use Rattle.law_cells.proofs.Nodes.{expr_read, fits_node, item_read, literal}

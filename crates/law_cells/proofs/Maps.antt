@@ -14,12 +14,12 @@ use Rattle.error_fault.specs.Fault.{at_span}
 use Rattle.error_fault.specs.declared.fault.Fault.{Fault}
 use Rattle.error_fault.specs.declared.kind.FaultKind.TheVariants.{DuplicateField}
 use Rattle.error_fault.specs.Outcome.{Outcome, Value, Faults, faults_of, on_value, settle, under}
-use Rattle.util_core.specs.Cells.{Cells}
-use Rattle.util_core.specs.Dispatch.{from_invalid_expr, from_meta}
-use Rattle.util_core.specs.Keys.{ident_key, ident_same, path_same, text_key}
-use Rattle.util_core.specs.Maps.{entries_of, entry, entry_of, is_among, item_faults, key_faults, keys_with, map_faults, pair_in, read_entries, repeated, with_key}
-use Rattle.util_core.specs.NestedMeta.{NestedMeta}
-use Rattle.util_core.specs.NestedMeta.TheVariants as nested
+use Rattle.meta_nested.specs.Cells.{Cells}
+use Rattle.meta_nested.specs.Dispatch.{from_invalid_expr, from_meta}
+use Rattle.machine_host.specs.Keys.{ident_key, ident_same, path_same, text_key}
+use Rattle.machine_host.specs.Maps.{entries_of, entry, entry_of, is_among, item_faults, key_faults, keys_with, map_faults, pair_in, read_entries, repeated, with_key}
+use Rattle.meta_nested.specs.declared.nested.NestedMeta.{NestedMeta}
+use Rattle.meta_nested.specs.declared.nested.NestedMeta.TheVariants as nested
 use Rattle.machine_rows.specs.declared.wrapper.HashKey.{HashKey}
 use Rattle.machine_rows.specs.declared.wrapper.HashKey.TheVariants as hash
 use Rattle.machine_rows.specs.declared.wrapper.TreeKey.{TreeKey}
@@ -31,7 +31,8 @@ use Rattle.machine_cells.specs.Wrapped.{hash_map_cells, tree_map_cells}
 use Rattle.machine_host.specs.Fits.{HashKeys, TreeKeys}
 use Rattle.machine_host.specs.Forms.{DontFall, Form, IsMapOf, Keys, Rise}
 use Rattle.machine_host.proofs.Values.{is_map}
-use Rattle.law_cells.specs.Reads.{IsListed, OnValue, Reads}
+use Rattle.law_listed.specs.Listed.{IsListed}
+use Rattle.law_cells.specs.Reads.{OnValue, Reads}
 use Rattle.law_cells.proofs.Outcomes.{in_field}
 use Rattle.law_cells.proofs.Plain.{reads_plain}
 use Rattle.law_cells.proofs.Sorting.{Differs, Fresh, IsAny, IsBelow, IsUpto, Lie, Places, dont_fall, each_by_text, in_order, lie_by_text, rise, rising}

@@ -8,19 +8,19 @@ use Rattle.node_expr.specs.declared.expr.Expr.{Expr, out-Expr}
 use Rattle.node_expr.specs.declared.expr.Expr.TheOpen.{Expr-F}
 use Rattle.print_core.specs.Marks.{Trees}
 use Rattle.error_fault.specs.Outcome.{Outcome, Value, Faults}
-use Rattle.util_core.specs.Groups.{without_groups}
-use Rattle.machine_cells.specs.Cells.{Cells, no_cells}
-use Rattle.machine_cells.specs.Dispatch.{by_expr, from_expr, from_invalid_expr, from_meta, from_nested_meta, from_value}
-use Rattle.machine_cells.specs.NestedMeta.{NestedMeta}
-use Rattle.machine_cells.specs.NestedMeta.TheVariants as nested
+use Rattle.meta_nested.specs.Groups.{without_groups}
+use Rattle.meta_nested.specs.Cells.{Cells, no_cells}
+use Rattle.meta_nested.specs.Dispatch.{by_expr, from_expr, from_invalid_expr, from_meta, from_nested_meta, from_value}
+use Rattle.meta_nested.specs.declared.nested.NestedMeta.{NestedMeta}
+use Rattle.meta_nested.specs.declared.nested.NestedMeta.TheVariants as nested
 use Rattle.machine_cells.specs.Shown.{shown_cells}
 use Rattle.machine_cells.specs.Values.{syntax, syntax_list}
 use Rattle.machine_host.specs.Forms.{IsListOf}
 use Rattle.machine_host.specs.Nodes.{IsAmong, IsOf, IsRead, IsReadAs}
 use Rattle.machine_host.proofs.Values.{is_syntax}
-use Rattle.law_cells.specs.Reads.{IsListed, OnValue, Reads}
+use Rattle.law_listed.specs.Listed.{IsListed, IsListedLit}
+use Rattle.law_cells.specs.Reads.{OnValue, Reads}
 use Rattle.law_cells.proofs.Calls.{shown_reads}
-use Rattle.law_listed.specs.Listed.{IsListedLit}
 use Rattle.law_cells.proofs.Forms.{fits_shown}
 use Rattle.law_cells.proofs.Outcomes.{at_span, without_span}
 use Rattle.law_cells.proofs.Streams.{stream-trees}

@@ -4,12 +4,12 @@ use Rattle.std.specs.List.{cons_option, filter_map}
 use Rattle.std.proofs.lemmas.List.Elements.{All-cons, All-head, All-nil, All-tail}
 use Rattle.base_core.specs.declared.text.Text.{Text}
 use Rattle.tok_types.specs.declared.span.Span.{Span}
-use Rattle.node_core.specs.Nodes.{SynError}
+use Rattle.node_core.specs.declared.error.SynError.{SynError}
 use Rattle.error_fault.specs.Outcome.{Outcome, Value, Faults, bind, faults_of, on_value, refused, settle, under, value_of, with_siblings, with_span}
 use Rattle.error_fault.specs.declared.fault.Fault.{Fault}
 use Rattle.error_fault.specs.declared.kind.FaultKind.{FaultKind}
 use Rattle.error_core.specs.Each.{each, every}
-use Rattle.machine_cells.specs.Dispatch.{known, tree_or}
+use Rattle.meta_nested.specs.Dispatch.{known, tree_or}
 use Rattle.law_cells.specs.Reads.{OnValue}
 
 module _ {A : Type 0} (Says : A → Type 0) where

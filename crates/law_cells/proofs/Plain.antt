@@ -8,13 +8,14 @@ use Rattle.node_expr.specs.declared.expr.Expr.TheOpen.{Expr-F}
 use Rattle.node_expr.specs.declared.lit.Lit.{Lit}
 use Rattle.node_expr.specs.declared.lit.Lit.TheVariants as lit
 use Rattle.error_fault.specs.Outcome.{Outcome}
-use Rattle.util_core.specs.Cells.{Cells, no_cells}
-use Rattle.util_core.specs.Dispatch.{by_expr, by_lit, by_meta, from_expr, from_list, from_value, items_of}
-use Rattle.util_core.specs.Groups.{without_groups}
-use Rattle.util_core.specs.MetaNameValueInvalidExpr.{MetaNameValueInvalidExpr}
-use Rattle.util_core.specs.NestedMeta.{NestedMeta}
-use Rattle.util_core.specs.NestedMeta.TheVariants as nested
-use Rattle.law_cells.specs.Reads.{IsListed, OnValue, Reads}
+use Rattle.meta_nested.specs.Cells.{Cells, no_cells}
+use Rattle.meta_nested.specs.Dispatch.{by_expr, by_lit, by_meta, from_expr, from_list, from_value, items_of}
+use Rattle.meta_nested.specs.Groups.{without_groups}
+use Rattle.meta_nested.specs.declared.nested.MetaNameValueInvalidExpr.{MetaNameValueInvalidExpr}
+use Rattle.meta_nested.specs.declared.nested.NestedMeta.{NestedMeta}
+use Rattle.meta_nested.specs.declared.nested.NestedMeta.TheVariants as nested
+use Rattle.law_listed.specs.Listed.{IsListed}
+use Rattle.law_cells.specs.Reads.{OnValue, Reads}
 use Rattle.law_cells.proofs.Calls.{items_listed}
 use Rattle.law_cells.proofs.Outcomes.{at_span, bound, or_else}
 

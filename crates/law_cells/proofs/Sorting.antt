@@ -11,7 +11,7 @@ use Rattle.std.specs.declared.cmp.Ordering.TheVariants.{Less, Equal, Greater}
 use Rattle.std.proofs.lemmas.Cmp.{upto}
 use Rattle.std.proofs.lemmas.Map.Text.{is_eq-slice_cmp}
 use Rattle.base_core.specs.declared.text.Text.{Text}
-use Rattle.machine_cells.specs.MetaMaps.{text_order}
+use Rattle.machine_host.specs.Maps.{text_order}
 use Rattle.machine_cells.specs.Texts.{by_text, put, put_by}
 use Rattle.machine_host.specs.Forms.{DontFall, Rise}
 

@@ -6,12 +6,12 @@ use Rattle.node_core.specs.declared.attr.Meta.TheVariants as meta
 use Rattle.node_core.specs.declared.style.Style.TheVariants as style
 use Rattle.print_core.specs.Items.{meta_tokens}
 use Rattle.error_fault.specs.Outcome.{Outcome, Value, Faults, on_value}
-use Rattle.util_core.specs.Cells.{Cells}
-use Rattle.util_core.specs.Dispatch.{by_meta, from_list, from_meta, from_none, from_value}
-use Rattle.util_core.specs.NestedMeta.TheVariants as nested
+use Rattle.meta_nested.specs.Cells.{Cells}
+use Rattle.meta_nested.specs.Dispatch.{by_meta, from_list, from_meta, from_none, from_value}
+use Rattle.meta_nested.specs.declared.nested.NestedMeta.TheVariants as nested
 use Rattle.util_core.specs.Override.{explicit, explicit_meta, override_cells}
-use Rattle.util_core.specs.Rows.{unit_cells}
-use Rattle.util_core.specs.Wrappers.{box_cells, option_cells, result_cells, result_meta_cells, value_or_meta}
+use Rattle.machine_host.specs.Rows.{unit_cells}
+use Rattle.machine_host.specs.Wrappers.{box_cells, option_cells, result_cells, result_meta_cells, value_or_meta}
 use Rattle.util_core.specs.declared.over_ride.Override.{Override}
 use Rattle.util_core.specs.declared.over_ride.Override.TheVariants.{Inherit, Explicit}
 use Rattle.machine_value.specs.declared.value.Value.{Value as Datum}
@@ -23,7 +23,8 @@ use Rattle.machine_host.specs.Fits.{IsOverrideOf, IsResultOf}
 use Rattle.machine_host.specs.Forms.{Form, HasNone, HasOne, HasTwo, IsFaults, IsOptOf, IsSpan, IsStructOf, IsUnit}
 use Rattle.machine_host.specs.Nodes.{IsMeta}
 use Rattle.machine_host.proofs.Values.{are_faults, is_opt, is_span, is_struct, is_syntax, is_unit, is_variant}
-use Rattle.law_cells.specs.Reads.{IsListed, OnValue, Reads}
+use Rattle.law_listed.specs.Listed.{IsListed}
+use Rattle.law_cells.specs.Reads.{OnValue, Reads}
 use Rattle.law_cells.proofs.Calls.{shown_any, shown_reads}
 use Rattle.law_cells.proofs.Outcomes.{at_span, mapped, mapped_some}
 use Rattle.law_cells.proofs.Plain.{reads_plain}

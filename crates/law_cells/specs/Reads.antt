@@ -3,12 +3,12 @@ use Rattle.std.specs.Prelude.{List, All, IfSome}
 use Rattle.node_core.specs.declared.attr.Meta.{Meta}
 use Rattle.node_expr.specs.declared.lit.Lit.{Lit}
 use Rattle.error_fault.specs.Outcome.{Outcome, Value, Faults}
-use Rattle.machine_cells.specs.Cells.{Cells}
-use Rattle.machine_cells.specs.Dispatch.{from_invalid_expr, from_list, from_meta, from_none, from_value}
+use Rattle.meta_nested.specs.Cells.{Cells}
+use Rattle.meta_nested.specs.Dispatch.{from_invalid_expr, from_list, from_meta, from_none, from_value}
 use Rattle.machine_cells.specs.Leaves.{leaf_cells}
-use Rattle.machine_cells.specs.NestedMeta.{NestedMeta}
-use Rattle.machine_cells.specs.NestedMeta.TheVariants as nested
-use Rattle.util_core.specs.MetaNameValueInvalidExpr.{MetaNameValueInvalidExpr}
+use Rattle.meta_nested.specs.declared.nested.NestedMeta.{NestedMeta}
+use Rattle.meta_nested.specs.declared.nested.NestedMeta.TheVariants as nested
+use Rattle.meta_nested.specs.declared.nested.MetaNameValueInvalidExpr.{MetaNameValueInvalidExpr}
 use Rattle.machine_host.specs.Leaves.{FitsLeaf}
 use Rattle.machine_rows.specs.declared.leaf.Leaf.{Leaf}
 pub use Rattle.law_listed.specs.Listed.{IsListed}

@@ -48,12 +48,14 @@ ghost use Rattle.node_expr.specs.declared.ty.TypeInfer.{TypeInfer};
 ghost use Rattle.node_expr.specs.declared.ty.TypeNever.{TypeNever};
 
 use node_core::{
-    Attribute, ConstParam, Data, DataEnum, DataStruct, DataUnion, DeriveInput, Expr, ExprPath,
-    Field, Fields, FieldsNamed, FieldsUnnamed, FnArg, GenericArgument, GenericParam, Generics,
-    LifetimeParam, Lit, LitBool, LitByte, LitByteStr, LitChar, LitFloat, LitInt, LitStr, Member,
-    Meta, MetaList, MetaNameValue, Path, PathArguments, PathSegment, TraitBound, Type, TypeArray,
-    TypeInfer, TypeNever, TypeParam, TypeParamBound, TypePath, Variant, Visibility, WhereClause,
-    WherePredicate,
+    Attribute, ConstParam, Data, DataEnum, DataStruct, DataUnion, DeriveInput, Field, Fields,
+    FieldsNamed, FieldsUnnamed, GenericParam, Generics, LifetimeParam, Meta, MetaList,
+    MetaNameValue, TypeParam, Variant, Visibility, WhereClause, WherePredicate,
+};
+use node_expr::{
+    Expr, ExprPath, FnArg, GenericArgument, Lit, LitBool, LitByte, LitByteStr, LitChar, LitFloat,
+    LitInt, LitStr, Member, Path, PathArguments, PathSegment, TraitBound, Type, TypeArray,
+    TypeInfer, TypeNever, TypeParamBound, TypePath,
 };
 use std::hash::Hash;
 

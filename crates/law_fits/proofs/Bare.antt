@@ -32,12 +32,12 @@ use Rattle.machine_rows.specs.declared.name.Name.TheVariants as name
 use Rattle.machine_rows.specs.declared.path.Meant.{Meant}
 use Rattle.machine_rows.specs.declared.path.Meant.TheVariants as meants
 use Rattle.machine_value.specs.declared.value.Value.{Value, out-Value}
-use Rattle.law_cells.specs.Decls.{Either, Fits, FitsAmong, FitsBelow, FitsBody, FitsDecl, FitsElements, FitsType, HasFields, IsMemberOf, IsOfVariant, decl_names}
-use Rattle.law_cells.specs.Erased.{erased_ident, erased_segment, erased_type}
+use Rattle.meaning_core.specs.Decls.{Either, Fits, FitsAmong, FitsBelow, FitsBody, FitsDecl, FitsElements, FitsType, HasFields, IsMemberOf, IsOfVariant, decl_names}
+use Rattle.law_spans.specs.Erased.{erased_ident, erased_segment, erased_type}
 use Rattle.law_cells.specs.Fits.{FitsRow, layer_name, type_name}
 use Rattle.law_cells.specs.Forms.{Form, IsHostOf, IsStructOf, IsVariantOf}
-use Rattle.machine_std.specs.HostSays.{erased_decls}
-use Rattle.law_cells.specs.ItemErased.{erased_data, erased_derive_input, erased_field, erased_fields, erased_variant}
+use Rattle.meaning_core.specs.HostSays.{erased_decls}
+use Rattle.law_spans_items.specs.Erased.{erased_data, erased_derive_input, erased_field, erased_fields, erased_variant}
 use Rattle.machine_std.proofs.Erased.{member_name-bare, names-bare}
 use Rattle.machine_std.proofs.Heads.{bared, bared_head, head_of-bare, last_arguments-bare, meant_by-bare, path_text-bare, segments_in-bare}
 use Rattle.machine_std.proofs.Nodes.{opened_type, opened_type_path}

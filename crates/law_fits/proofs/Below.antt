@@ -20,11 +20,11 @@ use Rattle.machine_rows.specs.declared.row.Row.TheVariants as row
 use Rattle.machine_rows.specs.declared.wrapper.Wrapper.{Wrapper}
 use Rattle.machine_rows.specs.declared.wrapper.Wrapper.TheVariants as wrapper
 use Rattle.machine_value.specs.declared.value.Value.{Value, out-Value}
-use Rattle.law_cells.specs.Decls.{Either, Fits, FitsAmong, FitsBelow, FitsDecl, FitsElements, FitsType, decl_names}
+use Rattle.meaning_core.specs.Decls.{Either, Fits, FitsAmong, FitsBelow, FitsDecl, FitsElements, FitsType, decl_names}
 use Rattle.law_cells.specs.Fits.{FitsRow}
 use Rattle.law_cells.specs.Forms.{Form}
-use Rattle.machine_std.specs.HostSays.{HostSays}
-use Rattle.machine_std.specs.Made.{named_type}
+use Rattle.meaning_core.specs.HostSays.{HostSays}
+use Rattle.meaning_core.specs.Made.{named_type}
 use Rattle.machine_std.specs.Rests.{around_layer}
 use Rattle.machine_fit.specs.Fits.{element_fits, field_fits, layer_fits, row_fits}
 use Rattle.law_fits.specs.Sound.{AreNamed}

@@ -5,18 +5,19 @@ use Rattle.std.proofs.lemmas.List.Elements.{All-same}
 use Rattle.codegen_program.specs.declared.program.Program.{Program}
 use Rattle.error_fault.specs.Outcome.{Outcome}
 use Rattle.machine_value.specs.declared.value.Value.{Value as Datum}
-use Rattle.law_cells.specs.Decls.{FitsAmong}
-use Rattle.machine_std.specs.HostSays.{HostSays}
-use Rattle.machine_std.specs.Lawful.{IsLawful}
-use Rattle.meaning_core.specs.Convert.{Earlier}
-use Rattle.meaning_core.specs.Machine.{setting_of}
-use Rattle.law_cells.specs.NestedMeta.{NestedMeta}
-use Rattle.meaning_core.specs.Setting.{Setting}
+use Rattle.meaning_core.specs.Decls.{FitsAmong}
+use Rattle.meaning_core.specs.HostSays.{HostSays}
+use Rattle.meaning_core.specs.Lawful.{IsLawful}
+use Rattle.machine_fit.specs.Convert.{Earlier}
+use Rattle.machine_fit.specs.Machine.{setting_of}
+use Rattle.meaning_core.specs.NestedMeta.{NestedMeta}
+use Rattle.machine_fit.specs.Setting.{Setting}
 use Rattle.meaning_core.specs.Decl.{Decl}
 use Rattle.meaning_core.specs.Declarations.{earlier_decls, list_meaning, meta_decl}
 use Rattle.meaning_core.specs.Entries.{ItemEntry, events, items}
 use Rattle.meaning_core.specs.Meaning.{struct_meaning}
-use Rattle.law_cells.specs.Reads.{IsListed, OnValue}
+use Rattle.law_cells.specs.Listed.{IsListed}
+use Rattle.law_cells.specs.Reads.{OnValue}
 use Rattle.law_fits.specs.Claims.{AreSound, DeclaredFits, has_names}
 use Rattle.law_fits.specs.Earlier.{EarlierFits}
 use Rattle.law_fits.specs.Sound.{AreNamed}

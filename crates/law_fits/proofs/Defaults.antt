@@ -29,17 +29,17 @@ use Rattle.machine_value.specs.declared.value.Value.TheVariants as value
 use Rattle.law_cells.specs.Defaults.{layer_default, leaf_default, row_default}
 use Rattle.law_cells.specs.Override.TheVariants.{Inherit}
 use Rattle.law_cells.specs.Values.{given, spanned}
-use Rattle.law_cells.specs.Decls.{Fits, FitsAmong, FitsBelow, FitsElements, FitsType, decl_names}
-use Rattle.law_cells.specs.Erased.{erased_type}
+use Rattle.meaning_core.specs.Decls.{Fits, FitsAmong, FitsBelow, FitsElements, FitsType, decl_names}
+use Rattle.law_spans.specs.Erased.{erased_type}
 use Rattle.law_cells.specs.Fits.{FitsRow, HashKeys, IsOverrideOf, TreeKeys, type_name}
 use Rattle.law_cells.specs.Forms.{Form, IsHostOf, IsListOf, IsMapOf, IsOptOf, IsUnit}
-use Rattle.machine_std.specs.HostSays.{HostSays, erased_decls}
-use Rattle.machine_std.specs.Lawful.{IsLawful}
-use Rattle.machine_std.specs.Made.{named_type}
+use Rattle.meaning_core.specs.HostSays.{HostSays, erased_decls}
+use Rattle.meaning_core.specs.Lawful.{IsLawful}
+use Rattle.meaning_core.specs.Made.{named_type}
 use Rattle.machine_std.specs.DefaultsFit.{IsSpannedOf, fits_empty, fits_inherit, fits_no_entries, fits_none, fits_spanned, given_fits, leaf_fits, no_hash_keys, no_tree_keys}
 use Rattle.machine_std.specs.Rests.{around_layer}
-use Rattle.meaning_core.specs.Convert.{decl_default, declared_default, default, default_said}
-use Rattle.meaning_core.specs.Machine.{setting_of}
+use Rattle.machine_fit.specs.Convert.{decl_default, declared_default, default, default_said}
+use Rattle.machine_fit.specs.Machine.{setting_of}
 use Rattle.machine_fit.specs.Fits.{field_fits, has_default}
 use Rattle.law_cells.proofs.Values.{is_unit}
 use Rattle.law_fits.specs.Sound.{AreNamed}

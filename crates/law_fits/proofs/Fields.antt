@@ -6,36 +6,35 @@ use Rattle.std.proofs.lemmas.List.Elements.{All-cons, All-head, All-nil, All-tai
 use Rattle.tok_types.specs.Ident.{ident_text}
 use Rattle.node_expr.specs.declared.ty.«Type».{«Type» as Type'}
 use Rattle.error_fault.specs.Outcome.{Outcome, Value, Faults}
-use Rattle.codegen_program.specs.Callable.{Callable}
+use Rattle.law_cells.specs.Callable.{Callable}
 use Rattle.codegen_program.specs.declared.arm.PostfixTransform.{PostfixTransform}
 use Rattle.codegen_program.specs.declared.program.Program.{Program}
 use Rattle.machine_rows.specs.Rows.{element_of, row_of}
 use Rattle.machine_value.specs.declared.value.Value.{Value as Datum}
 use Rattle.machine_value.specs.declared.value.Value.TheVariants as value
 use Rattle.machine_value.specs.Members.{member}
-use Rattle.law_cells.specs.Decls.{Fits, FitsBelow, FitsType, decl_names}
+use Rattle.meaning_core.specs.Decls.{Fits, FitsBelow, FitsType, decl_names}
 use Rattle.law_cells.specs.Fits.{FitsRow}
 use Rattle.law_cells.specs.Forms.{Form}
-use Rattle.machine_std.specs.HostSays.{HostSays}
-use Rattle.machine_std.specs.Lawful.{IsLawful}
-use Rattle.machine_std.specs.Seen.{MetaSeen, ValueSeen}
+use Rattle.meaning_core.specs.HostSays.{HostSays}
+use Rattle.meaning_core.specs.Lawful.{IsLawful}
+use Rattle.law_cells.specs.Seen.{MetaSeen, ValueSeen, NothingSeen}
 use Rattle.law_cells.specs.Use.TheVariants as use_at
-use Rattle.meaning_core.specs.Convert.{Earlier, cells, convert, element, list, none}
-use Rattle.meaning_core.specs.Machine.{setting_of}
-use Rattle.law_cells.specs.NestedMeta.{NestedMeta}
-use Rattle.law_cells.specs.NestedMeta.TheVariants as nested
-use Rattle.law_cells.specs.Nodes.{nested_span}
-use Rattle.meaning_core.specs.Reading.{read_at, read_with, transform_use, transformed}
-use Rattle.meaning_core.specs.Reading.{converted as converted_by}
-use Rattle.machine_std.specs.Seen.{NothingSeen}
-use Rattle.meaning_core.specs.Setting.{Setting, ask, called}
+use Rattle.machine_fit.specs.Convert.{Earlier, cells, convert, element, list, none}
+use Rattle.machine_fit.specs.Machine.{setting_of}
+use Rattle.meaning_core.specs.NestedMeta.{NestedMeta}
+use Rattle.meaning_core.specs.NestedMeta.TheVariants as nested
+use Rattle.meaning_core.specs.Nodes.{nested_span}
+use Rattle.machine_fit.specs.Reading.{read_at, read_with, transform_use, transformed, converted as converted_by}
+use Rattle.machine_fit.specs.Setting.{Setting, ask, called}
 use Rattle.machine_fit.specs.Callables.{converted}
 use Rattle.machine_fit.specs.Fits.{element_fits, field_fits, type_fits}
 use Rattle.meaning_core.specs.Decl.{Decl, FieldDecl, Fallback, OfType, OfCall, OfContainer, Shape, Single, Many, Flat, fallback, is_many, names}
 use Rattle.meaning_core.specs.EntryFaults.{element_by, read, value_list, values}
 use Rattle.meaning_core.specs.FieldValue.{absent_value, empty_value, fallback_outcome, field_value, flat_outcome, value_of_none}
 use Rattle.meaning_core.specs.Owners.{unclaimed}
-use Rattle.law_cells.specs.Reads.{IsListed, OnValue, Reads}
+use Rattle.law_cells.specs.Listed.{IsListed}
+use Rattle.law_cells.specs.Reads.{OnValue, Reads}
 use Rattle.law_cells.proofs.Outcomes.{among_siblings, at_span, bound_any, weaker}
 use Rattle.law_fits.specs.Earlier.{EarlierFits}
 use Rattle.law_fits.specs.Sound.{AreNamed, IsFallback, IsOffered, IsPost, IsRead, IsSoundField}

@@ -1,19 +1,19 @@
 -- What a lawful host answers fits the type for which it is asked.
 use Rattle.std.proofs.Common.{◌≡◌, Some}
 use Rattle.node_expr.specs.declared.ty.«Type».{«Type» as Type'}
-use Rattle.codegen_program.specs.Callable.{Callable}
+use Rattle.law_cells.specs.Callable.{Callable}
 use Rattle.codegen_program.specs.declared.program.Program.{Program}
-use Rattle.law_cells.specs.Decls.{Fits}
-use Rattle.law_cells.specs.Erased.{erased_type}
-use Rattle.machine_std.specs.HostSays.{HostSays, erased_decls, erased_place}
-use Rattle.machine_std.specs.Lawful.{IsLawful, IsProper}
-use Rattle.machine_std.specs.Seen.{SeenArg}
+use Rattle.meaning_core.specs.Decls.{Fits}
+use Rattle.law_spans.specs.Erased.{erased_type}
+use Rattle.meaning_core.specs.HostSays.{HostSays, erased_decls, erased_place}
+use Rattle.meaning_core.specs.Lawful.{IsLawful, IsProper}
+use Rattle.law_cells.specs.Seen.{SeenArg}
 use Rattle.law_cells.specs.Use.{Use}
 use Rattle.law_cells.specs.Use.TheVariants as use_at
 use Rattle.law_cells.specs.Said.{Said}
 use Rattle.law_cells.specs.Said.TheVariants as said
-use Rattle.meaning_core.specs.Machine.{setting_of}
-use Rattle.meaning_core.specs.Setting.{ask, outcome_of, without_places}
+use Rattle.machine_fit.specs.Machine.{setting_of}
+use Rattle.machine_fit.specs.Setting.{ask, outcome_of, without_places}
 use Rattle.law_cells.specs.Reads.{OnValue}
 use Rattle.law_fits.specs.Sound.{IsOffered}
 use Rattle.law_fits.proofs.Bare.{bare_fits}

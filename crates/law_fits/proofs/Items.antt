@@ -6,17 +6,18 @@ use Rattle.base_core.specs.declared.text.Text.{Text}
 use Rattle.node_core.specs.declared.attr.Attribute.{Attribute}
 use Rattle.node_core.specs.declared.attr.Meta.{Meta}
 use Rattle.node_core.specs.declared.attr.Meta.TheVariants as meta
-use Rattle.meaning_core.specs.Attributes.{has_name}
+use Rattle.machine_fit.specs.Attributes.{has_name}
 use Rattle.law_cells.specs.Dispatch.{items_of}
-use Rattle.meaning_core.specs.Names.{item_name, meta_name}
-use Rattle.law_cells.specs.NestedMeta.{NestedMeta}
+use Rattle.machine_fit.specs.Names.{item_name, meta_name}
+use Rattle.meaning_core.specs.NestedMeta.{NestedMeta}
 use Rattle.meaning_core.specs.Decl.{FieldDecl, is_named}
 use Rattle.meaning_core.specs.Entries.{Entry, FaultEntry, ItemEntry, entries_of, events, items, list_entries}
 use Rattle.meaning_core.specs.Owners.{field_at, is_this, is_unclaimed, own, owner, owner_named, unclaimed}
 use Rattle.meaning_core.proofs.Filters.{OnOwner, owner_on}
 use Rattle.error_fault.specs.Outcome.{Outcome, Value, Faults}
 use Rattle.error_fault.specs.declared.fault.Fault.{Fault}
-use Rattle.law_cells.specs.Reads.{IsListed, OnValue}
+use Rattle.law_cells.specs.Listed.{IsListed}
+use Rattle.law_cells.specs.Reads.{OnValue}
 use Rattle.law_cells.proofs.Calls.{items_listed}
 use Rattle.law_fits.specs.Claims.{has_names}
 

@@ -11,12 +11,12 @@ use Rattle.error_fault.specs.Outcome.{Outcome, Value, Faults, bind, on_value}
 use Rattle.codegen_program.specs.declared.program.Program.{Program}
 use Rattle.machine_value.specs.declared.value.Value.{Value as Datum}
 use Rattle.machine_value.specs.Members.{labelled, member, member_in}
-use Rattle.law_cells.specs.Decls.{IsMemberOf}
-use Rattle.machine_std.specs.HostSays.{HostSays}
-use Rattle.machine_std.specs.Lawful.{IsLawful}
-use Rattle.meaning_core.specs.Convert.{Earlier}
-use Rattle.meaning_core.specs.Machine.{setting_of}
-use Rattle.law_cells.specs.NestedMeta.{NestedMeta}
+use Rattle.meaning_core.specs.Decls.{IsMemberOf}
+use Rattle.meaning_core.specs.HostSays.{HostSays}
+use Rattle.meaning_core.specs.Lawful.{IsLawful}
+use Rattle.machine_fit.specs.Convert.{Earlier}
+use Rattle.machine_fit.specs.Machine.{setting_of}
+use Rattle.meaning_core.specs.NestedMeta.{NestedMeta}
 use Rattle.meaning_core.specs.Decl.{ByCall, ByType, Decl, Default, FieldDecl, fallback_by, skip_fallback}
 use Rattle.meaning_core.specs.FieldValue.{field_value}
 use Rattle.meaning_core.specs.Meaning.{in_order}

@@ -15,7 +15,7 @@ use Rattle.machine_rows.specs.declared.wrapper.Wrapper.TheVariants as wrapper
 use Rattle.law_cells.specs.Fits.{FitsRow, HashKeys, IsOverrideOf, IsResultOf, TreeKeys, type_name}
 use Rattle.law_cells.specs.Forms.{Form, HasTwo, IsFaults, IsHostOf, IsListOf, IsMapOf, IsOptOf, IsSpan, IsStructOf, IsUnit}
 use Rattle.law_cells.specs.Leaves.{FitsLeaf}
-use Rattle.law_cells.specs.HostNodes.{IsMeta}
+use Rattle.law_cells.specs.Nodes.{IsMeta}
 use Rattle.law_cells.proofs.Fitting.{fits_layer}
 
 -- what fits a type that holds one type, whose values are such

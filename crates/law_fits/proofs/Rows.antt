@@ -4,7 +4,7 @@ use Rattle.tok_types.specs.declared.ident.Ident.{Ident}
 use Rattle.node_expr.specs.declared.ty.«Type».{«Type» as Type'}
 use Rattle.codegen_program.specs.declared.program.Program.{Program}
 use Rattle.law_cells.specs.Cells.{Cells}
-use Rattle.law_cells.specs.NestedMeta.{NestedMeta}
+use Rattle.meaning_core.specs.NestedMeta.{NestedMeta}
 use Rattle.machine_rows.specs.Heads.{head_of}
 use Rattle.machine_rows.specs.Rows.{around, row_at, row_by, row_of}
 use Rattle.machine_rows.specs.declared.head.Head.{Head}
@@ -17,21 +17,22 @@ use Rattle.machine_rows.specs.declared.wrapper.Wrapper.{Wrapper}
 use Rattle.machine_rows.specs.declared.wrapper.Wrapper.TheVariants as wrapper
 use Rattle.machine_value.specs.declared.value.Value.{Value as Datum}
 use Rattle.law_cells.specs.RowCells.{layer_cells, row_cells}
-use Rattle.law_cells.specs.Decls.{FitsBelow, decl_names}
-use Rattle.law_cells.specs.Erased.{erased_type}
+use Rattle.meaning_core.specs.Decls.{FitsBelow, decl_names}
+use Rattle.law_spans.specs.Erased.{erased_type}
 use Rattle.law_cells.specs.Fits.{FitsLayer, FitsRow, type_name}
 use Rattle.law_cells.specs.Forms.{Form, IsHostOf}
-use Rattle.machine_std.specs.HostSays.{HostSays}
-use Rattle.machine_std.specs.Lawful.{IsLawful, IsProper}
-use Rattle.machine_std.specs.Seen.{BadItem, ListItem, MetaItem}
+use Rattle.meaning_core.specs.HostSays.{HostSays}
+use Rattle.meaning_core.specs.Lawful.{IsLawful, IsProper}
+use Rattle.law_cells.specs.Seen.{BadItem, ListItem, MetaItem}
 use Rattle.law_cells.specs.Said.{Said}
 use Rattle.law_cells.specs.Said.TheVariants as said
 use Rattle.law_cells.proofs.Fitting.{fits_layer}
-use Rattle.meaning_core.specs.Convert.{Earlier, cells, declared_cells, host_cells}
-use Rattle.meaning_core.specs.Machine.{setting_of}
-use Rattle.meaning_core.specs.Setting.{outcome_of}
+use Rattle.machine_fit.specs.Convert.{Earlier, cells, declared_cells, host_cells}
+use Rattle.machine_fit.specs.Machine.{setting_of}
+use Rattle.machine_fit.specs.Setting.{outcome_of}
 use Rattle.machine_fit.specs.Fits.{layer_fits, row_fits, type_fits}
-use Rattle.law_cells.specs.Reads.{IsListed, OnValue, Reads}
+use Rattle.law_cells.specs.Listed.{IsListed}
+use Rattle.law_cells.specs.Reads.{OnValue, Reads}
 use Rattle.law_cells.proofs.Plain.{reads_plain}
 use Rattle.law_cells.proofs.Leaves.{leaves_read}
 use Rattle.law_cells.proofs.Maps.{hash_map_reads, tree_map_reads}

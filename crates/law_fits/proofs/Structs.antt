@@ -21,19 +21,18 @@ use Rattle.codegen_program.specs.declared.program.Program.{Program}
 use Rattle.machine_value.specs.declared.value.Value.{Value as Datum, out-Value}
 use Rattle.machine_value.specs.declared.value.Value.TheOpen.{Value-F}
 use Rattle.machine_value.specs.Members.{labelled, layer_member, member, no_value, struct_of}
-use Rattle.law_cells.specs.Decls.{Fits, FitsAmong, FitsBelow, FitsBody, FitsDecl, FitsType, HasFields, IsMemberOf, decl_names}
+use Rattle.meaning_core.specs.Decls.{Fits, FitsAmong, FitsBelow, FitsBody, FitsDecl, FitsType, HasFields, IsMemberOf, decl_names}
 use Rattle.law_cells.specs.Forms.{Form, IsStructOf, struct_layer}
-use Rattle.machine_std.specs.HostSays.{HostSays}
-use Rattle.machine_std.specs.Lawful.{IsLawful}
-use Rattle.machine_std.specs.Made.{named_type}
-use Rattle.machine_std.specs.Seen.{ValueSeen}
+use Rattle.meaning_core.specs.HostSays.{HostSays}
+use Rattle.meaning_core.specs.Lawful.{IsLawful}
+use Rattle.meaning_core.specs.Made.{named_type}
+use Rattle.law_cells.specs.Seen.{ValueSeen, NothingSeen}
 use Rattle.law_cells.specs.Use.TheVariants as use_at
 use Rattle.law_cells.proofs.Values.{is_struct}
-use Rattle.meaning_core.specs.Convert.{Earlier, default}
-use Rattle.meaning_core.specs.Machine.{setting_of}
-use Rattle.meaning_core.specs.Reading.{transform_use, transformed}
-use Rattle.machine_std.specs.Seen.{NothingSeen}
-use Rattle.meaning_core.specs.Setting.{Setting, ask, called}
+use Rattle.machine_fit.specs.Convert.{Earlier, default}
+use Rattle.machine_fit.specs.Machine.{setting_of}
+use Rattle.machine_fit.specs.Reading.{transform_use, transformed}
+use Rattle.machine_fit.specs.Setting.{Setting, ask, called}
 use Rattle.meaning_core.specs.Decl.{ByCall, ByType, Decl, Default, FieldDecl}
 use Rattle.meaning_core.specs.Entries.{Entry, items}
 use Rattle.meaning_core.specs.FieldValue.{field_value}

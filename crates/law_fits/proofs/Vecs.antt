@@ -16,10 +16,10 @@ use Rattle.machine_rows.specs.Items.{vec_item}
 use Rattle.machine_rows.specs.Rows.{element_of, row_at, row_of}
 use Rattle.machine_value.specs.declared.value.Value.{Value, out-Value}
 use Rattle.machine_value.specs.declared.value.Value.TheVariants as value
-use Rattle.law_cells.specs.Decls.{FitsElements, FitsType, decl_names}
+use Rattle.meaning_core.specs.Decls.{FitsElements, FitsType, decl_names}
 use Rattle.law_cells.specs.Fits.{FitsRow}
 use Rattle.law_cells.specs.Forms.{Form, IsListOf}
-use Rattle.machine_std.specs.HostSays.{HostSays}
+use Rattle.meaning_core.specs.HostSays.{HostSays}
 use Rattle.law_cells.specs.Leaves.{FitsItem}
 use Rattle.law_cells.proofs.Fitting.{fits_at}
 use Rattle.law_cells.proofs.Values.{is_list}

@@ -10,7 +10,7 @@ use Rattle.machine_value.specs.declared.value.Value.{Value, out-Value}
 use Rattle.machine_value.specs.declared.value.Value.TheOpen.{Value-F}
 use Rattle.law_cells.specs.Fits.{HashKeys, IsOverrideOf, IsResultOf, TreeKeys}
 use Rattle.law_cells.specs.Forms.{Form, HasOne, HasTwo, IsFaults, IsSpan, Keys, Members, list_layer, map_layer, opt_layer, struct_layer, variant_layer}
-use Rattle.law_cells.specs.HostNodes.{IsMeta}
+use Rattle.law_cells.specs.Nodes.{IsMeta}
 use Rattle.law_fits.proofs.RowForms.{AroundForm}
 
 -- a value of a form is one of the same form

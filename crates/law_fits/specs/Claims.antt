@@ -3,10 +3,10 @@ use Rattle.std.specs.Prelude.{◌≡◌, ℕ, Bool, true, false, List, [], ◌�
 use Rattle.base_core.specs.declared.text.Text.{Text}
 use Rattle.node_core.specs.declared.derive.DeriveInput.{DeriveInput}
 use Rattle.codegen_program.specs.declared.program.Program.{Program}
-use Rattle.law_cells.specs.Decls.{FitsAmong}
-use Rattle.machine_std.specs.HostSays.{HostSays}
-use Rattle.machine_std.specs.Lawful.{IsLawful}
-use Rattle.meaning_core.specs.Machine.{setting_of}
+use Rattle.meaning_core.specs.Decls.{FitsAmong}
+use Rattle.meaning_core.specs.HostSays.{HostSays}
+use Rattle.meaning_core.specs.Lawful.{IsLawful}
+use Rattle.machine_fit.specs.Machine.{setting_of}
 use Rattle.meaning_core.specs.Decl.{Decl}
 use Rattle.meaning_core.specs.Declarations.{declared_meaning, meta_decl}
 use Rattle.law_cells.specs.Reads.{OnValue}

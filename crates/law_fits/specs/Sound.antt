@@ -13,20 +13,20 @@ use Rattle.node_core.specs.declared.data.«Data».TheVariants as body
 use Rattle.node_core.specs.declared.derive.DeriveInput.{DeriveInput}
 use Rattle.syn_grammar.specs.Depth.{type_depth}
 use Rattle.syn_grammar.specs.Grammar.{max_depth}
-use Rattle.codegen_program.specs.Callable.{Callable}
+use Rattle.law_cells.specs.Callable.{Callable}
 use Rattle.codegen_program.specs.declared.arm.PostfixTransform.{PostfixTransform}
 use Rattle.codegen_program.specs.declared.program.Program.{Program}
 use Rattle.machine_rows.specs.Rows.{row_of}
 use Rattle.machine_rows.specs.declared.row.Row.TheVariants as row
-use Rattle.law_cells.specs.Decls.{decl_names, member_name}
-use Rattle.law_cells.specs.Erased.{erased_path}
-use Rattle.machine_std.specs.HostSays.{HostSays}
-use Rattle.machine_std.specs.Made.{named_type}
+use Rattle.meaning_core.specs.Decls.{decl_names, member_name}
+use Rattle.law_spans.specs.Erased.{erased_path}
+use Rattle.meaning_core.specs.HostSays.{HostSays}
+use Rattle.meaning_core.specs.Made.{named_type}
 use Rattle.law_cells.specs.Use.{Use}
 use Rattle.law_cells.specs.Use.TheVariants as use_at
-use Rattle.meaning_core.specs.Machine.{setting_of}
-use Rattle.meaning_core.specs.Reading.{transform_use}
-use Rattle.meaning_core.specs.Setting.{called}
+use Rattle.machine_fit.specs.Machine.{setting_of}
+use Rattle.machine_fit.specs.Reading.{transform_use}
+use Rattle.machine_fit.specs.Setting.{called}
 use Rattle.machine_fit.specs.Callables.{converted, offers}
 use Rattle.machine_fit.specs.Fits.{field_fits, has_default, type_fits}
 use Rattle.meaning_core.specs.Decl.{Decl, Default, ByType, ByCall, FieldDecl, Fallback, OfType, OfCall, OfContainer, fallback, is_many, is_named}

@@ -13,7 +13,7 @@ use Rattle.syn_grammar.specs.Input.{start_of}
 use Rattle.syn_grammar.specs.Readers.{any_level}
 use Rattle.syn_grammar.specs.Trees.{expr_of, expr_array_of, of_kind}
 use Rattle.meta_nested.specs.declared.nested.NestedMeta.TheVariants as nested
-use Rattle.meta_cells.specs.Groups.{without_groups}
+use Rattle.meta_nested.specs.Groups.{without_groups}
 use Rattle.law_listed.specs.Listed.{IsListed, IsListedLit, HasListed}
 use Rattle.law_listed.proofs.Exprs.{OnTokens, within-lits}
 use Rattle.law_listed.proofs.Finds.{all-finds}

@@ -8,8 +8,8 @@ use Rattle.node_expr.specs.declared.expr.Expr.TheOpen.{Expr-F}
 use Rattle.node_expr.specs.declared.expr.Expr.TheVariants as expr
 use Rattle.node_expr.specs.declared.expr.ExprArray.{ExprArray}
 use Rattle.node_expr.specs.declared.lit.Lit.{Lit}
-use Rattle.meta_cells.specs.Groups.{groups_around, in_group, in_groups, without_groups}
-use Rattle.meta_cells.proofs.GroupLemmas.{without_groups-Group}
+use Rattle.meta_nested.specs.Groups.{groups_around, in_group, in_groups, without_groups}
+use Rattle.meta_nested.proofs.GroupLemmas.{without_groups-Group}
 
 -- the literal that the expression is, without the invisible groups around it, has the property
 abbrev pub OnLit : (Lit → Type 0) → Expr → Type 0

@@ -8,7 +8,7 @@ use Rattle.node_expr.specs.declared.lit.Lit.{Lit}
 use Rattle.meta_nested.specs.declared.nested.NestedMeta.{NestedMeta}
 use Rattle.meta_nested.specs.declared.nested.NestedMeta.TheVariants as nested
 use Rattle.meta_nested.specs.Nested.{nested_of}
-use Rattle.meta_cells.specs.Groups.{without_groups}
+use Rattle.meta_nested.specs.Groups.{without_groups}
 
 -- The item is among those of some list of tokens.
 pub record IsListed (item : NestedMeta) : Type 0 where

@@ -3,7 +3,7 @@
 #![tactic(auto)]
 
 ghost use Rattle.law_listed.specs.Listed.{HasListed, IsListed, IsListedLit};
-ghost use Rattle.meta_cells.specs.Groups.{without_groups};
+ghost use Rattle.meta_nested.specs.Groups.{without_groups};
 ghost use Rattle.meta_nested.specs.declared.nested.NestedMeta.TheVariants as nested;
 ghost use Rattle.node_core.specs.declared.attr.Meta.TheVariants as meta;
 ghost use Rattle.node_core.specs.declared.attr.MetaNameValue.{MetaNameValue};

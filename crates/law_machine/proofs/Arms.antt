@@ -3,7 +3,7 @@ use Rattle.std.proofs.Common.{◌≡◌, ℕ, ◌+◌, zero, suc, Bool, true, fa
 use Rattle.std.specs.List.{AllZip, cons_option, list_any}
 use Rattle.std.specs.Option.{option_copied}
 use Rattle.base_core.specs.declared.text.Text.{Text}
-use Rattle.codegen_program.specs.Callable.{Callable}
+use Rattle.machine_execute.specs.Callable.{Callable}
 use Rattle.codegen_program.specs.declared.arm.Arm.{Arm}
 use Rattle.codegen_program.specs.declared.arm.PostfixTransform.{PostfixTransform}
 use Rattle.codegen_program.specs.declared.arm.Rest.TheVariants as rests

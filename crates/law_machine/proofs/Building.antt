@@ -25,19 +25,19 @@ use Rattle.codegen_core.specs.declared.default_expression.DefaultExpression.TheV
 use Rattle.codegen_core.specs.declared.field.Field.{Field}
 use Rattle.codegen_core.specs.declared.trait_impl.TraitImpl.{TraitImpl}
 use Rattle.meaning_core.specs.Decl.{Decl, FieldDecl, Shape, Single, Many, Flat, Fallback, Default, ByType, ByCall, fallback}
-use Rattle.meaning_core.specs.Setting.{Setting}
-use Rattle.meaning_core.specs.Convert.{Earlier, none}
+use Rattle.machine_execute.specs.Setting.{Setting}
+use Rattle.machine_execute.specs.Convert.{Earlier, none}
 use Rattle.meaning_core.specs.Owners.{each, field_at, own}
 use Rattle.meaning_core.specs.EntryFaults.{read, value_list, values}
-use Rattle.meaning_core.specs.Reading.{transformed}
+use Rattle.machine_execute.specs.Reading.{transformed}
 use Rattle.meaning_core.specs.FieldValue.{absent_value, empty_value, fallback_outcome, field_value, flat_faults, flat_outcome, missing_by, value_of_none}
 use Rattle.meaning_core.specs.Meaning.{default_outcome, in_order, joined, whole_default}
-use Rattle.meaning_core.specs.State.{Slot, One, Several, State, slot_at}
+use Rattle.machine_execute.specs.State.{Slot, One, Several, State, slot_at}
 use Rattle.meaning_core.proofs.Clean.{Clean, IsValue, nil_left, nil_right, not_nil, value_if_none}
-use Rattle.meaning_core.specs.Progress.{Given, Progress, Going, Built, Ended, built_or_stuck, on_outcome, outcome}
-use Rattle.meaning_core.specs.Slots.{absent, fallback_value, in_front, init_value, init_values}
-use Rattle.meaning_core.specs.Statements.{built_struct}
-use Rattle.meaning_core.proofs.Statements as statement
+use Rattle.machine_execute.specs.Progress.{Given, Progress, Going, Built, Ended, built_or_stuck, on_outcome, outcome}
+use Rattle.machine_execute.specs.Slots.{absent, fallback_value, in_front, init_value, init_values}
+use Rattle.machine_execute.specs.Statements.{built_struct}
+use Rattle.machine_execute.proofs.Statements as statement
 use Rattle.law_machine.specs.Compiles.{IsField, IsDecl, meant_default, meant_fallback}
 use Rattle.law_machine.proofs.Passes.{at_here, flat_added, full_by, full_slot, go, missing_added, missing_full, missing_is, one_more}
 

@@ -10,9 +10,9 @@ use Rattle.codegen_core.specs.declared.default_expression.DefaultExpression.{Def
 use Rattle.codegen_core.specs.declared.default_expression.DefaultExpression.TheVariants as defaults
 use Rattle.codegen_core.specs.declared.field.Field.{Field}
 use Rattle.codegen_core.specs.declared.trait_impl.TraitImpl.{TraitImpl}
-use Rattle.meaning_core.specs.Machine.{is_from_derive_input, is_from_list, run_func, unit_type}
-use Rattle.meaning_core.specs.Progress.{Items, Input, outcome}
-use Rattle.meaning_core.specs.Statements.{run}
+use Rattle.machine_execute.specs.Machine.{is_from_derive_input, is_from_list, run_func, unit_type}
+use Rattle.machine_execute.specs.Progress.{Items, Input, outcome}
+use Rattle.machine_execute.specs.Statements.{run}
 use Rattle.meaning_core.specs.Decl.{Decl, Default, OfContainer, fallback_by, is_flat, is_many, skip_fallback}
 use Rattle.law_machine.specs.Claims.{InputsHaveOutcomes, ListsHaveOutcomes}
 use Rattle.law_machine.specs.Compiles.{IsDecl, IsField, meant_fallback}

@@ -16,18 +16,18 @@ use Rattle.codegen_core.specs.Fields.{at_slots, declaration, flatten, check, che
 use Rattle.codegen_core.specs.declared.default_expression.DefaultExpression.{DefaultExpression}
 use Rattle.codegen_core.specs.declared.field.Field.{Field}
 use Rattle.meaning_core.specs.Decl.{Decl, FieldDecl, Shape, Single, Many, Flat, Fallback, fallback, is_flat, is_many, names}
-use Rattle.meaning_core.specs.Setting.{Setting}
-use Rattle.meaning_core.specs.Convert.{Earlier, none}
+use Rattle.machine_execute.specs.Setting.{Setting}
+use Rattle.machine_execute.specs.Convert.{Earlier, none}
 use Rattle.meaning_core.specs.Owners.{unclaimed, each}
 use Rattle.meaning_core.specs.EntryFaults.{read}
 use Rattle.meaning_core.specs.FieldValue.{flat_outcome, flat_faults, missing, missing_by}
 use Rattle.meaning_core.specs.Meaning.{joined}
-use Rattle.meaning_core.specs.State.{Slot, One, State, put, slot_at}
+use Rattle.machine_execute.specs.State.{Slot, One, State, put, slot_at}
 use Rattle.meaning_core.specs.Walk.{slot_by, field_slot}
-use Rattle.meaning_core.specs.Progress.{Given, Progress, Going}
-use Rattle.meaning_core.specs.Slots.{absent, check_missing, read_flat, read_slot}
-use Rattle.meaning_core.specs.Statements.{run_from}
-use Rattle.meaning_core.proofs.Statements as statement
+use Rattle.machine_execute.specs.Progress.{Given, Progress, Going}
+use Rattle.machine_execute.specs.Slots.{absent, check_missing, read_flat, read_slot}
+use Rattle.machine_execute.specs.Statements.{run_from}
+use Rattle.machine_execute.proofs.Statements as statement
 use Rattle.law_machine.specs.Compiles.{IsField, meant_fallback}
 
 -- the slot behind those that are done

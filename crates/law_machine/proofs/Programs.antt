@@ -6,12 +6,12 @@ use Rattle.error_fault.specs.Outcome.{Outcome}
 use Rattle.machine_value.specs.declared.value.Value.{Value as Datum}
 use Rattle.codegen_program.specs.declared.program.«Unit».{«Unit» as Unit'}
 use Rattle.codegen_core.specs.Compiled.{compiled_derive_input, input_stmts, list_stmts}
-use Rattle.meaning_core.specs.Below.{below}
-use Rattle.meaning_core.specs.Convert.{Earlier}
-use Rattle.meaning_core.specs.Setting.{Setting}
-use Rattle.meaning_core.specs.Machine.{earlier_units, is_from_derive_input, is_from_list, meta_unit, or_unread, read_list, run_func, setting_of, unit_type}
-use Rattle.meaning_core.specs.Progress.{Items, Input, outcome}
-use Rattle.meaning_core.specs.Statements.{run}
+use Rattle.machine_execute.specs.Below.{below}
+use Rattle.machine_execute.specs.Convert.{Earlier}
+use Rattle.machine_execute.specs.Setting.{Setting}
+use Rattle.machine_execute.specs.Machine.{earlier_units, is_from_derive_input, is_from_list, meta_unit, or_unread, read_list, run_func, setting_of, unit_type}
+use Rattle.machine_execute.specs.Progress.{Items, Input, outcome}
+use Rattle.machine_execute.specs.Statements.{run}
 use Rattle.meaning_core.specs.Decl.{Decl}
 use Rattle.meaning_core.specs.Declarations.{earlier_decls, list_meaning, meta_decl}
 use Rattle.law_machine.specs.Claims.{ProgramIsMeaning}

@@ -1,12 +1,13 @@
 -- A unit that options leave can be run.
 use Rattle.std.proofs.Common.{◌≡◌, ◌∙◌, true, Some, None, refl, ap, subst, inl, inr}
 use Rattle.std.specs.Prelude.{option_and_then, if◌then◌else◌}
-use Rattle.meta_cells.specs.Dispatch.{by_nested_meta}
+use Rattle.meta_nested.specs.Dispatch.{by_nested_meta}
 use Rattle.meta_nested.specs.declared.nested.NestedMeta.{NestedMeta}
 use Rattle.codegen_program.specs.declared.program.Derive.{Derive}
 use Rattle.codegen_program.specs.declared.program.Derive.TheVariants as derives
 use Rattle.machine_execute.specs.Elements.{OnNested, OnInput, unit_cells, unit_on}
-use Rattle.meaning_core.specs.Machine.{earlier_units, is_from_meta, setting_of}
+use Rattle.machine_execute.specs.Machine.{earlier_units, setting_of}
+use Rattle.codegen_program.specs.Traits.{is_from_meta}
 use Rattle.law_machine.specs.Claims.{UnitsCanBeRun}
 use Rattle.law_machine.specs.Kinds.{IsOfKind}
 use Rattle.law_machine.proofs.Left.{inputs_have_outcomes}

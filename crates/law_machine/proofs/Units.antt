@@ -7,7 +7,7 @@ use Rattle.node_core.specs.declared.attr.Attribute.{Attribute}
 use Rattle.node_core.specs.declared.attr.Meta.{Meta}
 use Rattle.node_core.specs.declared.attr.Meta.TheVariants as meta
 use Rattle.meta_nested.specs.declared.nested.NestedMeta.{NestedMeta}
-use Rattle.meta_cells.specs.Dispatch.{items_of}
+use Rattle.meta_nested.specs.Dispatch.{items_of}
 use Rattle.error_fault.specs.declared.fault.Fault.{Fault}
 use Rattle.error_fault.specs.Outcome.{Outcome, Value, Faults, bind, settle}
 use Rattle.machine_value.specs.declared.value.Value.{Value as Datum}
@@ -19,23 +19,23 @@ use Rattle.codegen_core.specs.Compiled.{closing, default_of, fields_of, for_item
 use Rattle.codegen_core.specs.Fields.{at_slots, checks, declarations, flatten, flattens}
 use Rattle.codegen_core.specs.declared.trait_impl.TraitImpl.{TraitImpl}
 use Rattle.meaning_core.specs.Decl.{Decl, FieldDecl, has_flat, is_flat}
-use Rattle.meaning_core.specs.Names.{meta_name}
-use Rattle.meaning_core.specs.Setting.{Setting}
-use Rattle.meaning_core.specs.Convert.{Earlier}
+use Rattle.machine_execute.specs.Names.{meta_name}
+use Rattle.machine_execute.specs.Setting.{Setting}
+use Rattle.machine_execute.specs.Convert.{Earlier}
 use Rattle.meaning_core.specs.Entries.{Entry, FaultEntry, ItemEntry, entries_of, events, items, list_entries}
-use Rattle.meaning_core.specs.Attributes.{has_name}
+use Rattle.machine_execute.specs.Attributes.{has_name}
 use Rattle.meaning_core.specs.Owners.{each, own, unclaimed}
 use Rattle.meaning_core.specs.EntryFaults.{all_entry_faults}
-use Rattle.meaning_core.specs.Reading.{transformed}
+use Rattle.machine_execute.specs.Reading.{transformed}
 use Rattle.meaning_core.specs.Meaning.{joined, struct_meaning, whole_default}
-use Rattle.meaning_core.specs.State.{Slot, State, step, with_faults}
+use Rattle.machine_execute.specs.State.{Slot, State, step, with_faults}
 use Rattle.meaning_core.specs.EntrySteps.{arms, entry_step, rest}
 use Rattle.meaning_core.specs.Walk.{field_slot, kept_by, state_behind}
 use Rattle.meaning_core.proofs.Clean.{clean_all, nil_left, nil_right}
 use Rattle.meaning_core.proofs.Filters.{walk}
-use Rattle.meaning_core.specs.Progress.{Given, Items, Input, Progress, Going, Ended, attributes_given, items_given, outcome, unless_faults}
-use Rattle.meaning_core.specs.Statements.{all_do, does, on_attribute, on_items, on_meta, run_from}
-use Rattle.meaning_core.proofs.Statements as statement
+use Rattle.machine_execute.specs.Progress.{Given, Items, Input, Progress, Going, Ended, attributes_given, items_given, outcome, unless_faults}
+use Rattle.machine_execute.specs.Statements.{all_do, does, on_attribute, on_items, on_meta, run_from}
+use Rattle.machine_execute.proofs.Statements as statement
 use Rattle.law_machine.specs.Claims.{InputIsMeaning, ListIsMeaning}
 use Rattle.law_machine.specs.Compiles.{IsDecl}
 use Rattle.law_machine.proofs.Arms.{for_items_is, names_are}

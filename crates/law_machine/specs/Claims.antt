@@ -9,14 +9,14 @@ use Rattle.codegen_core.specs.Compiled.{list_stmts, input_stmts}
 use Rattle.codegen_core.specs.declared.from_derive_impl.FromDeriveInputImpl.{FromDeriveInputImpl}
 use Rattle.codegen_core.specs.declared.trait_impl.TraitImpl.{TraitImpl}
 use Rattle.meaning_core.specs.Decl.{Decl}
-use Rattle.meaning_core.specs.Setting.{Setting}
-use Rattle.meaning_core.specs.Convert.{Earlier}
+use Rattle.machine_execute.specs.Setting.{Setting}
+use Rattle.machine_execute.specs.Convert.{Earlier}
 use Rattle.meaning_core.specs.Entries.{ItemEntry, events}
 use Rattle.meaning_core.specs.Declarations.{declared_meaning}
 use Rattle.meaning_core.specs.Meaning.{struct_meaning}
-use Rattle.meaning_core.specs.Progress.{Items, Input, outcome}
-use Rattle.meaning_core.specs.Statements.{run}
-use Rattle.meaning_core.specs.Machine.{is_from_derive_input, is_from_list, machine, run_func, setting_of}
+use Rattle.machine_execute.specs.Progress.{Items, Input, outcome}
+use Rattle.machine_execute.specs.Statements.{run}
+use Rattle.machine_execute.specs.Machine.{is_from_derive_input, is_from_list, machine, run_func, setting_of}
 use Rattle.error_fault.specs.Outcome.{Outcome}
 use Rattle.machine_value.specs.declared.value.Value.{Value as Datum}
 use Rattle.machine_execute.specs.Elements.{HasOutcome, On}

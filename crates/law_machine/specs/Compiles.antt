@@ -16,7 +16,7 @@ use Rattle.codegen_core.specs.declared.field.Field.{Field}
 use Rattle.codegen_core.specs.declared.from_derive_impl.FromDeriveInputImpl.{FromDeriveInputImpl}
 use Rattle.codegen_core.specs.declared.from_meta_impl.FromMetaImpl.{FromMetaImpl}
 use Rattle.codegen_core.specs.declared.trait_impl.TraitImpl.{TraitImpl}
-use Rattle.meaning_core.specs.Machine.{meta_unit, unit_type}
+use Rattle.machine_execute.specs.Machine.{meta_unit, unit_type}
 use Rattle.meaning_core.specs.Declarations.{meta_decl}
 use Rattle.meaning_core.specs.Decl.{Decl, FieldDecl, Fallback, OfType, OfCall, OfContainer, Default, ByType, ByCall, fallback, is_flat, is_many}
 

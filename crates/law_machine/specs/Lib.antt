@@ -2,10 +2,5 @@ pub mod Compiles
 pub mod Claims
 pub mod Left
 pub mod Kinds
-pub use Rattle.meaning_core.specs.HostSays
-pub use Rattle.meaning_core.specs.Made
-pub use Rattle.meaning_core.specs.Machine
-pub use Rattle.meaning_core.specs.Setting
 pub use Rattle.meaning_core.specs.Decl
 pub use Rattle.meaning_core.specs.Declarations
-pub use Rattle.machine_execute.specs.Elements

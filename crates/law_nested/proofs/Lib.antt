@@ -1,3 +1,7 @@
+mod Equal
+pub mod PlacesItems
+pub mod PlacesWholes
+pub mod OneText
 pub mod SpansValues
 pub mod SpansItems
 pub mod Stops

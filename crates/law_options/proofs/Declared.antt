@@ -18,21 +18,21 @@ use Rattle.codegen_core.specs.declared.field.Field.{Field}
 use Rattle.codegen_core.specs.declared.trait_impl.TraitImpl.{TraitImpl}
 use Rattle.codegen_core.specs.declared.variant.Variant.{Variant}
 use Rattle.law_machine.specs.Decl.{Decl, FieldDecl, Default, OfCall, OfContainer, fallback_by, skip_fallback}
-use Rattle.run_compile.specs.AstData.{«Data»}
-use Rattle.run_compile.specs.AstData.TheVariants as container
-use Rattle.run_compile.specs.DefaultExpression.{DefaultExpression}
-use Rattle.run_compile.specs.DefaultExpression.TheVariants as defaults
-use Rattle.run_compile.specs.Entries.{items, option_entries}
-use Rattle.run_compile.specs.Members.{fields_of}
-use Rattle.run_compile.specs.Rows.{values}
-use Rattle.run_compile.specs.Values.{Rules}
-use Rattle.run_compile.specs.Core.{Core}
-use Rattle.run_compile.specs.InputField.{InputField}
-use Rattle.run_compile.specs.Body.{Body, start_body, with_fields}
-use Rattle.run_compile.specs.ContainerOptions.{core_items, default, fdi_named, from_ident_of, meta_core_items, meta_named, outer_items, same_core}
-use Rattle.run_compile.specs.Stages.{container_options, fdi_reader, good_fields, meta_reader}
-use Rattle.run_compile.specs.Views as views
-use Rattle.run_compile.specs.Views.{AreDefaults, IsImpl, IsStruct}
+use Rattle.body_core.specs.declared.ast.data.«Data».{«Data»}
+use Rattle.body_core.specs.declared.ast.data.«Data».TheVariants as container
+use Rattle.run_accepted.specs.DefaultExpression.{DefaultExpression}
+use Rattle.run_accepted.specs.DefaultExpression.TheVariants as defaults
+use Rattle.run_accepted.specs.Entries.{items, option_entries}
+use Rattle.run_accepted.specs.Members.{fields_of}
+use Rattle.run_accepted.specs.Rows.{values}
+use Rattle.run_accepted.specs.Values.{Rules}
+use Rattle.run_accepted.specs.Core.{Core}
+use Rattle.run_accepted.specs.InputField.{InputField}
+use Rattle.run_accepted.specs.Body.{Body, start_body, with_fields}
+use Rattle.run_accepted.specs.ContainerOptions.{core_items, default, fdi_named, from_ident_of, meta_core_items, meta_named, outer_items, same_core}
+use Rattle.run_accepted.specs.Stages.{container_options, fdi_reader, good_fields, meta_reader}
+use Rattle.run_accepted.specs.Views as views
+use Rattle.run_accepted.specs.Views.{AreDefaults, IsImpl, IsStruct}
 use Rattle.law_machine.specs.Compiles.{IsDecl, IsField, meant_default, meant_fallback}
 use Rattle.law_machine.proofs.Left.{flat_is, many_is}
 use Rattle.law_options.specs.Claims.{InputOptionsAreMeant, ItemOptionsAreMeant}
@@ -82,7 +82,7 @@ module _ (decl : Decl) where
   field_is : (left : Field) (it : InputField) → views.IsField left it → IsLeft decl.default it → IsField decl left (meant_field it)
   field_is left it is left_so =
       let many = unwrap_or it.multiple false in
-      let flat = is_some it.flatten.place in
+      let flat = is_some it.flatten.0 in
       record {
         member = ap ident_text is.ident;
         name = is.name;

@@ -6,18 +6,18 @@ use Rattle.node_core.specs.declared.data.Field.{Field}
 use Rattle.error_fault.specs.declared.fault.Fault.{Fault}
 use Rattle.error_fault.specs.Outcome.{Value, on_value, settle, value_of}
 use Rattle.law_machine.specs.Decl.{Default}
-use Rattle.run_compile.specs.DefaultExpression.{DefaultExpression}
-use Rattle.run_compile.specs.DefaultExpression.TheVariants as defaults
-use Rattle.run_compile.specs.SpannedValue.{SpannedValue}
-use Rattle.run_compile.specs.Entries.{items, option_entries}
-use Rattle.run_compile.specs.Rows.{holds, list_of}
-use Rattle.run_compile.specs.Values.{Rules}
-use Rattle.run_compile.specs.Walk.{all_faults}
-use Rattle.run_compile.specs.Core.{Core}
-use Rattle.run_compile.specs.InputField.{InputField}
-use Rattle.run_compile.specs.Body.{default_by, field_meaning, field_start, inherited}
-use Rattle.run_compile.specs.FieldOptions.{default, field_named, of_field, of_field_faults, same_field}
-use Rattle.run_compile.specs.Stages.{good_fields}
+use Rattle.run_accepted.specs.DefaultExpression.{DefaultExpression}
+use Rattle.run_accepted.specs.DefaultExpression.TheVariants as defaults
+use Rattle.run_accepted.specs.SpannedValue.{SpannedValue}
+use Rattle.run_accepted.specs.Entries.{items, option_entries}
+use Rattle.run_accepted.specs.Rows.{holds, list_of}
+use Rattle.run_accepted.specs.Values.{Rules}
+use Rattle.run_accepted.specs.Walk.{all_faults}
+use Rattle.run_accepted.specs.Core.{Core}
+use Rattle.run_accepted.specs.InputField.{InputField}
+use Rattle.run_accepted.specs.Body.{default_by, field_meaning, field_start, inherited}
+use Rattle.run_accepted.specs.FieldOptions.{default, field_named, of_field, of_field_faults, same_field}
+use Rattle.run_accepted.specs.Stages.{good_fields}
 use Rattle.law_options.specs.Meant.{own_default}
 use Rattle.law_options.proofs.Owns.{IsOwnIfAny, all-append, first_default}
 use Rattle.law_options.proofs.Shapes.{HasOneShape, has_one_shape}

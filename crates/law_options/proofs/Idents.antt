@@ -8,17 +8,17 @@ use Rattle.node_core.specs.Meta.{path_of_meta}
 use Rattle.node_core.specs.declared.attr.Meta.{Meta}
 use Rattle.node_core.specs.declared.derive.DeriveInput.{DeriveInput}
 use Rattle.error_fault.specs.Outcome.{Outcome, Value, value_of}
-use Rattle.run_compile.specs.Entries.{items, option_entries}
-use Rattle.run_compile.specs.Rows.{last_of, list_of, Named, values}
-use Rattle.run_compile.specs.Values.{Rules, word_of}
-use Rattle.run_compile.specs.ContainerOptions.{core_name_of, fdi_named, outer_item, outer_items, outer_name_of, same_outer}
-use Rattle.run_compile.specs.CoreName.{CoreName}
-use Rattle.run_compile.specs.FdiName.TheVariants as fdi
-use Rattle.run_compile.specs.OuterName.{OuterName}
-use Rattle.run_compile.specs.OuterName.TheVariants as outer
-use Rattle.run_compile.specs.Stages.{fdi_reader, options_of}
-use Rattle.run_compile.specs.Unbuilt.{IsBuilt, is_unbuilt_word}
-use Rattle.run_compile.proofs.BuiltLemmas.{no_words}
+use Rattle.run_accepted.specs.Entries.{items, option_entries}
+use Rattle.run_accepted.specs.Rows.{last_of, list_of, Named, values}
+use Rattle.run_accepted.specs.Values.{Rules, word_of}
+use Rattle.run_accepted.specs.ContainerOptions.{core_name_of, fdi_named, outer_item, outer_items, outer_name_of, same_outer}
+use Rattle.run_accepted.specs.CoreName.{CoreName}
+use Rattle.run_accepted.specs.FdiName.TheVariants as fdi
+use Rattle.run_accepted.specs.OuterName.{OuterName}
+use Rattle.run_accepted.specs.OuterName.TheVariants as outer
+use Rattle.run_accepted.specs.Stages.{fdi_reader, options_of}
+use Rattle.run_accepted.specs.Unbuilt.{IsBuilt, is_unbuilt_word}
+use Rattle.run_accepted.proofs.BuiltLemmas.{no_words}
 
 -- the option of the word is none that no run reads
 abbrev IsRead : Meta → Type 0

@@ -5,4 +5,3 @@ pub mod Declared
 pub mod Idents
 pub mod Programs
 pub mod OneProgram
-pub use Rattle.run_compile.proofs.BuiltLemmas

@@ -21,16 +21,16 @@ use Rattle.codegen_core.specs.declared.field.Field.{Field}
 use Rattle.codegen_core.specs.declared.from_derive_impl.FromDeriveInputImpl.{FromDeriveInputImpl}
 use Rattle.codegen_core.specs.declared.trait_impl.TraitImpl.{TraitImpl}
 use Rattle.codegen_core.specs.declared.variant.Variant.{Variant}
-use Rattle.run_compile.specs.DefaultExpression.{DefaultExpression}
-use Rattle.run_compile.specs.DefaultExpression.TheVariants as defaults
-use Rattle.run_compile.specs.Core.{Core}
-use Rattle.run_compile.specs.FdiOptions.{FdiOptions}
-use Rattle.run_compile.specs.InputField.{InputField}
-use Rattle.run_compile.specs.Body.{Body}
-use Rattle.run_compile.specs.Views.{AreDefaults, IsField, IsImpl, IsInputImpl, IsStruct}
-use Rattle.run_compile.specs.Values.{Rules}
-use Rattle.run_compile.specs.Compiled.{IsUnit, IsUnitUnder}
-use Rattle.run_compile.specs.Pairs.{Pair, pairs_from}
+use Rattle.run_accepted.specs.DefaultExpression.{DefaultExpression}
+use Rattle.run_accepted.specs.DefaultExpression.TheVariants as defaults
+use Rattle.run_accepted.specs.Core.{Core}
+use Rattle.run_accepted.specs.FdiOptions.{FdiOptions}
+use Rattle.run_accepted.specs.InputField.{InputField}
+use Rattle.run_accepted.specs.Body.{Body}
+use Rattle.run_accepted.specs.Views.{AreDefaults, IsField, IsImpl, IsInputImpl, IsStruct}
+use Rattle.run_accepted.specs.Values.{Rules}
+use Rattle.run_accepted.specs.Compiled.{IsUnit, IsUnitUnder}
+use Rattle.run_accepted.specs.Pairs.{Pair, pairs_from}
 use Rattle.law_options.specs.Claims.{ProgramIsOne}
 
 -- ---- a field

@@ -6,11 +6,11 @@ use Rattle.node_core.specs.declared.attr.Meta.TheVariants as meta
 use Rattle.node_span.specs.Spanned.{meta_span}
 use Rattle.tok_types.specs.declared.span.Span.{Span}
 use Rattle.error_fault.specs.Outcome.{Outcome, Value, Faults, on_value, value_of, with_span}
-use Rattle.run_compile.specs.DefaultExpression.{DefaultExpression}
-use Rattle.run_compile.specs.DefaultExpression.TheVariants as defaults
-use Rattle.run_compile.specs.Rows.{first_of, last_of, list_of, Named, values}
-use Rattle.run_compile.specs.Values.{default_of}
-use Rattle.run_compile.specs.ContainerOptions.{trait_at}
+use Rattle.run_accepted.specs.DefaultExpression.{DefaultExpression}
+use Rattle.run_accepted.specs.DefaultExpression.TheVariants as defaults
+use Rattle.run_accepted.specs.Rows.{first_of, last_of, list_of, Named, values}
+use Rattle.run_accepted.specs.Values.{default_of}
+use Rattle.run_accepted.specs.ContainerOptions.{trait_at}
 
 -- it is not inherited
 abbrev pub IsOwn : DefaultExpression → Type 0

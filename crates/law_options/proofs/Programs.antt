@@ -7,15 +7,15 @@ use Rattle.codegen_program.specs.declared.program.Derive.{Derive}
 use Rattle.codegen_program.specs.declared.program.Derive.TheVariants as derive
 use Rattle.codegen_program.specs.declared.program.«Unit».{«Unit» as Unit'}
 use Rattle.codegen_core.specs.Compiled.{compiled_derive_input, compiled_meta}
-use Rattle.law_machine.specs.Made.{named_type}
-use Rattle.law_machine.specs.Machine.{meta_unit, unit_type}
+use Rattle.run_accepted.specs.Made.{named_type}
+use Rattle.run_accepted.specs.Machine.{meta_unit, unit_type}
 use Rattle.law_machine.specs.Decl.{Decl}
-use Rattle.law_machine.specs.Setting.{Setting}
+use Rattle.run_accepted.specs.Setting.{Setting}
 use Rattle.law_machine.specs.Declarations.{declared_meaning, meta_decl}
-use Rattle.run_compile.specs.Values.{Rules}
-use Rattle.run_compile.specs.Stages.{meta_reader, options_of}
-use Rattle.run_compile.specs.Compiled.{IsUnit, IsUnitUnder}
-use Rattle.run_compile.specs.Pairs.{Pair, pairs_from}
+use Rattle.run_accepted.specs.Values.{Rules}
+use Rattle.run_accepted.specs.Stages.{meta_reader, options_of}
+use Rattle.run_accepted.specs.Compiled.{IsUnit, IsUnitUnder}
+use Rattle.run_accepted.specs.Pairs.{Pair, pairs_from}
 use Rattle.law_machine.specs.Compiles.{IsMetaUnit}
 use Rattle.law_machine.proofs.Programs.{program_is_meaning}
 use Rattle.law_options.specs.Meant.{meant_items}

@@ -4,19 +4,19 @@ use Rattle.std.specs.Prelude.{is_some, unwrap_or}
 use Rattle.node_core.specs.declared.attr.Meta.{Meta}
 use Rattle.node_core.specs.Meta.{path_of_meta}
 use Rattle.error_fault.specs.declared.fault.Fault.{Fault}
-use Rattle.run_compile.specs.Entries.{Entry, Refused, Given, items}
-use Rattle.run_compile.specs.Rows.{else_faults, holds, one}
-use Rattle.run_compile.specs.Values.{word_of}
-use Rattle.run_compile.specs.Walk.{all_faults}
-use Rattle.run_compile.specs.InputField.{InputField}
-use Rattle.run_compile.specs.FieldName.{FieldName}
-use Rattle.run_compile.specs.FieldName.TheVariants as option
-use Rattle.run_compile.specs.FieldLaws.{of_field-more}
-use Rattle.run_compile.specs.FieldOptions.{clash_of, clashes, field_faults, field_name_of, field_options, of_field, of_field_faults, read_faults}
+use Rattle.run_accepted.specs.Entries.{Entry, Refused, Given, items}
+use Rattle.run_accepted.specs.Rows.{else_faults, holds, one}
+use Rattle.run_accepted.specs.Values.{word_of}
+use Rattle.run_accepted.specs.Walk.{all_faults}
+use Rattle.run_accepted.specs.InputField.{InputField}
+use Rattle.run_accepted.specs.FieldName.{FieldName}
+use Rattle.run_accepted.specs.FieldName.TheVariants as option
+use Rattle.run_accepted.specs.FieldLaws.{of_field-more}
+use Rattle.run_accepted.specs.FieldOptions.{clash_of, clashes, field_faults, field_name_of, field_options, of_field, of_field_faults, read_faults}
 
 -- it is not both
 abbrev pub HasOneShape : InputField → Type 0
-HasOneShape it = (unwrap_or it.multiple false && is_some it.flatten.place) ≡ false
+HasOneShape it = (unwrap_or it.multiple false && is_some it.flatten.0) ≡ false
 
 none-left : {A : Type 0} (xs ys : List A) → xs ++ ys ≡ [] → xs ≡ []
 none-left [] ys is = refl
@@ -41,10 +41,10 @@ not_both true (Some true) fault is = cc
 step : (name : FieldName) (set : InputField) (item : Meta) → field_faults name set item ≡ [] → HasOneShape set → HasOneShape (field_options set (one name item))
 step option.Multiple set item none is =
     let new = field_options set (one option.Multiple item) in
-    not_both (is_some new.flatten.place) new.multiple _ (none-later (read_faults option.Multiple set item) (clashes new option.Multiple item) none)
+    not_both (is_some new.flatten.0) new.multiple _ (none-later (read_faults option.Multiple set item) (clashes new option.Multiple item) none)
 step option.Flatten set item none is =
     let new = field_options set (one option.Flatten item) in
-    not_both (is_some new.flatten.place) new.multiple _
+    not_both (is_some new.flatten.0) new.multiple _
     (none-left (clash_of new item option.Multiple) _ (none-later (read_faults option.Flatten set item) (clashes new option.Flatten item) none))
 step option.Rename set item none is = is
 step option.With set item none is = is

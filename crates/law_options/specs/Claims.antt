@@ -7,15 +7,15 @@ use Rattle.codegen_program.specs.declared.program.Derive.{Derive}
 use Rattle.codegen_program.specs.declared.program.Derive.TheVariants as derive
 use Rattle.codegen_program.specs.declared.program.Program.{Program}
 use Rattle.codegen_program.specs.declared.program.«Unit».{«Unit» as Unit'}
-use Rattle.run_compile.specs.Values.{Rules}
-use Rattle.run_compile.specs.Stages.{fdi_reader, meta_reader, options_of}
-use Rattle.run_compile.specs.Views.{IsInputImpl, IsMetaImpl}
+use Rattle.run_accepted.specs.Values.{Rules}
+use Rattle.run_accepted.specs.Stages.{fdi_reader, meta_reader, options_of}
+use Rattle.run_accepted.specs.Views.{IsInputImpl, IsMetaImpl}
 use Rattle.law_machine.specs.Compiles.{IsDecl, IsInputDecl}
-use Rattle.law_machine.specs.HostSays.{HostSays}
-use Rattle.law_machine.specs.Machine.{machine}
-use Rattle.run_compile.specs.Compiled.{IsProgram, IsUnit}
-use Rattle.run_compile.specs.Pairs.{pair}
-use Rattle.run_compile.specs.Unbuilt.{IsBuilt}
+use Rattle.run_accepted.specs.HostSays.{HostSays}
+use Rattle.run_accepted.specs.Machine.{machine}
+use Rattle.run_accepted.specs.Compiled.{IsProgram, IsUnit}
+use Rattle.run_accepted.specs.Pairs.{pair}
+use Rattle.run_accepted.specs.Unbuilt.{IsBuilt}
 use Rattle.law_options.specs.Meant.{meant_input, meant_items}
 use Rattle.law_options.specs.Texts.{text_meaning}
 

@@ -4,17 +4,17 @@ use Rattle.base_core.specs.declared.text.Text.{Text}
 use Rattle.tok_types.specs.Ident.{ident_text}
 use Rattle.node_make.specs.PathText.{path_text}
 use Rattle.codegen_program.specs.declared.program.Derive.{Derive}
-use Rattle.law_machine.specs.Made.{named_type}
+use Rattle.run_accepted.specs.Made.{named_type}
 use Rattle.law_machine.specs.Decl.{Decl, FieldDecl, Default, ByType, ByCall}
-use Rattle.run_compile.specs.AstData.TheVariants as container
-use Rattle.run_compile.specs.DefaultExpression.{DefaultExpression}
-use Rattle.run_compile.specs.DefaultExpression.TheVariants as defaults
-use Rattle.run_compile.specs.Rows.{holds}
-use Rattle.run_compile.specs.Body.{Body}
-use Rattle.run_compile.specs.Core.{Core}
-use Rattle.run_compile.specs.FdiOptions.{FdiOptions}
-use Rattle.run_compile.specs.FromMetaOptions.{FromMetaOptions}
-use Rattle.run_compile.specs.InputField.{InputField}
+use Rattle.body_core.specs.declared.ast.data.«Data».TheVariants as container
+use Rattle.run_accepted.specs.DefaultExpression.{DefaultExpression}
+use Rattle.run_accepted.specs.DefaultExpression.TheVariants as defaults
+use Rattle.run_accepted.specs.Rows.{holds}
+use Rattle.run_accepted.specs.Body.{Body}
+use Rattle.run_accepted.specs.Core.{Core}
+use Rattle.run_accepted.specs.FdiOptions.{FdiOptions}
+use Rattle.run_accepted.specs.FromMetaOptions.{FromMetaOptions}
+use Rattle.run_accepted.specs.InputField.{InputField}
 use Rattle.law_machine.specs.Left.{shape_of}
 
 -- a default of one's own; what is inherited is the container's
@@ -31,7 +31,7 @@ meant_field it =
       member = ident_text it.ident;
       name = it.name;
       type = it.ty;
-      shape = shape_of (unwrap_or it.multiple false) (is_some it.flatten.place);
+      shape = shape_of (unwrap_or it.multiple false) (is_some it.flatten.0);
       skip = holds (λ value. value.value) it.skip;
       default = own_default it.default;
       with = it.with;

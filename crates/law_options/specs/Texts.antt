@@ -2,17 +2,17 @@
 use Rattle.std.specs.Prelude.{ℕ, List, [], ◌∷◌, flat_map, map}
 use Rattle.node_core.specs.declared.derive.DeriveInput.{DeriveInput}
 use Rattle.error_fault.specs.Outcome.{Outcome}
-use Rattle.law_machine.specs.HostSays.{HostSays}
+use Rattle.run_accepted.specs.HostSays.{HostSays}
 use Rattle.machine_value.specs.declared.value.Value.{Value as Datum}
-use Rattle.law_machine.specs.Setting.{Setting}
+use Rattle.run_accepted.specs.Setting.{Setting}
 use Rattle.codegen_program.specs.declared.program.Derive.{Derive}
 use Rattle.codegen_program.specs.declared.program.Derive.TheVariants as derive
 use Rattle.law_machine.specs.Decl.{Decl}
 use Rattle.law_machine.specs.Declarations.{declared_meaning}
-use Rattle.run_compile.specs.Values.{Rules}
-use Rattle.run_compile.specs.Stages.{fdi_reader, meta_reader, options_of}
-use Rattle.run_compile.specs.Attributes.{without_attributes}
-use Rattle.run_compile.specs.Pairs.{Pair, pairs_from}
+use Rattle.run_accepted.specs.Values.{Rules}
+use Rattle.run_accepted.specs.Stages.{fdi_reader, meta_reader, options_of}
+use Rattle.run_accepted.specs.Attributes.{without_attributes}
+use Rattle.run_accepted.specs.Pairs.{Pair, pairs_from}
 use Rattle.law_options.specs.Meant.{meant_input, meant_items}
 
 -- what the options of a declaration mean under `FromMeta`, by which items are read as it

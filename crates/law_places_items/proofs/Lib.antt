@@ -6,4 +6,3 @@ pub mod Fields
 pub mod Items
 pub mod Rows
 pub mod Wholes
-pub use Rattle.law_places.proofs.Steps

@@ -15,9 +15,8 @@ use Rattle.syn_grammar.specs.Look.{type_start}
 use Rattle.syn_grammar.specs.Make as make
 use Rattle.syn_grammar.specs.Paths.{after_as, without_as, qualified, segment, segments}
 use Rattle.syn_grammar.specs.Readers.{Readers}
-use Rattle.syn_grammar.specs.Token.{is_colons, is_greater, is_less}
+use Rattle.syn_grammar.specs.Token.{is_colons, is_greater, is_less, ident_of}
 use Rattle.syn_grammar.specs.Words.{named_words, next_word, other_keywords, peek, word_of}
-use Rattle.syn_grammar.specs.Token.{ident_of}
 use Rattle.print_core.specs.declared.path.PathStyle.{PathStyle}
 use Rattle.print_core.specs.declared.path.PathStyle.TheVariants.{Plain}
 use Rattle.print_core.specs.Marks.{Trees, after, colons, joined, mark, word as printed_word}

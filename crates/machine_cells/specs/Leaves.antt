@@ -16,7 +16,7 @@ use Rattle.print_core.specs.Types.{never_rule, type_infer_rule}
 use Rattle.print_core.specs.declared.path.PathStyle.TheVariants.{Plain}
 use Rattle.error_fault.specs.Outcome.{Value}
 use Rattle.util_core.specs.Cells.{Cells, no_cells}
-use Rattle.util_core.specs.MetaExprs.{ident_cells, path_cells, expr_cells, type_path_cells}
+use Rattle.util_core.specs.MetaReadsExprs.{ident_cells, path_cells, expr_cells, type_path_cells}
 use Rattle.util_core.specs.Syntax.{where_predicates_cells}
 use Rattle.util_core.specs.Keys.{ident_same, path_same}
 use Rattle.util_core.specs.Lists.{ident_item, integers_cells, literals_cells, path_item}

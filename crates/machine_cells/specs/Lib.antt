@@ -8,19 +8,14 @@ pub mod RowCells
 pub mod Defaults
 pub mod Laws
 pub use Rattle.util_core.specs.Call
-pub use Rattle.util_core.specs.Callable as UtilCallable
 pub use Rattle.util_core.specs.Cells
-pub use Rattle.util_core.specs.Dispatch
 pub use Rattle.util_core.specs.Integers
 pub use Rattle.util_core.specs.Keys
 pub use Rattle.util_core.specs.KnownKeys
 pub use Rattle.util_core.specs.Lists
-pub use Rattle.util_core.specs.Maps as MetaMaps
+pub use Rattle.util_core.specs.Maps as MetaCoreMaps
 pub use Rattle.util_core.specs.NestedMeta
-pub use Rattle.util_core.specs.Nodes
 pub use Rattle.util_core.specs.Rows
 pub use Rattle.util_core.specs.Sets
-pub use Rattle.util_core.specs.Trees
 pub use Rattle.util_core.specs.Wrappers
-pub use Rattle.util_core.specs.declared.callable.Callable
 pub use Rattle.util_core.specs.declared.over_ride.Override

@@ -3,11 +3,9 @@
 
 mod laws;
 
-pub use base_core::Mem;
-pub use error_core::{Fail, Result};
 pub use laws::shown_values_are_read_alike;
 pub use util_core::{
-    Call, Callable, Flag, FromMeta, IdentString, KeyFromPath, KeySet, MapKey, NestedMeta,
-    ParseFail, PathList, PreservedStrExpr, item_front, items_of, parse_items, read_key,
-    read_non_zero_signed, read_non_zero_unsigned, read_signed, read_unsigned,
+    Call, Callable, Flag, FromMeta, IdentString, KeyFromPath, KeySet, MapKey, PathList,
+    PreservedStrExpr, read_key, read_non_zero_signed, read_non_zero_unsigned, read_signed,
+    read_unsigned,
 };

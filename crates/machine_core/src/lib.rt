@@ -5,17 +5,19 @@
 //! functions of the tool, and [`RefusingHost`] none.
 #![tactic(auto)]
 
+pub use base_core::{Boxed, Items, Mem, Text, TryClone};
 pub use codegen_program::{
     Arm, DefaultSource, Derive, Fallback, Forward, Func, FuncName, Init, PostfixTransform, Program,
     Rest, Stmt, Unit,
 };
-pub use machine_execute::{Element, MAX_DEPTH, Outcome, execute, try_execute};
+pub use error_fault::Fault;
+pub use machine_execute::{
+    Arg, Callable, Element, Host, HostItem, MAX_READING, NestedMeta, Outcome, Place, RefusingHost,
+    Said, Use, execute, try_execute, what_fits_a_type,
+};
 pub use machine_fit::{Form, Refusals, Unfit, Unsupported, fit, refusals};
-pub use machine_std::{
-    Arg, Callable, Host, HostItem, NestedMeta, Place, RefusingHost, Said, StdHost, Use,
-    what_fits_a_type,
-};
-pub use machine_value::{
-    Boxed, Fault, Items, Mem, Span, Style, Text, TokenStream, TryClone, Value,
-};
-pub use node_core::{DeriveInput, Type};
+pub use machine_std::StdHost;
+pub use machine_value::Value;
+pub use node_core::{DeriveInput, Style};
+pub use node_expr::Type;
+pub use tok_types::{Span, TokenStream};

@@ -9,3 +9,4 @@ pub mod Reading
 pub mod Rooms
 pub mod Steps
 pub mod Stopped
+pub use Rattle.machine_read.proofs.Statements

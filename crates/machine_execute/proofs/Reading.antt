@@ -18,9 +18,8 @@ use Rattle.machine_read.specs.Setting.{Setting}
 use Rattle.machine_read.specs.Convert.{Earlier, list}
 use Rattle.machine_read.specs.Machine.{run_func, stmts_named, unit_type}
 use Rattle.machine_read.specs.Progress.{Given, outcome}
-use Rattle.machine_read.specs.Slots.{read_flat, read_slot}
+use Rattle.machine_read.specs.Slots.{read_flat, read_slot, slot_type}
 use Rattle.machine_read.specs.State.{Slot, State, put}
-use Rattle.machine_read.specs.Slots.{slot_type}
 use Rattle.machine_read.specs.Statements.{run}
 use Rattle.machine_execute.specs.Seen.{Change, answered}
 use Rattle.machine_execute.proofs.Steps.{ok_same}

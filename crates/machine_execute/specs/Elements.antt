@@ -9,7 +9,8 @@ use Rattle.machine_read.specs.HostSays.{HostSays}
 use Rattle.machine_value.specs.declared.value.Value.{Value as Datum}
 use Rattle.codegen_program.specs.declared.program.Program.{Program}
 use Rattle.codegen_program.specs.declared.program.«Unit».{«Unit» as Unit'}
-use Rattle.machine_read.specs.Machine.{earlier_units, is_from_meta, machine, read_list, setting_of}
+use Rattle.machine_read.specs.Machine.{earlier_units, machine, read_list, setting_of}
+use Rattle.codegen_program.specs.Traits.{is_from_meta}
 use Rattle.machine_execute.specs.declared.element.Element.{Element}
 use Rattle.machine_execute.specs.declared.element.Element.TheVariants as element
 

@@ -6,7 +6,8 @@ ghost use Rattle.machine_read.specs.Names.{meta_name};
 
 use base_core::{Mem, Text};
 use error_fault::Fault;
-use node_core::{Meta, path_to_string, push_full_path};
+use node_core::Meta;
+use node_make::{path_to_string, push_full_path};
 use node_span::Spanned;
 use std::alloc::Global;
 
@@ -23,7 +24,7 @@ fn has_name(names: &[Text], name: &Text) -> bool
     ensures { result ≡ spec.has_name names.now name.now }
 {
     for other in names {
-        if other.as_str() == name.as_str() {
+        if *other == *name {
             return true;
         }
     }

@@ -23,9 +23,9 @@ use codegen_program::{DefaultSource, Fallback, Init, PostfixTransform};
 use error_core::{Error, Result};
 use machine_read::{Arg, Declared, Host, Use};
 use machine_value::Value;
-use node_core::Ident;
 use node_expr::Type;
 use std::result;
+use tok_types::Ident;
 
 impl<'p, H: Host, D: Declared> Run<'p, H, D> {
     /// Makes the default of the receiver, or ends with its faults.

@@ -57,7 +57,7 @@ fn error_among(alloc: Global, faults: Items<Fault>) -> Mem<Error>
 {
     let mut errors = Vec::new(alloc);
     for fault in faults.into_vec() {
-        errors.push(Error::from_fault(alloc, fault))?;
+        errors.push(Error::from_fault(alloc, fault)?)?;
     }
     Error::multiple(alloc, errors)
 }

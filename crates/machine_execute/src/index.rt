@@ -79,7 +79,7 @@ fn first_arm<'a>(arms: &'a [Arm], name: &Text) -> Option<&'a Arm>
     ensures { option_copied result ≡ spec.find_arm arms.now name.now }
 {
     for arm in arms {
-        if arm.name.as_str() == name.as_str() {
+        if arm.name == *name {
             return Some(arm);
         }
     }

@@ -28,8 +28,8 @@ use error_core::Result;
 use error_fault::Fault;
 use machine_read::{Declared, Host, NestedMeta};
 use machine_value::Value;
-use node_core::path_to_string;
 use node_expr::Type;
+use node_make::path_to_string;
 use node_span::Spanned;
 use std::alloc::Global;
 

@@ -22,9 +22,9 @@ mod slot;
 mod state;
 mod units;
 
-pub use codegen_program::{Program, Stmt, Unit};
 pub use element::Element;
-pub use machine::{MAX_DEPTH, execute, try_execute};
-pub use machine_read::Host;
-pub use machine_value::Value;
+pub use machine::{MAX_READING, execute, try_execute};
+pub use machine_read::{
+    Arg, Callable, Host, HostItem, NestedMeta, Place, RefusingHost, Said, Use, what_fits_a_type,
+};
 pub use outcome::Outcome;

@@ -22,12 +22,12 @@ use node_core::DeriveInput;
 use std::alloc::{AllocError, Global};
 
 /// How many levels of types and declarations the reading of an element may go deep.
-pub const MAX_DEPTH: usize = 1024;
+pub const MAX_READING: usize = 1024;
 
 /// What the unit of this number makes of the element: its value, or all its faults in order with their fields and places.
 /// None where the machine has no outcome: there is no such unit, the element is not of its kind, or its statements are stuck.
 ///
-/// An element whose reading goes deeper than [`MAX_DEPTH`] levels of types and declarations is want of memory.
+/// An element whose reading goes deeper than [`MAX_READING`] levels of types and declarations is want of memory.
 pub fn try_execute<H: Host>(
     alloc: Global,
     program: &Program,
@@ -53,7 +53,7 @@ pub fn try_execute<H: Host>(
 /// What the unit of this number makes of the element, where it makes something: its value, or all its faults in order with
 /// their fields and places.
 ///
-/// An element whose reading goes deeper than [`MAX_DEPTH`] levels of types and declarations is want of memory.
+/// An element whose reading goes deeper than [`MAX_READING`] levels of types and declarations is want of memory.
 pub fn execute<H: Host>(
     alloc: Global,
     program: &Program,
@@ -111,7 +111,7 @@ fn read_nested<H: Host>(context: &Context<'_, H>, unit: &Unit, item: &NestedMeta
     let reader = UnitReader {
         context,
         earlier: &earlier,
-        room: MAX_DEPTH,
+        room: MAX_READING,
         unit,
     };
     outcome_of(context.alloc, reader.by_kind(context.alloc, item))
@@ -132,7 +132,7 @@ fn run_input<H: Host>(
     };
     let name = FuncName::FromDeriveInput;
     let given = Given::Input(input);
-    match run_func(context, &earlier, MAX_DEPTH, name, unit, given)? {
+    match run_func(context, &earlier, MAX_READING, name, unit, given)? {
         Some(answer) => Ok(Some(outcome_of(context.alloc, again(answer))?)),
         None => Ok(None),
     }

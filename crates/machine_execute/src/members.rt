@@ -5,9 +5,10 @@ ghost use Rattle.machine_value.specs.Members as spec;
 ghost use Rattle.tok_types.specs.Ident.{ident_text};
 
 use base_core::{Items, Mem, Text, TryClone};
-use machine_value::{Style, Value};
-use node_core::Ident;
+use machine_value::Value;
+use node_core::Style;
 use std::alloc::Global;
+use tok_types::Ident;
 
 /// The member of this name of a struct; the empty text, where there is none.
 pub(crate) fn member(alloc: Global, name: &Ident, whole: &Value) -> Mem<Value>
@@ -27,7 +28,7 @@ fn member_in(alloc: Global, name: &Text, members: &[(Text, Value)]) -> Mem<Value
     ensures { IfOk result (λ it. it ≡ spec.member_in name.now members.now) }
 {
     for member in members {
-        if member.0.as_str() == name.as_str() {
+        if member.0 == *name {
             return member.1.try_clone(alloc);
         }
     }

@@ -16,16 +16,13 @@ use crate::progress::Progress;
 use crate::run::Run;
 use crate::state::State;
 use base_core::Mem;
-use codegen_program::{Derive, Func, FuncName, Program, Stmt, Unit};
+use codegen_program::{Derive, Func, FuncName, MAX_NESTING, Program, Stmt, Unit};
 use error_core::{Error, Fail, Result};
 use machine_read::{Declared, Host, NestedMeta, Scope, Setting, named_type};
 use machine_value::Value;
 use node_expr::Type;
 use std::alloc::Global;
 use std::result;
-
-/// How deep statements may stand in statements.
-const MAX_NESTING: usize = 64;
 
 /// A program and its host.
 pub(crate) struct Context<'p, H> {

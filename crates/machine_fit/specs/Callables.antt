@@ -6,8 +6,8 @@ use Rattle.node_expr.specs.declared.ty.«Type».{«Type» as Type'}
 use Rattle.node_span.specs.Spanned.{expr_span, path_span}
 use Rattle.node_core.specs.declared.data.Field.{Field}
 use Rattle.node_core.specs.declared.derive.DeriveInput.{DeriveInput}
-use Rattle.machine_forms.specs.Erased.{erased_path}
-use Rattle.codegen_program.specs.Callable.{Callable}
+use Rattle.law_spans.specs.Erased.{erased_path}
+use Rattle.machine_forms.specs.Callable.{Callable}
 use Rattle.codegen_program.specs.declared.arm.Arm.{Arm}
 use Rattle.codegen_program.specs.declared.arm.PostfixTransform.{PostfixTransform}
 use Rattle.codegen_program.specs.declared.init.DefaultSource.TheVariants as sources

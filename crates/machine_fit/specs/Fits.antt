@@ -1,7 +1,7 @@
 -- Which types fit their places.
 use Rattle.std.specs.Prelude.{ℕ, Bool, true, false, ◌&&◌, ◌||◌, not, if◌then◌else◌, nat_lt, Option, Some, None, is_some}
 use Rattle.node_expr.specs.declared.ty.«Type».{«Type» as Type'}
-use Rattle.machine_forms.specs.Erased.{erased_type}
+use Rattle.law_spans.specs.Erased.{erased_type}
 use Rattle.codegen_program.specs.declared.program.Program.{Program}
 use Rattle.machine_rows.specs.Rows.{element_of, row_of}
 use Rattle.machine_rows.specs.declared.row.Row.{Row}

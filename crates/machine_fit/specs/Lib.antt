@@ -7,18 +7,13 @@ pub mod Unfitness
 pub use Rattle.machine_forms.specs.Answer
 pub use Rattle.machine_forms.specs.Asks
 pub use Rattle.machine_forms.specs.Attributes
-pub use Rattle.machine_forms.specs.Below
 pub use Rattle.machine_forms.specs.Convert
 pub use Rattle.machine_forms.specs.Forms
-pub use Rattle.machine_forms.specs.ItemNames
 pub use Rattle.machine_forms.specs.Machine
-pub use Rattle.machine_forms.specs.Names
+pub use Rattle.machine_forms.specs.MachineStepsNames as Names
+pub use Rattle.machine_forms.specs.Names as MachineFormsNames
 pub use Rattle.machine_forms.specs.Places
-pub use Rattle.machine_forms.specs.Progress
 pub use Rattle.machine_forms.specs.Reading
 pub use Rattle.machine_forms.specs.Refusals
 pub use Rattle.machine_forms.specs.Setting
-pub use Rattle.machine_forms.specs.Slots as MachineSlots
-pub use Rattle.machine_forms.specs.State
-pub use Rattle.machine_forms.specs.Statements
 pub use Rattle.machine_forms.specs.Units

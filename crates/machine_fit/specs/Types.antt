@@ -9,11 +9,11 @@ use Rattle.node_core.specs.declared.data.Variant.{Variant}
 use Rattle.node_core.specs.declared.data.«Data».{«Data»}
 use Rattle.node_core.specs.declared.data.«Data».TheVariants as body
 use Rattle.node_core.specs.declared.derive.DeriveInput.{DeriveInput}
-use Rattle.machine_forms.specs.Erased.{erased_path}
+use Rattle.law_spans.specs.Erased.{erased_path}
 use Rattle.codegen_program.specs.declared.arm.PostfixTransform.{PostfixTransform}
 use Rattle.codegen_program.specs.declared.program.Program.{Program}
 use Rattle.codegen_program.specs.declared.program.«Unit».{«Unit» as Unit'}
-use Rattle.machine_forms.specs.Decls.{list_of}
+use Rattle.node_core.specs.Bodies.{field_list}
 use Rattle.machine_forms.specs.HostSays.{HostSays}
 use Rattle.machine_forms.specs.Made.{named_type}
 use Rattle.machine_forms.specs.Asks.{Ask, Read, SlotAsks, is_whole_default, slot_asks, unit_asks}
@@ -45,10 +45,10 @@ module _ (host : HostSays) (program : Program) where
   unfit_field here field = refused_unless (type_fits host program here false field.ty) (type_span field.ty)
 
   abbrev pub unfit_variant : ℕ → Variant → List Span
-  unfit_variant here variant = flat_map (unfit_field here) (list_of variant.fields)
+  unfit_variant here variant = flat_map (unfit_field here) (field_list variant.fields)
 
   abbrev pub unfit_members : ℕ → List SlotAsks → «Data» → List Span
-  unfit_members here asks (body.Struct it) = places_from (unfit_slot here asks) 0 (list_of it.fields)
+  unfit_members here asks (body.Struct it) = places_from (unfit_slot here asks) 0 (field_list it.fields)
   unfit_members here asks (body.Enum it) = flat_map (unfit_variant here) it.variants
   unfit_members here asks (body.Union it) = flat_map (unfit_field here) it.fields.named
 

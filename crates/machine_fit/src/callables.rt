@@ -14,13 +14,13 @@ ghost use Rattle.machine_forms.specs.Setting.{called as called_by};
 use crate::checker::Checker;
 use base_core::{Items, Mem, TryClone};
 use codegen_program::{Arm, DefaultSource, Init, PostfixTransform, Unit};
-use machine_forms::{
-    Ask, Callable, Host, Place, Use, asks_of, fallback_call, fields_of, named_type,
-};
+use machine_forms::{Ask, Callable, Host, Place, Use, asks_of, fallback_call, named_type};
 use machine_rows::element_among;
-use node_core::{Data, DeriveInput, Field, Span, Type};
+use node_core::{Data, DeriveInput, Field};
+use node_expr::Type;
 use node_span::Spanned;
 use std::alloc::Global;
+use tok_types::Span;
 
 impl<H: Host> Checker<'_, H> {
     /// The functions that the host doesn't offer.
@@ -233,7 +233,7 @@ fn slots_of(body: &Data) -> &[Field]
     ensures { result.now ≡ struct_fields body.now }
 {
     match body {
-        Data::Struct(it) => fields_of(&it.fields),
+        Data::Struct(it) => it.fields.as_slice(),
         _ => &[],
     }
 }
@@ -251,7 +251,7 @@ fn transform_use(alloc: Global, post: &PostfixTransform) -> Mem<Use>
     ensures { IfOk result (λ at. at ≡ use_of post.now) }
 {
     let method = post.transformer.to_text(alloc)?;
-    if method.as_str() == "and_then" {
+    if method.is("and_then") {
         return Ok(Use::AndThen);
     }
     Ok(Use::Map)

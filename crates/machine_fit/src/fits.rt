@@ -11,7 +11,7 @@ use crate::checker::Checker;
 use base_core::Mem;
 use machine_forms::{Host, named_type};
 use machine_rows::{Leaf, Row, element_among, row_among};
-use node_core::Type;
+use node_expr::Type;
 
 impl<H: Host> Checker<'_, H> {
     /// Whether the type of a field fits its place in the declaration of the number `here`, where it may take a list of values.

@@ -13,6 +13,5 @@ mod fitting;
 mod slots;
 mod types;
 
-pub use codegen_program::Program;
 pub use fitting::{fit, refusals};
-pub use machine_forms::{Form, Host, Refusals, Unfit, Unsupported, earliest, repeated_names};
+pub use machine_forms::{Form, Refusals, Unfit, Unsupported};

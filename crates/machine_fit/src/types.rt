@@ -13,10 +13,12 @@ use crate::checker::Checker;
 use crate::slots::Slots;
 use base_core::{Items, Mem};
 use codegen_program::{PostfixTransform, Unit};
-use machine_forms::{Ask, Host, asks_of, fields_of, named_type, push_unit};
-use node_core::{Data, DeriveInput, Field, Span, Type, Variant};
+use machine_forms::{Ask, Host, asks_of, named_type, push_unit};
+use node_core::{Data, DeriveInput, Field, Variant};
+use node_expr::Type;
 use node_span::Spanned;
 use std::alloc::Global;
+use tok_types::Span;
 
 impl<H: Host> Checker<'_, H> {
     /// The types that don't fit their places.
@@ -76,7 +78,7 @@ impl<H: Host> Checker<'_, H> {
         ensures { OnOk result (places.new ≡ places.old ++ spec.unfit_members (H.says self.now.host.now) self.now.program.now here (map seen_slots readings.now) body.now) }
     {
         match body {
-            Data::Struct(it) => self.push_slots(places, here, readings, fields_of(&it.fields)),
+            Data::Struct(it) => self.push_slots(places, here, readings, it.fields.as_slice()),
             Data::Enum(it) => self.push_variants(places, here, it.variants.as_slice()),
             Data::Union(it) => self.push_fields(places, here, it.fields.named.as_slice()),
         }
@@ -142,7 +144,7 @@ impl<H: Host> Checker<'_, H> {
         ensures { OnOk result (places.new ≡ places.old ++ flat_map (spec.unfit_variant (H.says self.now.host.now) self.now.program.now here) variants.now) }
     {
         for variant in variants {
-            self.push_fields(places, here, fields_of(&variant.fields))?;
+            self.push_fields(places, here, variant.fields.as_slice())?;
         }
         Ok(())
     }

@@ -6,7 +6,7 @@ use Rattle.std.proofs.lemmas.List.{get_or_default, get_or-replicate, get_or-set_
 use Rattle.std.proofs.lemmas.List.Elements.{filter-append}
 use Rattle.codegen_program.specs.declared.program.«Unit».{«Unit» as Unit'}
 use Rattle.node_core.specs.declared.derive.DeriveInput.{DeriveInput}
-use Rattle.machine_steps.specs.Machine.{is_from_meta}
+use Rattle.codegen_program.specs.Traits.{is_from_meta}
 use Rattle.std.specs.List.{list_any}
 use Rattle.machine_forms.specs.Units.{Adds, AreGroups, flags_from, group_at, is_of, units_of}
 

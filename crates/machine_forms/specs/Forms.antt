@@ -23,8 +23,8 @@ use Rattle.codegen_program.specs.declared.init.Fallback.{Fallback}
 use Rattle.codegen_program.specs.declared.init.Fallback.TheVariants as fallbacks
 use Rattle.codegen_program.specs.declared.program.Program.{Program}
 use Rattle.codegen_program.specs.declared.program.«Unit».{«Unit» as Unit'}
-use Rattle.codegen_program.specs.Callable.{Callable}
-use Rattle.machine_steps.specs.Decls.{list_of}
+use Rattle.machine_steps.specs.Callable.{Callable}
+use Rattle.node_core.specs.Bodies.{field_list}
 use Rattle.machine_rows.specs.Heads.{null}
 use Rattle.machine_forms.specs.declared.refusals.Unsupported.{Unsupported}
 use Rattle.machine_forms.specs.declared.unfit.Form.TheVariants as form
@@ -57,10 +57,10 @@ abbrev pub generated_field : Field → List Unsupported
 generated_field field = generated_name field.ident
 
 abbrev pub generated_variant : Variant → List Unsupported
-generated_variant variant = flat_map generated_field (list_of variant.fields)
+generated_variant variant = flat_map generated_field (field_list variant.fields)
 
 abbrev pub generated_members : «Data» → List Unsupported
-generated_members (body.Struct it) = flat_map generated_field (list_of it.fields)
+generated_members (body.Struct it) = flat_map generated_field (field_list it.fields)
 generated_members (body.Enum it) = flat_map generated_variant it.variants
 generated_members (body.Union it) = flat_map generated_field it.fields.named
 

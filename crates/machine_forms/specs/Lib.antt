@@ -6,19 +6,14 @@ pub mod Places
 pub mod Refusals
 pub mod Units
 pub use Rattle.machine_steps.specs.Attributes
-pub use Rattle.machine_steps.specs.Below
+pub use Rattle.machine_steps.specs.Callable
 pub use Rattle.machine_steps.specs.Convert
 pub use Rattle.machine_steps.specs.Decls
 pub use Rattle.machine_steps.specs.Defaults
-pub use Rattle.machine_steps.specs.Erased
 pub use Rattle.machine_steps.specs.HostSays
 pub use Rattle.machine_steps.specs.Machine
 pub use Rattle.machine_steps.specs.Made
-pub use Rattle.machine_steps.specs.Names as ItemNames
-pub use Rattle.machine_steps.specs.Progress
+pub use Rattle.machine_steps.specs.Names as MachineStepsNames
 pub use Rattle.machine_steps.specs.Reading
 pub use Rattle.machine_steps.specs.Setting
-pub use Rattle.machine_steps.specs.Slots
-pub use Rattle.machine_steps.specs.State
-pub use Rattle.machine_steps.specs.Statements
 pub use Rattle.machine_steps.specs.Use

@@ -16,7 +16,8 @@ use Rattle.node_core.specs.declared.data.«Data».TheVariants as body
 use Rattle.node_core.specs.declared.derive.DeriveInput.{DeriveInput}
 use Rattle.codegen_program.specs.declared.program.Program.{Program}
 use Rattle.codegen_program.specs.declared.program.«Unit».{«Unit» as Unit'}
-use Rattle.machine_steps.specs.Decls.{decl_names, list_of}
+use Rattle.machine_steps.specs.Decls.{decl_names}
+use Rattle.node_core.specs.Bodies.{field_list}
 use Rattle.machine_forms.specs.Places.{places_from, refused_if}
 use Rattle.machine_forms.specs.Units.{has_twins, units_of}
 
@@ -46,10 +47,10 @@ repeated_fields fields = places_from (λ number field. repeated_field (has_name 
 -- variants whose name an earlier one has, each before what its own fields repeat
 abbrev pub repeated_variants : List Variant → List Span
 repeated_variants variants =
-    places_from (λ number variant. repeated (has_name (variant_names (take number variants))) variant.ident ++ repeated_fields (list_of variant.fields)) 0 variants
+    places_from (λ number variant. repeated (has_name (variant_names (take number variants))) variant.ident ++ repeated_fields (field_list variant.fields)) 0 variants
 
 abbrev pub repeated_members : «Data» → List Span
-repeated_members (body.Struct it) = repeated_fields (list_of it.fields)
+repeated_members (body.Struct it) = repeated_fields (field_list it.fields)
 repeated_members (body.Enum it) = repeated_variants it.variants
 repeated_members (body.Union it) = repeated_fields it.fields.named
 

@@ -4,11 +4,10 @@ ghost use Rattle.std.specs.Prelude.{◌≡◌, ◌++◌, IfOk, OnOk, map};
 ghost use Rattle.machine_forms.specs.Asks as spec;
 
 use base_core::{Items, Mem};
-use codegen_program::{Arm, DefaultSource, Fallback, Init, PostfixTransform, Stmt, Unit};
+use codegen_program::{
+    Arm, DefaultSource, Fallback, Init, MAX_NESTING, PostfixTransform, Stmt, Unit,
+};
 use std::alloc::AllocError;
-
-/// How deep statements may stand in statements.
-const MAX_NESTING: usize = 64;
 
 /// What a statement asks of types and of the host.
 #[derive(Clone, Copy)]

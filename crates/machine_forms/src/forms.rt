@@ -9,15 +9,16 @@ ghost use Rattle.machine_forms.specs.Forms as spec;
 ghost use Rattle.machine_forms.specs.Units.{AreGroups};
 
 use crate::ask::Ask;
-use crate::names::fields_of;
 use crate::refusals::Unsupported;
 use crate::unfit::Form;
 use crate::units::asks_of;
 use base_core::{Items, Mem};
 use codegen_program::{DefaultSource, Fallback, PostfixTransform, Program, Unit};
 use machine_steps::Callable;
-use node_core::{Data, DeriveInput, Expr, Field, Generics, Ident, Path, Variant};
+use node_core::{Data, DeriveInput, Field, Generics, Variant};
+use node_expr::{Expr, Path};
 use std::alloc::Global;
+use tok_types::Ident;
 
 /// The names that generated code has for itself.
 const GENERATED: [&str; 26] = [
@@ -100,7 +101,7 @@ fn push_members(places: &mut Items<Unsupported>, body: &Data) -> Mem<()>
     ensures { OnOk result (places.new ≡ places.old ++ spec.generated_members body.now) }
 {
     match body {
-        Data::Struct(it) => push_fields(places, fields_of(&it.fields)),
+        Data::Struct(it) => push_fields(places, it.fields.as_slice()),
         Data::Enum(it) => push_variants(places, it.variants.as_slice()),
         Data::Union(it) => push_fields(places, it.fields.named.as_slice()),
     }
@@ -110,7 +111,7 @@ fn push_variants(places: &mut Items<Unsupported>, variants: &[Variant]) -> Mem<(
     ensures { OnOk result (places.new ≡ places.old ++ flat_map spec.generated_variant variants.now) }
 {
     for variant in variants {
-        push_fields(places, fields_of(&variant.fields))?;
+        push_fields(places, variant.fields.as_slice())?;
     }
     Ok(())
 }

@@ -12,7 +12,7 @@ mod units;
 pub use ask::{Ask, Asked, push_unit};
 pub use forms::{fallback_call, unsupported_forms};
 pub use machine_steps::{Callable, Host, Place, Use, named_type};
-pub use names::{duplicate_names, fields_of, repeated_names};
+pub use names::{duplicate_names, repeated_names};
 pub use places::earliest;
 pub use refusals::{Refusals, Unsupported};
 pub use unfit::{Form, Unfit};

@@ -1,7 +1,6 @@
 //! Names that stand twice.
 
 ghost use Rattle.std.specs.Prelude.{◌≡◌, ◌++◌, ◌||◌, IfOk, OnOk, length};
-ghost use Rattle.machine_steps.specs.Decls.{list_of};
 ghost use Rattle.machine_forms.specs.Names as spec;
 ghost use Rattle.machine_forms.specs.Places.{refused_if};
 ghost use Rattle.machine_forms.specs.Units.{AreGroups, group_at, has_twins as are_twins};
@@ -9,10 +8,10 @@ ghost use Rattle.machine_forms.specs.Units.{AreGroups, group_at, has_twins as ar
 use crate::units::has_twins;
 use base_core::{Items, Mem};
 use codegen_program::{Program, Unit};
-use node_core::{Data, DeriveInput, Field, Fields, Ident, Variant};
+use node_core::{Data, DeriveInput, Field, Variant};
 use std::alloc::Global;
 use std::collections::BTreeSet;
-use tok_types::Span;
+use tok_types::{Ident, Span};
 
 /// Names of a program that stand twice, at the later of the two, and declarations that derive a trait twice.
 pub fn duplicate_names(
@@ -87,20 +86,9 @@ fn push_members(alloc: Global, places: &mut Items<Span>, body: &Data) -> Mem<()>
     ensures { OnOk result (places.new ≡ places.old ++ spec.repeated_members body.now) }
 {
     match body {
-        Data::Struct(it) => push_fields(alloc, places, fields_of(&it.fields)),
+        Data::Struct(it) => push_fields(alloc, places, it.fields.as_slice()),
         Data::Enum(it) => push_variants(alloc, places, it.variants.as_slice()),
         Data::Union(it) => push_fields(alloc, places, it.fields.named.as_slice()),
-    }
-}
-
-/// The fields in order.
-pub fn fields_of(fields: &Fields) -> &[Field]
-    ensures { result.now ≡ list_of fields.now }
-{
-    match fields {
-        Fields::Named(it) => it.named.as_slice(),
-        Fields::Unnamed(it) => it.unnamed.as_slice(),
-        Fields::Unit => &[],
     }
 }
 
@@ -111,7 +99,7 @@ fn push_variants(alloc: Global, places: &mut Items<Span>, variants: &[Variant]) 
     for number in 0..variants.len() {
         let variant = &variants[number];
         push_repeated(places, false, &variant.ident, &mut known)?;
-        push_fields(alloc, places, fields_of(&variant.fields))?;
+        push_fields(alloc, places, variant.fields.as_slice())?;
     }
     Ok(())
 }

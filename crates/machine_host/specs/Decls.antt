@@ -5,10 +5,10 @@ use Rattle.base_core.specs.declared.text.Text.{Text}
 use Rattle.tok_types.specs.Ident.{ident_text}
 use Rattle.tok_types.specs.declared.ident.Ident.{Ident}
 use Rattle.node_expr.specs.declared.ty.«Type».{«Type» as Type'}
+use Rattle.node_core.specs.Bodies.{field_list}
 use Rattle.node_core.specs.Style.{style_of}
 use Rattle.node_core.specs.declared.data.Field.{Field}
 use Rattle.node_core.specs.declared.data.Fields.{Fields}
-use Rattle.node_core.specs.declared.data.Fields.TheVariants as fields
 use Rattle.node_core.specs.declared.data.Variant.{Variant}
 use Rattle.node_core.specs.declared.data.«Data».{«Data»}
 use Rattle.node_core.specs.declared.data.«Data».TheVariants as body
@@ -22,12 +22,6 @@ use Rattle.machine_host.specs.Fits.{FitsRow}
 abbrev pub member_name : Field → Text
 member_name field = unwrap_or (option_map ident_text field.ident) []
 
--- the fields in order
-abbrev pub list_of : Fields → List Field
-list_of (fields.Named it) = it.named
-list_of (fields.Unnamed it) = it.unnamed
-list_of fields.Unit = []
-
 -- the names of the declarations
 abbrev pub decl_names : List DeriveInput → List Ident
 decl_names decls = map (λ decl. decl.ident) decls
@@ -38,7 +32,7 @@ IsMemberOf FitsIn field member = (member.0 ≡ member_name field) × FitsIn fiel
 
 -- a member for each field, in order
 abbrev pub HasFields : (Type' → Form) → Fields → Members
-HasFields FitsIn fields members = AllZip (IsMemberOf FitsIn) (list_of fields) members
+HasFields FitsIn fields members = AllZip (IsMemberOf FitsIn) (field_list fields) members
 
 -- the variant, with its members
 abbrev pub IsOfVariant : (Type' → Form) → Ident → Variant → Form

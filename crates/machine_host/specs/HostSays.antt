@@ -5,7 +5,7 @@ use Rattle.node_expr.specs.declared.path.Path.{Path}
 use Rattle.node_expr.specs.declared.ty.«Type».{«Type» as Type'}
 use Rattle.node_core.specs.declared.derive.DeriveInput.{DeriveInput}
 use Rattle.util_core.specs.declared.callable.Callable.{Callable}
-use Rattle.law_spans_items.specs.ExprErased.{erased_expr, erased_type}
+use Rattle.law_spans.specs.Erased.{erased_expr, erased_type}
 use Rattle.law_spans_items.specs.Erased.{erased_derive_input}
 use Rattle.machine_value.specs.declared.value.Value.{Value}
 use Rattle.machine_host.specs.declared.place.Place.{Place}

@@ -14,7 +14,7 @@ use Rattle.util_core.specs.Nested.{nested_of}
 use Rattle.util_core.specs.NestedMeta.{NestedMeta}
 use Rattle.util_core.specs.Cells.{Cells}
 use Rattle.util_core.specs.Dispatch.{from_nested_meta}
-use Rattle.util_core.specs.MetaExprs.{expr_cells, ident_cells, path_cells, type_path_cells}
+use Rattle.util_core.specs.MetaReadsExprs.{expr_cells, ident_cells, path_cells, type_path_cells}
 use Rattle.util_core.specs.Syntax.{where_predicates_cells}
 use Rattle.util_core.specs.Lists.{ident_item, path_item}
 use Rattle.util_core.specs.PathLists.{path_word}

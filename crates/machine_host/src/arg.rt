@@ -2,7 +2,8 @@
 
 use machine_value::Value;
 use node_core::{Attribute, Data, Fields, Generics, Meta};
-use node_expr::{Expr, Ident};
+use node_expr::Expr;
+use tok_types::Ident;
 use util_core::{MetaNameValueInvalidExpr, NestedMeta};
 
 /// What a function that an option names is handed.

@@ -2,16 +2,17 @@
 
 ghost use Rattle.std.specs.Prelude.{◌≡◌, IfOk};
 ghost use Rattle.std.specs.Option.{option_copied};
-ghost use Rattle.law_spans_items.specs.ExprErased.{erased_path, erased_type};
+ghost use Rattle.law_spans.specs.Erased.{erased_path, erased_type};
 ghost use Rattle.machine_host.specs.HostSays.{erased_call, erased_decls, erased_place};
 ghost use Rattle.machine_host.specs.Seen.{seen_arg, seen_item};
 
 use crate::arg::{Arg, HostItem};
 use crate::place::Place;
 use crate::said::Said;
+use base_core::Mem;
 use machine_value::Value;
 use node_core::DeriveInput;
-use node_expr::{Mem, Path, Type};
+use node_expr::{Path, Type};
 use std::alloc::Global;
 use util_core::Callable;
 

@@ -4,10 +4,11 @@ ghost use Rattle.std.specs.Prelude.{◌≡◌, IfOk};
 ghost use Rattle.machine_host.specs.Made as spec;
 
 use crate::said::Said;
-use base_core::{Items, Text};
+use base_core::{Items, Mem, Text};
 use error_fault::{Fault, FaultKind};
-use node_expr::{Ident, Mem, Path, PathArguments, PathSegment, Span, Type, TypePath};
+use node_expr::{Path, PathArguments, PathSegment, Type, TypePath};
 use std::alloc::Global;
+use tok_types::{Ident, Span};
 
 /// A fault with this text, in no field and at no place.
 pub fn custom(alloc: Global, text: &str) -> Mem<Said>

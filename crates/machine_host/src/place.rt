@@ -1,6 +1,7 @@
 //! Where a function that an option names is asked.
 
-use node_expr::{Mem, TryClone, Type};
+use base_core::{Mem, TryClone};
+use node_expr::Type;
 use std::alloc::Global;
 
 /// What a function is asked for.

@@ -9,9 +9,10 @@ use crate::host::Host;
 use crate::made::{custom, named_type};
 use crate::place::{Place, Use};
 use crate::said::Said;
+use base_core::Mem;
 use machine_value::Value;
 use node_core::DeriveInput;
-use node_expr::{Mem, Path, Type};
+use node_expr::{Path, Type};
 use std::alloc::Global;
 use util_core::Callable;
 

@@ -13,7 +13,7 @@ use Rattle.machine_cells.specs.Cells.{FailsCell, cell_at}
 use Rattle.machine_cells.specs.Call.{Call}
 use Rattle.machine_cells.specs.Call.TheVariants as call
 use Rattle.machine_cells.specs.Lists as lists
-use Rattle.machine_cells.specs.MetaMaps.{with_key}
+use Rattle.machine_cells.specs.MetaCoreMaps.{with_key}
 use Rattle.machine_cells.specs.Sets.{is_item, name_faults, set_cells, set_faults}
 use Rattle.machine_cells.specs.Maps.{names_cells, names_value}
 use Rattle.machine_cells.specs.Shown.{shown}

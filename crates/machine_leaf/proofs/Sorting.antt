@@ -12,7 +12,7 @@ use Rattle.std.proofs.lemmas.Cmp.{upto, tied_itself}
 use Rattle.std.proofs.lemmas.List.Elements.{filter-append}
 use Rattle.std.proofs.lemmas.List.Sorted.{ranks_by, sorted_far}
 use Rattle.base_core.specs.declared.text.Text.{Text}
-use Rattle.machine_cells.specs.MetaMaps.{text_order}
+use Rattle.machine_cells.specs.MetaCoreMaps.{text_order}
 use Rattle.machine_cells.specs.Texts.{put_by, put, by_text}
 
 order : IsTotalOrder text_order

@@ -13,7 +13,7 @@ mod table;
 mod words;
 
 pub use default::leaf_default;
-pub use machine_cells::{KeySet, MapKey, read_key};
+pub use machine_cells::{Callable, KeySet, MapKey, read_key};
 pub use order::in_order;
 pub use shown::syntax_value;
 pub use table::{leaf_cell, unit_cell};

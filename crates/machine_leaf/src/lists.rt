@@ -8,11 +8,14 @@ ghost use Rattle.machine_cells.specs.Leaves.{punctuated_cells, unsigned_list_cel
 use crate::literals::lit_list_cell;
 use crate::shown::{Shown, shown_cell};
 use base_core::{Items, Mem};
-use machine_cells::{Call, PathList, Result};
+use error_core::Result;
+use machine_cells::{Call, PathList};
 use machine_rows::{PunctuatedItem, Unsigned, VecItem};
 use machine_value::Value;
-use node_core::{Comma, Expr, FnArg, Ident, Path, Punctuated, WherePredicate};
+use node_core::{Comma, Punctuated, WherePredicate};
+use node_expr::{Expr, FnArg, Path};
 use std::alloc::Global;
+use tok_types::Ident;
 
 impl<T: Shown> Shown for Vec<T> {
     ghost use Rattle.std.specs.Prelude.{map};

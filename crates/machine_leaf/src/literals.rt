@@ -4,10 +4,11 @@ ghost use Rattle.machine_cells.specs.Cells.{AnswersCell, cell_at};
 ghost use Rattle.machine_cells.specs.Leaves.{lit_kind_cells, lit_list_cells};
 
 use crate::shown::{Syntax, shown_cell};
-use machine_cells::{Call, Result};
+use error_core::Result;
+use machine_cells::Call;
 use machine_rows::LitKind;
 use machine_value::Value;
-use node_core::{Lit, LitBool, LitByte, LitByteStr, LitChar, LitFloat, LitInt, LitStr};
+use node_expr::{Lit, LitBool, LitByte, LitByteStr, LitChar, LitFloat, LitInt, LitStr};
 use std::alloc::Global;
 
 impl Syntax for Lit {}

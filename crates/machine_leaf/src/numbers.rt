@@ -9,8 +9,9 @@ ghost use Rattle.machine_cells.specs.Values.{integer, natural};
 
 use crate::shown::{Shown, shown_answer};
 use base_core::Mem;
+use error_core::Result;
 use machine_cells::{
-    Call, Result, read_non_zero_signed, read_non_zero_unsigned, read_signed, read_unsigned,
+    Call, read_non_zero_signed, read_non_zero_unsigned, read_signed, read_unsigned,
 };
 use machine_rows::Integer;
 use machine_value::Value;

@@ -11,13 +11,15 @@ ghost use Rattle.machine_cells.specs.Values.{syntax};
 use crate::order::in_order;
 use crate::shown::syntax_value;
 use base_core::{Items, Mem, Text};
-use machine_cells::{Call, FromMeta, KeyFromPath, Result};
+use error_core::Result;
+use machine_cells::{Call, FromMeta, KeyFromPath};
 use machine_rows::SetItem;
 use machine_value::Value;
-use node_core::{Ident, Path};
+use node_expr::Path;
 use print_core::ToTokens;
 use std::alloc::Global;
 use std::collections::HashSet;
+use tok_types::Ident;
 
 /// What a `HashSet` answers: its names in the order of their texts.
 pub(crate) fn set_cell(alloc: Global, item: SetItem, call: Call<'_>) -> Result<Option<Value>>

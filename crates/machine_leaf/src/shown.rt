@@ -8,7 +8,9 @@ ghost use Rattle.machine_cells.specs.Shown.{shown_cells};
 ghost use Rattle.machine_cells.specs.Values.{syntax};
 ghost use Rattle.machine_leaf.specs.Seen.{ShowsSeen};
 
-use machine_cells::{Call, Fail, FromMeta, Mem, Result};
+use base_core::Mem;
+use error_core::{Fail, Result};
+use machine_cells::{Call, FromMeta};
 use machine_value::Value;
 use print_core::ToTokens;
 use std::alloc::Global;

@@ -4,15 +4,18 @@ ghost use Rattle.machine_cells.specs.Cells.{AnswersCell, cell_at};
 ghost use Rattle.machine_cells.specs.Leaves.{parsed_cells};
 
 use crate::shown::{Syntax, shown_cell};
-use machine_cells::{Call, Callable, IdentString, PreservedStrExpr, Result};
+use error_core::Result;
+use machine_cells::{Call, Callable, IdentString, PreservedStrExpr};
 use machine_rows::Parsed;
 use machine_value::Value;
-use node_core::{
-    Expr, ExprArray, ExprPath, ExprRange, FnArg, Ident, Meta, Path, Type, TypeArray, TypeFnPtr,
-    TypeGroup, TypeImplTrait, TypeInfer, TypeNever, TypeParam, TypeParen, TypePath, TypePtr,
-    TypeReference, TypeSlice, TypeTraitObject, TypeTuple, Visibility, WhereClause, WherePredicate,
+use node_core::{Meta, TypeParam, Visibility, WhereClause, WherePredicate};
+use node_expr::{
+    Expr, ExprArray, ExprPath, ExprRange, FnArg, Path, Type, TypeArray, TypeFnPtr, TypeGroup,
+    TypeImplTrait, TypeInfer, TypeNever, TypeParen, TypePath, TypePtr, TypeReference, TypeSlice,
+    TypeTraitObject, TypeTuple,
 };
 use std::alloc::Global;
+use tok_types::Ident;
 
 impl Syntax for Ident {}
 

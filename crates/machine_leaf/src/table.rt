@@ -13,11 +13,14 @@ use crate::sets::set_cell;
 use crate::shown::shown_cell;
 use crate::syntax::parsed_cell;
 use crate::words::{ignored_cell, text_cell};
-use machine_cells::{Call, Callable, Flag, IdentString, PathList, PreservedStrExpr, Result};
+use error_core::Result;
+use machine_cells::{Call, Callable, Flag, IdentString, PathList, PreservedStrExpr};
 use machine_rows::Leaf;
 use machine_value::Value;
-use node_core::{Expr, ExprArray, ExprPath, ExprRange, Ident, Lit, Meta, Path, TypePath};
+use node_core::Meta;
+use node_expr::{Expr, ExprArray, ExprPath, ExprRange, Lit, Path, TypePath};
 use std::alloc::Global;
+use tok_types::Ident;
 
 /// What a type of the table answers to a call itself, as a value. `None` where it has no cell for it.
 pub fn leaf_cell(alloc: Global, leaf: &Leaf, call: Call<'_>) -> Result<Option<Value>>

@@ -10,8 +10,10 @@ ghost use Rattle.machine_cells.specs.Values.{ignored as ignored_value};
 
 use crate::shown::Shown;
 use base_core::{Boxed, Items, Mem, Text};
-use machine_cells::{Call, Flag, Result};
-use machine_value::{Style, Value};
+use error_core::Result;
+use machine_cells::{Call, Flag};
+use machine_value::Value;
+use node_core::Style;
 use std::alloc::Global;
 
 impl Shown for () {
@@ -48,10 +50,10 @@ impl Shown for char {
 impl Shown for Flag {
     ghost use Rattle.machine_cells.specs.Values.{flag};
 
-    ghost shows = { λ it. flag it.place };
+    ghost shows = { λ it. flag it.0 };
 
     fn to_value(&self, alloc: Global) -> Mem<Value> {
-        match self.place {
+        match self.0 {
             Some(span) => Ok(Value::Opt(Some(Boxed::new(alloc, Value::Span(Some(span)))?))),
             None => Ok(Value::Opt(None)),
         }

@@ -2,10 +2,10 @@
 use Rattle.std.proofs.Common.{◌≡◌, ◌∙◌, ℕ, Option, Result, ap, subst, sym}
 use Rattle.node_expr.specs.declared.ty.«Type».{«Type» as Type'}
 use Rattle.error_core.specs.declared.fail.Fail.{Fail}
-use Rattle.meta_cells.specs.Cells.{Cells, AnswersCell, cell_at}
-use Rattle.meta_cells.specs.declared.call.Call.{Call}
+use Rattle.meta_nested.specs.Cells.{Cells, AnswersCell, cell_at}
+use Rattle.meta_nested.specs.declared.call.Call.{Call}
 use Rattle.machine_value.specs.declared.value.Value.{Value as Datum}
-use Rattle.machine_steps.specs.RowCells.{row_cells}
+use Rattle.machine_leaf.specs.RowCells.{row_cells}
 use Rattle.machine_rows.specs.declared.row.Row.{Row}
 use Rattle.machine_read.specs.declared.layer.Layer.{Layer}
 use Rattle.machine_read.specs.Layers.{layer_reads}

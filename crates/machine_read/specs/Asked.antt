@@ -2,10 +2,10 @@
 use Rattle.std.specs.Prelude.{unwrap_or, codes}
 use Rattle.error_fault.specs.Outcome.{Outcome, refused}
 use Rattle.error_fault.specs.declared.kind.FaultKind.TheVariants.{UnexpectedFormat}
-use Rattle.meta_cells.specs.Cells.{Cells, cell_at}
-use Rattle.meta_cells.specs.Dispatch as read
-use Rattle.meta_cells.specs.declared.call.Call.{Call}
-use Rattle.meta_cells.specs.declared.call.Call.TheVariants as call
+use Rattle.meta_nested.specs.Cells.{Cells, cell_at}
+use Rattle.meta_nested.specs.Dispatch as read
+use Rattle.meta_nested.specs.declared.call.Call.{Call}
+use Rattle.meta_nested.specs.declared.call.Call.TheVariants as call
 
 -- no item at all is no format of a type that has no value for it
 abbrev pub answer : {A : Type 0} → Cells A → Call → Outcome A

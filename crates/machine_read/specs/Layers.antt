@@ -1,11 +1,11 @@
 -- What a row reads, by its outermost layer.
 use Rattle.std.specs.Prelude.{ℕ}
 use Rattle.node_expr.specs.declared.ty.«Type».{«Type» as Type'}
-use Rattle.meta_cells.specs.Cells.{Cells}
-use Rattle.machine_steps.specs.Rows.{unit_cells}
+use Rattle.meta_nested.specs.Cells.{Cells}
+use Rattle.machine_leaf.specs.Rows.{unit_cells}
 use Rattle.machine_value.specs.declared.value.Value.{Value as Datum}
-use Rattle.machine_steps.specs.Leaves.{leaf_cells}
-use Rattle.machine_steps.specs.Shown.{shown_cells}
+use Rattle.machine_leaf.specs.Leaves.{leaf_cells}
+use Rattle.machine_leaf.specs.Shown.{shown_cells}
 use Rattle.machine_leaf.specs.Values.{unit}
 use Rattle.machine_rows.specs.declared.row.Row.{Row}
 use Rattle.machine_read.specs.declared.layer.Layer.{Layer}

@@ -1,9 +1,9 @@
 -- What a row reads under a setting, where the declarations of lower numbers read as `earlier` says.
 use Rattle.std.specs.Prelude.{List}
 use Rattle.node_core.specs.declared.derive.DeriveInput.{DeriveInput}
-use Rattle.meta_cells.specs.Cells.{Cells}
+use Rattle.meta_nested.specs.Cells.{Cells}
 use Rattle.machine_value.specs.declared.value.Value.{Value as Datum}
-use Rattle.machine_steps.specs.RowCells.{row_cells}
+use Rattle.machine_leaf.specs.RowCells.{row_cells}
 use Rattle.machine_steps.specs.HostSays.{HostSays}
 use Rattle.machine_rows.specs.declared.row.Row.{Row}
 use Rattle.machine_steps.specs.Setting.{Setting}

@@ -1,5 +1,5 @@
 -- The cells of a row that holds one row, by those of the row inside.
-use Rattle.meta_cells.specs.Cells.{Cells, no_cells}
+use Rattle.meta_nested.specs.Cells.{Cells, no_cells}
 use Rattle.machine_value.specs.declared.value.Value.{Value as Datum}
 use Rattle.machine_leaf.specs.Wrapped.{given_cells, hash_map_cells, kept_cells, kept_meta_cells, optional_cells, original_cells, spanned_cells, tree_map_cells}
 use Rattle.machine_leaf.specs.Wrappers.{box_cells}

@@ -3,7 +3,7 @@
 ghost use Rattle.error_core.specs.Answers.{Answers};
 ghost use Rattle.error_fault.specs.Outcome as outcomes;
 ghost use Rattle.error_fault.specs.Outcome.{Outcome, on_value};
-ghost use Rattle.meta_cells.specs.Cells.{AnswersCell};
+ghost use Rattle.meta_nested.specs.Cells.{AnswersCell};
 ghost use Rattle.machine_leaf.specs.Wrappers.{value_or_meta};
 ghost use Rattle.machine_leaf.specs.Override.TheVariants.{Explicit};
 ghost use Rattle.machine_value.specs.declared.value.Value.{Value as Datum};
@@ -12,10 +12,12 @@ ghost use Rattle.machine_leaf.specs.Wrapped as spec;
 ghost use Rattle.std.specs.Prelude.{Some};
 
 use crate::values;
-use error_core::{Fail, Result, Span};
-use machine_value::{Boxed, Value};
+use base_core::Boxed;
+use error_core::{Fail, Result};
+use machine_value::Value;
 use node_core::Meta;
 use std::alloc::Global;
+use tok_types::Span;
 
 /// Of an `Option`: some value.
 pub(crate) fn some(alloc: Global, answer: Result<Value>) -> Result<Option<Value>>

@@ -4,7 +4,7 @@ ghost use Rattle.error_core.specs.Answers.{Answers};
 
 use error_core::Result;
 use machine_value::Value;
-use meta_cells::NestedMeta;
+use meta_nested::NestedMeta;
 use std::alloc::Global;
 
 /// What the declarations read that types may name, by their numbers.

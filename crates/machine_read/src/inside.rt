@@ -1,6 +1,6 @@
 //! Rows: what each answers to a call itself, by the row inside.
 
-ghost use Rattle.meta_cells.specs.Cells.{AnswersCell, cell_at};
+ghost use Rattle.meta_nested.specs.Cells.{AnswersCell, cell_at};
 ghost use Rattle.machine_read.specs.Scopes.{cells_of, seen_setting};
 ghost use Rattle.machine_steps.specs.Convert.{declared_cells};
 
@@ -15,7 +15,7 @@ use machine_leaf::{leaf_cell, unit_cell};
 use machine_rows::Row;
 use machine_steps::Host;
 use machine_value::Value;
-use meta_cells::Call;
+use meta_nested::Call;
 use std::alloc::Global;
 
 /// A row, as a type that is read.
@@ -35,8 +35,8 @@ where
     ghost use Rattle.std.specs.Prelude.{Option, Result};
     ghost use Rattle.error_core.specs.declared.fail.Fail.{Fail as FailSeen};
     ghost use Rattle.machine_value.specs.declared.value.Value.{Value as Datum};
-    ghost use Rattle.meta_cells.specs.Cells.{AnswersCell, cell_at};
-    ghost use Rattle.meta_cells.specs.declared.call.Call.{Call as CallSeen};
+    ghost use Rattle.meta_nested.specs.Cells.{AnswersCell, cell_at};
+    ghost use Rattle.meta_nested.specs.declared.call.Call.{Call as CallSeen};
     ghost use Rattle.machine_read.specs.Scopes.{cells_of, seen_setting};
 
     ghost cells = { λ it. cells_of (seen_setting (H.says it.scope.now.setting.host.now) it.scope.now.setting.decls.now) (D.earlier it.scope.now.declared.now) it.row.now };

@@ -2,13 +2,13 @@
 
 ghost use Rattle.std.specs.Prelude.{◌≡◌, ℕ};
 ghost use Rattle.node_expr.specs.declared.ty.«Type».{«Type» as TypeSeen};
-ghost use Rattle.meta_cells.specs.Cells.{Cells};
-ghost use Rattle.machine_steps.specs.RowCells.{row_cells};
+ghost use Rattle.meta_nested.specs.Cells.{Cells};
+ghost use Rattle.machine_leaf.specs.RowCells.{row_cells};
 ghost use Rattle.machine_read.specs.Layers.{layer_reads};
 ghost use Rattle.machine_value.specs.declared.value.Value.{Value as Datum};
 
 use machine_rows::{Leaf, Row, Wrapper};
-use node_core::Type;
+use node_expr::Type;
 
 /// What a row is at its outermost layer.
 #[derive(Clone, Copy)]

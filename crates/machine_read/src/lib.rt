@@ -16,8 +16,11 @@ mod values;
 mod wrapped;
 
 pub use declared::Declared;
-pub use machine_steps::{Arg, Host, Use, named_type};
-pub use meta_cells::{Call, NestedMeta, items_of};
+pub use machine_leaf::Callable;
+pub use machine_steps::{
+    Arg, Host, HostItem, Place, RefusingHost, Said, Use, named_type, what_fits_a_type,
+};
+pub use meta_nested::{Call, NestedMeta, items_of};
 pub use reader::Reader;
 pub use scope::Scope;
 pub use setting::Setting;

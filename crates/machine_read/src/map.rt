@@ -7,25 +7,27 @@ ghost use Rattle.error_core.specs.ErrorView.{held};
 ghost use Rattle.error_fault.specs.Outcome.{Outcome, faults_of, on_value, under, value_of};
 ghost use Rattle.node_make.specs.PathText.{path_text};
 ghost use Rattle.node_span.specs.Spanned.{path_span};
-ghost use Rattle.meta_cells.specs.Cells.{AnswersCell, cell_at};
+ghost use Rattle.meta_nested.specs.Cells.{AnswersCell, cell_at};
 ghost use Rattle.machine_leaf.specs.KnownKeys.{Knows};
 ghost use Rattle.machine_leaf.specs.Maps as spec;
 ghost use Rattle.machine_leaf.specs.Maps.{entries_of, entry, entry_of, item_faults, key_faults, keys_with, map_faults, pair_in, with_key};
-ghost use Rattle.machine_leaf.specs.CellsMaps.{map_cells};
+ghost use Rattle.machine_leaf.specs.MachineCellsMaps.{map_cells};
 ghost use Rattle.machine_leaf.specs.Texts.{by_text};
 ghost use Rattle.machine_leaf.specs.Wrapped as wrapped;
 ghost use Rattle.machine_read.specs.Entries.{texts};
 ghost use Rattle.machine_value.specs.declared.value.Value.{Value as Datum};
 
 use crate::reader::Reader;
+use base_core::{Items, Mem, Text};
 use error_core::{Accumulator, Error, Fail, Result};
 use machine_leaf::{KeySet, MapKey, in_order, read_key};
 use machine_rows::{HashKey, TreeKey};
-use machine_value::{Items, Mem, Text, Value};
-use meta_cells::{Call, NestedMeta};
-use node_core::{Ident, Path};
+use machine_value::Value;
+use meta_nested::{Call, NestedMeta};
+use node_expr::Path;
 use std::alloc::Global;
 use std::collections::{BTreeSet, HashSet};
+use tok_types::Ident;
 
 /// `HashMap`, by the type of its keys.
 pub(crate) fn hash_map_cell<R: Reader>(

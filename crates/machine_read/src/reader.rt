@@ -2,20 +2,24 @@
 
 ghost use Rattle.std.specs.Prelude.{◌≡◌, IfOk};
 ghost use Rattle.error_core.specs.Answers.{Answers};
-ghost use Rattle.meta_cells.specs.Cells.{AnswersCell, cell_at};
-ghost use Rattle.meta_cells.specs.Dispatch as spec;
+ghost use Rattle.meta_nested.specs.Cells.{AnswersCell, cell_at};
+ghost use Rattle.meta_nested.specs.Dispatch as spec;
 ghost use Rattle.machine_read.specs.Asked.{answer};
 
-use error_core::{Error, Expr, Fail, Lit, Mem, Result, Span, Spanned, TryClone};
+use base_core::{Mem, TryClone};
+use error_core::{Error, Fail, Result};
 use machine_value::Value;
-use meta_cells::{Call, MetaNameValueInvalidExpr, NestedMeta, items_of, spanned, without_groups};
+use meta_nested::{Call, MetaNameValueInvalidExpr, NestedMeta, items_of, spanned, without_groups};
 use node_core::Meta;
+use node_expr::{Expr, Lit};
+use node_span::Spanned;
 use std::alloc::{AllocError, Global};
+use tok_types::Span;
 
 /// A type that is known when a run reads it. It is read as `FromMeta` reads a type of Rust: it answers some calls itself,
 /// by [`cell`](Reader::cell), and the others by the defaults that all types have.
 pub trait Reader {
-    ghost use Rattle.meta_cells.specs.Cells.{Cells};
+    ghost use Rattle.meta_nested.specs.Cells.{Cells};
     ghost use Rattle.machine_value.specs.declared.value.Value.{Value as Datum};
 
     /// The cells in which the type differs from the defaults.
@@ -85,7 +89,7 @@ pub trait Reader {
     }
 
     /// A literal. By default a string, a character and a Boolean go by their calls, and no other is a value of the type.
-    #[tactic(auto, using(meta_cells::proofs::PlaceLemmas::answers_at))]
+    #[tactic(auto, using(meta_nested::proofs::PlaceLemmas::answers_at))]
     final fn from_value(&self, alloc: Global, value: &Lit) -> Result<Value>
         requires { is_callable self.now }
         ensures { Answers (λ it. it) result (spec.from_value (cells self.now) value.now) }
@@ -105,7 +109,7 @@ pub trait Reader {
 
     /// The value of `path = value`. By default invisible groups around it are looked through, a literal goes by
     /// [`from_value`](Reader::from_value), and no other expression is a value of the type.
-    #[tactic(auto, using(meta_cells::proofs::PlaceLemmas::answers_at))]
+    #[tactic(auto, using(meta_nested::proofs::PlaceLemmas::answers_at))]
     final fn from_expr(&self, alloc: Global, expr: &Expr) -> Result<Value>
         requires { is_callable self.now }
         ensures { Answers (λ it. it) result (spec.from_expr (cells self.now) expr.now) }
@@ -137,7 +141,7 @@ pub trait Reader {
     }
 
     /// A meta. By default a word, a list and a value go by their calls.
-    #[tactic(auto, using(meta_cells::proofs::PlaceLemmas::answers_at))]
+    #[tactic(auto, using(meta_nested::proofs::PlaceLemmas::answers_at))]
     final fn from_meta(&self, alloc: Global, item: &Meta) -> Result<Value>
         requires { is_callable self.now }
         ensures { Answers (λ it. it) result (spec.from_meta (cells self.now) item.now) }
@@ -158,7 +162,7 @@ pub trait Reader {
     }
 
     /// A nested item. By default a meta, a literal and a bad value go by their calls.
-    #[tactic(auto, using(meta_cells::proofs::PlaceLemmas::answers_at))]
+    #[tactic(auto, using(meta_nested::proofs::PlaceLemmas::answers_at))]
     final fn from_nested_meta(&self, alloc: Global, item: &NestedMeta) -> Result<Value>
         requires { is_callable self.now }
         ensures { Answers (λ it. it) result (spec.from_nested_meta (cells self.now) item.now) }

@@ -17,13 +17,17 @@ use crate::declared::Declared;
 use crate::inside::{Inside, row_cell};
 use crate::reader::Reader;
 use crate::setting::Setting;
+use base_core::{Mem, TryClone};
 use codegen_program::PostfixTransform;
-use error_core::{Fail, Result, Spanned};
-use machine_steps::{Arg, Callable, Host, Use};
-use machine_value::{Mem, TryClone, Value};
-use meta_cells::{MetaNameValueInvalidExpr, NestedMeta, spanned};
-use node_core::{Ident, Path, Type};
+use error_core::{Fail, Result};
+use machine_leaf::Callable;
+use machine_steps::{Arg, Host, Use};
+use machine_value::Value;
+use meta_nested::{MetaNameValueInvalidExpr, NestedMeta, spanned};
+use node_expr::{Path, Type};
+use node_span::Spanned;
 use std::alloc::Global;
+use tok_types::Ident;
 
 /// What types are read under: the setting, and what the declarations that they may name read.
 pub struct Scope<'a, H, D> {
@@ -112,7 +116,7 @@ impl<H: Host, D: Declared> Scope<'_, H, D> {
 
     /// An item at the type of one value: by the field's own reader, where it has one, and then through its transform. A lone
     /// fault without a place stands at the item.
-    #[tactic(auto, using(meta_cells::proofs::PlaceLemmas::answers_at))]
+    #[tactic(auto, using(meta_nested::proofs::PlaceLemmas::answers_at))]
     pub fn read_at(
         &self,
         room: usize,
@@ -194,5 +198,5 @@ fn transform_use(transform: &PostfixTransform) -> Use
 fn is_and_then(ident: &Ident) -> bool
     ensures { result ≡ bytes_eq (ident_text ident.now) (codes "and_then") }
 {
-    !ident.raw && ident.text.as_str() == "and_then"
+    !ident.raw && ident.text.is("and_then")
 }

@@ -3,25 +3,28 @@
 ghost use Rattle.std.specs.Prelude.{◌≡◌, ◌∷◌, IfOk, Some, None};
 ghost use Rattle.error_core.specs.Answers.{Answers};
 ghost use Rattle.error_core.specs.ErrorView.{leaves};
-ghost use Rattle.machine_steps.specs.Erased.{erased_type};
-ghost use Rattle.machine_steps.specs.Defaults.{row_default};
+ghost use Rattle.law_spans.specs.Erased.{erased_type};
+ghost use Rattle.machine_leaf.specs.Defaults.{row_default};
 ghost use Rattle.machine_steps.specs.HostSays.{erased_decls, erased_place};
 ghost use Rattle.machine_steps.specs.Seen.{IdentSeen, seen_arg, seen_item};
 ghost use Rattle.machine_read.specs.Scopes.{seen_setting};
 ghost use Rattle.machine_steps.specs.Convert as convert;
 ghost use Rattle.machine_steps.specs.Setting as spec;
-ghost use Rattle.meta_cells.specs.Cells.{AnswersCell, cell_at};
+ghost use Rattle.meta_nested.specs.Cells.{AnswersCell, cell_at};
 
 use crate::values::{inherit, spanned_value};
+use base_core::{Items, Mem, Text, TryClone};
 use error_core::{Error, Fail, Result};
 use error_fault::Fault;
-use machine_leaf::leaf_default;
+use machine_leaf::{Callable, leaf_default};
 use machine_rows::{Row, element_among, row_among};
-use machine_steps::{Arg, Callable, Host, HostItem, Place, Said, Use, named_type};
-use machine_value::{Items, Mem, Span, Text, TryClone, Value};
-use meta_cells::Call;
-use node_core::{DeriveInput, Ident, Type};
+use machine_steps::{Arg, Host, HostItem, Place, Said, Use, named_type};
+use machine_value::Value;
+use meta_nested::Call;
+use node_core::DeriveInput;
+use node_expr::Type;
 use std::alloc::Global;
+use tok_types::{Ident, Span};
 
 /// What a declaration is read under: the host, and the declarations of the program.
 #[derive(Clone, Copy)]
@@ -181,9 +184,9 @@ fn error_of(alloc: Global, first: Fault, more: Items<Fault>) -> Mem<Error>
     ensures { IfOk result (λ error. leaves error ≡ first ∷ more) }
 {
     let mut errors = Vec::new(alloc);
-    errors.push(Error::from_fault(alloc, first))?;
+    errors.push(Error::from_fault(alloc, first)?)?;
     for fault in more.into_vec() {
-        errors.push(Error::from_fault(alloc, fault))?;
+        errors.push(Error::from_fault(alloc, fault)?)?;
     }
     Error::multiple(alloc, errors)
 }

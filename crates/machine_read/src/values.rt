@@ -7,11 +7,13 @@ ghost use Rattle.error_fault.specs.Outcome as outcomes;
 ghost use Rattle.machine_leaf.specs.Override.TheVariants.{Explicit, Inherit};
 ghost use Rattle.machine_leaf.specs.Values as spec;
 
+use base_core::{Items, Mem, Text};
 use error_core::Error;
 use machine_leaf::syntax_value;
-use machine_value::{Items, Mem, Span, Style, Text, Value};
-use node_core::Meta;
+use machine_value::Value;
+use node_core::{Meta, Style};
 use std::alloc::Global;
+use tok_types::Span;
 
 /// A struct of this name, so written, with these members.
 fn struct_with(alloc: Global, name: &str, style: Style, fields: Items<(Text, Value)>) -> Mem<Value>

@@ -1,7 +1,7 @@
 //! What a type that holds one type answers to a call itself.
 
 ghost use Rattle.std.specs.Prelude.{◌≡◌};
-ghost use Rattle.meta_cells.specs.Cells.{AnswersCell, cell_at};
+ghost use Rattle.meta_nested.specs.Cells.{AnswersCell, cell_at};
 ghost use Rattle.machine_leaf.specs.Wrappers.{box_cells as boxed_cells};
 ghost use Rattle.machine_leaf.specs.Wrapped as spec;
 ghost use Rattle.machine_read.specs.Wrapped.{wrapper_cells};
@@ -9,12 +9,14 @@ ghost use Rattle.machine_read.specs.Wrapped.{wrapper_cells};
 use crate::map::{hash_map_cell, tree_map_cell};
 use crate::reader::Reader;
 use crate::{around, values};
-use error_core::{Result, Span, Spanned};
+use error_core::Result;
 use machine_rows::Wrapper;
 use machine_value::Value;
-use meta_cells::Call;
+use meta_nested::Call;
 use node_core::Meta;
+use node_span::Spanned;
 use std::alloc::Global;
+use tok_types::Span;
 
 /// By the name of the type, around the type that `inner` reads.
 pub(crate) fn wrapper_cell<R: Reader>(

@@ -4,7 +4,7 @@ ghost use Rattle.std.specs.Prelude.{◌≡◌, position};
 ghost use Rattle.machine_rows.specs.Paths.{same_ident};
 
 use node_core::DeriveInput;
-use node_expr::Ident;
+use tok_types::Ident;
 
 /// Declarations in their order, which are asked for one by its name. To ask takes no memory.
 pub trait Names {
@@ -46,5 +46,5 @@ fn declared_at(decls: &[DeriveInput], name: &Ident) -> Option<usize>
 fn same_ident(a: &Ident, b: &Ident) -> bool
     ensures { result ≡ same_ident a.now b.now }
 {
-    a.text.as_str() == b.text.as_str()
+    a.text == b.text
 }

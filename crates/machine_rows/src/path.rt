@@ -7,7 +7,8 @@ ghost use Rattle.machine_rows.specs.Table.{home_path};
 use crate::name::{Home, Name};
 use crate::names::Names;
 use crate::table::named;
-use node_expr::{Ident, PathArguments, PathSegment, Type};
+use node_expr::{PathArguments, PathSegment, Type};
+use tok_types::Ident;
 
 /// What a path names: a declaration by its number, a name of the table, or neither.
 #[derive(Clone, Copy)]
@@ -117,6 +118,6 @@ fn is_bare(segment: &PathSegment, name: &str) -> bool
     ensures { result ≡ spec.is_bare name.now segment.now }
 {
     !segment.ident.raw
-        && segment.ident.text.as_str() == name
+        && segment.ident.text.is(name)
         && matches!(segment.arguments, PathArguments::None)
 }

@@ -10,8 +10,10 @@ use crate::name::Name;
 use crate::names::Names;
 use crate::path::{Meant, meant_by, segments_in};
 use crate::row::{Row, around};
-use node_expr::{Ident, Mem, TryClone, Type};
+use base_core::{Mem, TryClone};
+use node_expr::Type;
 use std::alloc::Global;
+use tok_types::Ident;
 
 /// How deep a type is looked into. No type of a text is deeper.
 const MAX_DEPTH: usize = 256;

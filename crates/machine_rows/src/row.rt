@@ -5,7 +5,8 @@ ghost use Rattle.machine_rows.specs.Rows as spec;
 
 use crate::leaf::Leaf;
 use crate::wrapper::{HashKey, TreeKey, Wrapper};
-use node_expr::{Boxed, Mem, TryClone, Type};
+use base_core::{Boxed, Mem, TryClone};
+use node_expr::Type;
 use std::alloc::Global;
 
 /// What a type means: a row of the table with the rows of what it holds, a declaration by its number, or

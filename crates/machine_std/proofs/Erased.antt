@@ -20,9 +20,9 @@ use Rattle.node_core.specs.declared.data.Fields.TheVariants as fields
 use Rattle.node_core.specs.declared.data.«Data».{«Data»}
 use Rattle.node_core.specs.declared.data.«Data».TheVariants as body
 use Rattle.node_core.specs.declared.derive.DeriveInput.{DeriveInput}
-use Rattle.machine_cells.specs.Callable.{Callable}
-use Rattle.machine_host.specs.Erased.{erased_expr, erased_ident, erased_path, erased_qself, erased_type}
-use Rattle.machine_host.specs.ItemErased.{erased_data, erased_derive_input, erased_field, erased_fields}
+use Rattle.machine_host.specs.Callable.{Callable}
+use Rattle.law_spans.specs.Erased.{erased_expr, erased_ident, erased_path, erased_qself, erased_type}
+use Rattle.law_spans_items.specs.Erased.{erased_data, erased_derive_input, erased_field, erased_fields}
 use Rattle.law_equality.proofs.Exprs.{bare_expr}
 use Rattle.machine_rows.specs.Heads.{head_of}
 use Rattle.machine_rows.specs.Paths.{are_bare, segments_in}

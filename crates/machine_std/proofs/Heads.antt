@@ -19,7 +19,7 @@ use Rattle.node_expr.specs.declared.ty.«Type».{«Type» as Type', out-Type}
 use Rattle.node_expr.specs.declared.ty.TypePath.{TypePath, out-TypePath}
 use Rattle.node_make.specs.PathText.{path_text, segment_text}
 use Rattle.node_make.proofs.PathTexts.{join_by-map}
-use Rattle.machine_host.specs.Erased.{erased_argument, erased_arguments, erased_ident, erased_path, erased_qself, erased_segment, erased_type}
+use Rattle.law_spans.specs.Erased.{erased_argument, erased_arguments, erased_ident, erased_path, erased_qself, erased_segment, erased_type}
 use Rattle.law_equality.proofs.Arguments.{bare_argument}
 use Rattle.law_equality.proofs.PathArguments.{bare_arguments}
 use Rattle.law_equality.proofs.Types.{bare_type}

@@ -8,7 +8,7 @@ use Rattle.node_expr.specs.declared.path.PathArguments.{PathArguments, roll-Path
 use Rattle.node_expr.specs.declared.path.PathSegment.{PathSegment, roll-PathSegment, out-PathSegment, roll-out-PathSegment, out-roll-PathSegment}
 use Rattle.node_expr.specs.declared.ty.«Type».{«Type» as Type', roll-Type, out-Type, roll-out-Type, out-roll-Type}
 use Rattle.node_expr.specs.declared.ty.TypePath.{TypePath, roll-TypePath, out-TypePath, roll-out-TypePath, out-roll-TypePath}
-use Rattle.machine_host.specs.Erased.{erased_argument, erased_arguments, erased_expr, erased_expr_path, erased_path, erased_segment, erased_type, erased_type_path}
+use Rattle.law_spans.specs.Erased.{erased_argument, erased_arguments, erased_expr, erased_expr_path, erased_path, erased_segment, erased_type, erased_type_path}
 use Rattle.law_equality.proofs.Arguments.{bare_argument, argument-bare}
 use Rattle.law_equality.proofs.Exprs.{bare_expr, expr-bare}
 use Rattle.law_equality.proofs.PathArguments.{bare_arguments, arguments-bare}

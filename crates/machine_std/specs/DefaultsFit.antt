@@ -18,7 +18,7 @@ use Rattle.node_core.specs.declared.data.«Data».TheVariants as body
 use Rattle.node_core.specs.declared.derive.DeriveInput.{DeriveInput}
 use Rattle.node_core.specs.Style.{style_of}
 use Rattle.node_core.specs.declared.style.Style.TheVariants as style
-use Rattle.machine_cells.specs.Override.TheVariants.{Inherit}
+use Rattle.machine_host.specs.Override.TheVariants.{Inherit}
 use Rattle.machine_rows.specs.Heads.{head_of}
 use Rattle.machine_rows.specs.Rows.{around, row_at, row_by, row_of}
 use Rattle.machine_rows.specs.declared.head.Head.{Head}

@@ -7,7 +7,3 @@ pub mod StdSays
 pub mod DefaultRows
 pub mod DefaultsFit
 pub mod StdLaws
-pub use Rattle.machine_host.specs.HostSays
-pub use Rattle.machine_host.specs.Lawful
-pub use Rattle.machine_host.specs.Made
-pub use Rattle.machine_host.specs.Seen

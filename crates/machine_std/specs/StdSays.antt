@@ -4,8 +4,8 @@ use Rattle.base_core.specs.declared.text.Text.{Text}
 use Rattle.node_expr.specs.declared.path.Path.{Path}
 use Rattle.node_expr.specs.declared.ty.«Type».{«Type» as Type'}
 use Rattle.error_fault.specs.Outcome.{Outcome, Value, Faults}
-use Rattle.machine_cells.specs.Dispatch.{from_meta, from_list, from_invalid_expr}
-use Rattle.machine_cells.specs.Rows.{text_cells}
+use Rattle.machine_host.specs.Dispatch.{from_meta, from_list, from_invalid_expr}
+use Rattle.machine_host.specs.Rows.{text_cells}
 use Rattle.machine_rows.specs.Paths.{are_bare, segments_in}
 use Rattle.machine_value.specs.declared.value.Value.TheVariants as value
 use Rattle.machine_host.specs.HostSays.{HostSays}

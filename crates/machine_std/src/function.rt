@@ -10,10 +10,13 @@ ghost use Rattle.machine_std.specs.Texts.{trimmed as trimmed_text};
 
 use crate::path_text::is_text_of;
 use crate::texts::trimmed;
-use base_core::Text;
-use machine_host::{Arg, Callable, Place, Said, Use, Value, custom};
+use base_core::{Mem, Text};
+use machine_host::{Arg, Callable, Place, Said, Use, custom};
 use machine_rows::{Head, Integer, Leaf, head_of};
-use node_core::{DeriveInput, Expr, Mem, Path, Type, path_to_string};
+use machine_value::Value;
+use node_core::DeriveInput;
+use node_expr::{Expr, Path, Type};
+use node_make::path_to_string;
 use std::alloc::Global;
 
 /// A function that an option may name.

@@ -22,7 +22,8 @@ ghost use Rattle.machine_std.specs.Rests.{head_default, rests_on as rests};
 use crate::make_default::{MAX_LEVEL, declaration, named_in};
 use crate::marks::{is_marked, mark};
 use machine_rows::{Head, Leaf, Wrapper, head_of};
-use node_core::{DeriveInput, Field, Type};
+use node_core::{DeriveInput, Field};
+use node_expr::Type;
 
 /// The words of a short list of marks, which is cheap to make. A word marks 32 declarations.
 const FEW: usize = 32;

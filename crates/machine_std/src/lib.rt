@@ -13,8 +13,4 @@ mod std_host;
 mod tag;
 mod texts;
 
-pub use machine_cells::NestedMeta;
-pub use machine_host::{
-    Arg, Callable, Host, HostItem, Place, RefusingHost, Said, Use, Value, what_fits_a_type,
-};
 pub use std_host::StdHost;

@@ -4,7 +4,7 @@ ghost use Rattle.std.specs.Prelude.{◌≡◌, IfOk, OnOk, ◌++◌, ◌∷◌, 
 ghost use Rattle.std.specs.Option.{option_copied};
 ghost use Rattle.machine_cells.specs.Defaults.{layer_default, leaf_default as default_of_leaf, row_default};
 ghost use Rattle.machine_cells.specs.Values.{given, ignored as ignored_value, spanned as spanned_value};
-ghost use Rattle.machine_cells.specs.Override.TheVariants.{Inherit};
+ghost use Rattle.machine_host.specs.Override.TheVariants.{Inherit};
 ghost use Rattle.machine_host.specs.Decls.{decl_names, member_name};
 ghost use Rattle.machine_rows.specs.Heads.{seen_head};
 ghost use Rattle.machine_rows.specs.Rows.{row_at};
@@ -15,11 +15,13 @@ ghost use Rattle.machine_std.specs.Defaults as spec;
 ghost use Rattle.machine_std.specs.Defaults.{none_of_host};
 ghost use Rattle.machine_std.specs.Rests.{around_layer, head_default};
 
-use base_core::{Items, Text};
+use base_core::{Items, Mem, Text};
 use machine_rows::{Head, Leaf, Wrapper, head_of};
 use machine_value::Value;
-use node_core::{Data, DeriveInput, Field, Fields, Ident, Mem, Span, Style, Type};
+use node_core::{Data, DeriveInput, Field, Fields, Style};
+use node_expr::Type;
 use std::alloc::{AllocError, Global};
+use tok_types::{Ident, Span};
 
 /// How deep a type is looked into.
 pub const MAX_LEVEL: usize = 256;

@@ -10,9 +10,12 @@ use crate::function::{function_for, is_transform, unasked};
 use crate::has_default::has_default;
 use crate::make_default::{ROOM, declaration_default};
 use crate::tag::{is_tag, read_tag};
-use machine_host::{Arg, Callable, Host, HostItem, Place, Said, Value, named_type};
+use base_core::Mem;
+use machine_host::{Arg, Callable, Host, HostItem, Place, Said, named_type};
 use machine_rows::{Head, head_of};
-use node_core::{DeriveInput, Mem, Path, Type};
+use machine_value::Value;
+use node_core::DeriveInput;
+use node_expr::{Path, Type};
 use std::alloc::Global;
 
 /// The host of the program. It offers seven functions by the texts of their paths, knows the type `Tag`, and has the

@@ -8,12 +8,12 @@ ghost use Rattle.error_fault.specs.Outcome.{Outcome};
 ghost use Rattle.machine_host.specs.Seen.{seen_item};
 ghost use Rattle.machine_std.specs.StdSays as spec;
 
-use base_core::Text;
+use base_core::{Mem, Text};
 use error_core::{Error, Result};
-use machine_cells::FromMeta;
-use machine_host::{HostItem, Said, Value};
+use machine_host::{FromMeta, HostItem, Said};
 use machine_rows::is_named;
-use node_core::{Mem, Type};
+use machine_value::Value;
+use node_expr::Type;
 use std::alloc::{AllocError, Global};
 
 /// Whether the type is `Tag`.

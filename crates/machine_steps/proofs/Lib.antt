@@ -1,2 +1,1 @@
 pub mod Statements
-pub use Rattle.machine_cells.proofs.Showing

@@ -1,6 +1,6 @@
 -- Each declaration is read with those of lower numbers.
 use Rattle.std.specs.Prelude.{ℕ, zero, suc, ◌==◌, List, cond, codes}
-use Rattle.machine_cells.specs.NestedMeta.{NestedMeta}
+use Rattle.machine_host.specs.NestedMeta.{NestedMeta}
 use Rattle.error_fault.specs.Outcome.{Outcome, refused}
 use Rattle.error_fault.specs.declared.kind.FaultKind.TheVariants.{Custom}
 use Rattle.machine_value.specs.declared.value.Value.{Value as Datum}

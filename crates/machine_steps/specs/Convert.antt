@@ -3,10 +3,10 @@ use Rattle.std.specs.Prelude.{ℕ, List, Option, Some, None, unwrap_or, slice_ge
 use Rattle.node_core.specs.declared.derive.DeriveInput.{DeriveInput}
 use Rattle.node_expr.specs.declared.ty.«Type».{«Type» as Type'}
 use Rattle.error_fault.specs.Outcome.{Outcome}
-use Rattle.machine_host.specs.Erased.{erased_type}
-use Rattle.machine_cells.specs.NestedMeta.{NestedMeta}
-use Rattle.machine_cells.specs.Cells.{Cells, no_cells}
-use Rattle.machine_cells.specs.Dispatch.{by_nested_meta, from_list, from_none}
+use Rattle.law_spans.specs.Erased.{erased_type}
+use Rattle.machine_host.specs.NestedMeta.{NestedMeta}
+use Rattle.machine_host.specs.Cells.{Cells, no_cells}
+use Rattle.machine_host.specs.Dispatch.{by_nested_meta, from_list, from_none}
 use Rattle.machine_cells.specs.Defaults.{row_default}
 use Rattle.machine_cells.specs.RowCells.{row_cells}
 use Rattle.machine_host.specs.HostSays.{erased_decls}

@@ -9,20 +9,14 @@ pub mod Progress
 pub mod Slots
 pub mod Statements
 pub mod Machine
-pub use Rattle.machine_cells.specs.Cells
 pub use Rattle.machine_cells.specs.Defaults
-pub use Rattle.machine_cells.specs.Dispatch
-pub use Rattle.machine_cells.specs.Leaves
-pub use Rattle.machine_cells.specs.NestedMeta
-pub use Rattle.machine_cells.specs.Nodes
-pub use Rattle.machine_cells.specs.RowCells
-pub use Rattle.machine_cells.specs.Rows
-pub use Rattle.machine_cells.specs.Shown
-pub use Rattle.machine_cells.specs.Trees
+pub use Rattle.machine_host.specs.Callable
 pub use Rattle.machine_host.specs.Decls
-pub use Rattle.machine_host.specs.Erased
+pub use Rattle.machine_host.specs.Dispatch
 pub use Rattle.machine_host.specs.HostSays
+pub use Rattle.machine_host.specs.Lawful
 pub use Rattle.machine_host.specs.Made
-pub use Rattle.machine_host.specs.Refusing
+pub use Rattle.machine_host.specs.MetaNestedNodes as Nodes
+pub use Rattle.machine_host.specs.NestedMeta
 pub use Rattle.machine_host.specs.Seen
 pub use Rattle.machine_host.specs.declared.place.Use

@@ -2,7 +2,7 @@
 use Rattle.std.specs.Prelude.{ℕ, ◌==◌, Bool, true, false, ◌&&◌, List, [], ◌∷◌, Option, Some, None, option_and_then, if◌then◌else◌}
 use Rattle.node_expr.specs.declared.ty.«Type».{«Type» as Type'}
 use Rattle.node_core.specs.declared.derive.DeriveInput.{DeriveInput}
-use Rattle.machine_cells.specs.NestedMeta.{NestedMeta}
+use Rattle.machine_host.specs.NestedMeta.{NestedMeta}
 use Rattle.error_fault.specs.Outcome.{Outcome}
 use Rattle.machine_host.specs.HostSays.{HostSays}
 use Rattle.machine_host.specs.Made.{named_type}

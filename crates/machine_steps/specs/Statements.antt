@@ -7,8 +7,8 @@ use Rattle.node_expr.specs.declared.ty.«Type».{«Type» as Type'}
 use Rattle.node_core.specs.declared.attr.Attribute.{Attribute}
 use Rattle.node_core.specs.declared.attr.Meta.{Meta}
 use Rattle.node_core.specs.declared.attr.Meta.TheVariants as meta
-use Rattle.machine_cells.specs.NestedMeta.{NestedMeta}
-use Rattle.machine_cells.specs.Dispatch.{items_of}
+use Rattle.machine_host.specs.NestedMeta.{NestedMeta}
+use Rattle.machine_host.specs.Dispatch.{items_of}
 use Rattle.error_fault.specs.declared.fault.Fault.{Fault}
 use Rattle.error_fault.specs.Faults.{at}
 use Rattle.error_fault.specs.Outcome.{Outcome, Value, Faults, on_value}

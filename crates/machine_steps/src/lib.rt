@@ -5,9 +5,7 @@
 
 mod laws;
 
-pub use codegen_program::{Program, Stmt, Unit};
 pub use laws::statements_run_in_order;
-pub use machine_cells::{
-    Callable, FromMeta, NestedMeta, ParseFail, item_front, items_of, parse_items,
+pub use machine_host::{
+    Arg, Callable, Host, HostItem, Place, RefusingHost, Said, Use, named_type, what_fits_a_type,
 };
-pub use machine_host::{Arg, Host, HostItem, Place, Said, Use, named_type};

@@ -2,4 +2,4 @@ pub mod EntryLemmas
 pub mod MapLemmas
 pub mod SetLemmas
 pub mod TableLemmas
-pub use Rattle.meta_cells.proofs.PlaceLemmas
+pub use Rattle.meta_nested.proofs.PlaceLemmas

@@ -16,12 +16,12 @@ use Rattle.error_fault.specs.Fault.{at_span}
 use Rattle.error_fault.specs.Outcome.{Outcome, Value, Faults, bind, refused}
 use Rattle.error_core.specs.Each.{each, every}
 use Rattle.error_fault.specs.declared.kind.FaultKind.TheVariants.{Custom, UnexpectedFormat}
-use Rattle.meta_cells.specs.NestedMeta.{NestedMeta}
-use Rattle.meta_cells.specs.NestedMeta.TheVariants as nested
-use Rattle.meta_cells.specs.Cells.{Cells, no_cells}
-use Rattle.meta_cells.specs.Dispatch.{from_expr, from_nested_meta, from_value}
-use Rattle.meta_cells.specs.Groups.{in_group, without_groups}
-use Rattle.meta_kinds.specs.Parsed.{parsed_text}
+use Rattle.meta_nested.specs.declared.nested.NestedMeta.{NestedMeta}
+use Rattle.meta_nested.specs.declared.nested.NestedMeta.TheVariants as nested
+use Rattle.meta_nested.specs.Cells.{Cells, no_cells}
+use Rattle.meta_nested.specs.Dispatch.{from_expr, from_nested_meta, from_value}
+use Rattle.meta_nested.specs.Groups.{in_group, without_groups}
+use Rattle.meta_reads.specs.Parsed.{parsed_text}
 
 -- ---- arrays
 

@@ -17,10 +17,10 @@ use Rattle.error_fault.specs.Fault.{plain, at_span}
 use Rattle.error_fault.specs.Outcome.{Outcome, Value, Faults, faults_of, on_value, settle, under}
 use Rattle.error_fault.specs.declared.fault.Fault.{Fault}
 use Rattle.error_fault.specs.declared.kind.FaultKind.TheVariants.{DuplicateField, UnexpectedFormat}
-use Rattle.meta_cells.specs.NestedMeta.{NestedMeta}
-use Rattle.meta_cells.specs.NestedMeta.TheVariants as nested
-use Rattle.meta_cells.specs.Cells.{Cells, no_cells}
-use Rattle.meta_cells.specs.Dispatch.{from_meta, from_invalid_expr}
+use Rattle.meta_nested.specs.declared.nested.NestedMeta.{NestedMeta}
+use Rattle.meta_nested.specs.declared.nested.NestedMeta.TheVariants as nested
+use Rattle.meta_nested.specs.Cells.{Cells, no_cells}
+use Rattle.meta_nested.specs.Dispatch.{from_meta, from_invalid_expr}
 
 -- a path, and what is read behind it, whose faults stand in the field of that name
 abbrev pub pair : {A : Type 0} → Path → Outcome A → Option (Path × Outcome A)

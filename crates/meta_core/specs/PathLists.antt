@@ -6,10 +6,10 @@ use Rattle.node_expr.specs.declared.path.Path.{Path}
 use Rattle.error_fault.specs.Fault.{at_span}
 use Rattle.error_fault.specs.Outcome.{Outcome, Value, Faults}
 use Rattle.error_fault.specs.declared.kind.FaultKind.TheVariants.{UnexpectedType}
-use Rattle.meta_cells.specs.Nodes.{nested_span}
-use Rattle.meta_cells.specs.NestedMeta.{NestedMeta}
-use Rattle.meta_cells.specs.NestedMeta.TheVariants as nested
-use Rattle.meta_cells.specs.Cells.{Cells, no_cells}
+use Rattle.meta_nested.specs.Nodes.{nested_span}
+use Rattle.meta_nested.specs.declared.nested.NestedMeta.{NestedMeta}
+use Rattle.meta_nested.specs.declared.nested.NestedMeta.TheVariants as nested
+use Rattle.meta_nested.specs.Cells.{Cells, no_cells}
 use Rattle.meta_core.specs.Keys.{path_same}
 use Rattle.error_core.specs.Each.{each}
 

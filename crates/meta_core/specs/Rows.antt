@@ -40,14 +40,14 @@ use Rattle.node_core.specs.declared.generics.WhereClause.{WhereClause}
 use Rattle.node_core.specs.declared.punctuated.Comma.{Comma}
 use Rattle.node_core.specs.declared.punctuated.Punctuated.{Punctuated}
 use Rattle.syn_grammar.specs.Trees.{type_of, expr_array_of, expr_path_of, expr_range_of, exprs_of, idents_of, paths_of, fn_args_of}
-use Rattle.meta_cells.specs.Trees.{type_param_of, visibility_of, where_of}
-use Rattle.meta_kinds.specs.Exprs.{expr_kind_cells}
-use Rattle.meta_kinds.specs.Kinds.{type_of_kind, array_type_in, fn_ptr_type_in, group_type_in, impl_trait_type_in, infer_type_in, never_type_in, paren_type_in, ptr_type_in, reference_type_in, slice_type_in, trait_object_type_in, tuple_type_in}
-use Rattle.meta_kinds.specs.Parsed.{punctuated}
-use Rattle.meta_kinds.specs.Syntax.{list_cells, syntax_cells}
+use Rattle.syn_items.specs.Trees.{type_param_of, visibility_of, where_of}
+use Rattle.meta_reads.specs.Exprs.{expr_kind_cells}
+use Rattle.meta_reads.specs.Kinds.{type_of_kind, array_type_in, fn_ptr_type_in, group_type_in, impl_trait_type_in, infer_type_in, never_type_in, paren_type_in, ptr_type_in, reference_type_in, slice_type_in, trait_object_type_in, tuple_type_in}
+use Rattle.meta_reads.specs.Parsed.{punctuated}
+use Rattle.meta_reads.specs.Syntax.{list_cells, syntax_cells}
 use Rattle.error_fault.specs.Outcome.{Value}
-use Rattle.meta_cells.specs.Cells.{Cells, no_cells}
-use Rattle.meta_cells.specs.Dispatch.{known}
+use Rattle.meta_nested.specs.Cells.{Cells, no_cells}
+use Rattle.meta_nested.specs.Dispatch.{known}
 use Rattle.meta_reads.specs.Integers.{unsigned_cells, signed_cells, non_zero_unsigned_cells, non_zero_signed_cells}
 use Rattle.meta_reads.specs.Literals.{literal_cells, lit_bool_in, lit_byte_in, lit_byte_str_in, lit_char_in, lit_float_in, lit_int_in}
 use Rattle.meta_reads.specs.Words.{bool_in, char_in, no_items}
@@ -151,7 +151,7 @@ non_zero_i128_cells = non_zero_signed_cells (2 ^ 127)
 abbrev pub non_zero_isize_cells : Cells ℤ
 non_zero_isize_cells = non_zero_signed_cells (2 ^ 63)
 
--- ---- names, paths and expressions (`ident_cells`, `path_cells`, `expr_cells`, `type_path_cells` stand in `meta_kinds`)
+-- ---- names, paths and expressions (`ident_cells`, `path_cells`, `expr_cells`, `type_path_cells` stand in `meta_reads`)
 
 abbrev pub expr_array_cells : Cells (ExprArray Expr)
 expr_array_cells = expr_kind_cells array_in expr_array_of
@@ -207,7 +207,7 @@ trait_object_type_cells = kind_cells trait_object_type_in
 abbrev pub tuple_type_cells : Cells (TypeTuple Type')
 tuple_type_cells = kind_cells tuple_type_in
 
--- ---- parameters, visibilities, `where` clauses (`where_predicates_cells` stands in `meta_kinds`)
+-- ---- parameters, visibilities, `where` clauses (`where_predicates_cells` stands in `meta_reads`)
 
 abbrev pub type_param_cells : Cells TypeParam
 type_param_cells = syntax_cells (codes "expected a type parameter") type_param_of

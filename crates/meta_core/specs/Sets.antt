@@ -5,8 +5,8 @@ use Rattle.base_core.specs.declared.text.Text.{Text}
 use Rattle.tok_types.specs.declared.span.Span.{Span}
 use Rattle.error_fault.specs.Outcome.{Outcome, Value, Faults, settle}
 use Rattle.error_fault.specs.declared.fault.Fault.{Fault}
-use Rattle.meta_cells.specs.NestedMeta.{NestedMeta}
-use Rattle.meta_cells.specs.Cells.{Cells, no_cells}
+use Rattle.meta_nested.specs.declared.nested.NestedMeta.{NestedMeta}
+use Rattle.meta_nested.specs.Cells.{Cells, no_cells}
 use Rattle.meta_core.specs.Maps.{repeated, with_key}
 
 -- whether what is read is this name

@@ -4,8 +4,8 @@ use Rattle.node_core.specs.declared.attr.Meta.{Meta}
 use Rattle.error_fault.specs.Outcome.{Outcome, Value, Faults, on_value}
 use Rattle.error_core.specs.Answers.{refusal}
 use Rattle.error_core.specs.ErrorView.{ErrorView}
-use Rattle.meta_cells.specs.Cells.{Cells, no_cells}
-use Rattle.meta_cells.specs.Dispatch.{from_list, from_meta, from_none}
+use Rattle.meta_nested.specs.Cells.{Cells, no_cells}
+use Rattle.meta_nested.specs.Dispatch.{from_list, from_meta, from_none}
 
 -- what is seen of a result that keeps an error: an outcome
 abbrev pub outcome_of : {X A : Type 0} → (X → A) → Result X ErrorView → Outcome A

@@ -2,13 +2,17 @@
 
 ghost use Rattle.std.specs.Prelude.{◌≡◌, IfOk};
 ghost use Rattle.error_core.specs.Answers.{Answers};
-ghost use Rattle.meta_cells.specs.Cells.{AnswersCell, Cells, GivesNone, cell_at};
-ghost use Rattle.meta_cells.specs.Dispatch as spec;
+ghost use Rattle.meta_nested.specs.Cells.{AnswersCell, Cells, GivesNone, cell_at};
+ghost use Rattle.meta_nested.specs.Dispatch as spec;
 
-use error_core::{Error, Expr, Fail, Lit, Mem, Result, Span, Spanned, TryClone};
-use meta_cells::{Call, MetaNameValueInvalidExpr, NestedMeta, items_of, spanned, without_groups};
+use base_core::{Mem, TryClone};
+use error_core::{Error, Fail, Result};
+use meta_nested::{Call, MetaNameValueInvalidExpr, NestedMeta, items_of, spanned, without_groups};
 use node_core::Meta;
+use node_expr::{Expr, Lit};
+use node_span::Spanned;
 use std::alloc::{AllocError, Global};
+use tok_types::Span;
 
 /// A type that is read from a nested item of an attribute, as in `#[my(name = "x", count = 3)]`.
 ///
@@ -87,7 +91,7 @@ pub trait FromMeta: Sized {
 
     /// A literal. By default a string, a character and a Boolean go by their calls, and no other is a value of the
     /// type.
-    #[tactic(auto, using(meta_cells::proofs::PlaceLemmas::answers_at))]
+    #[tactic(auto, using(meta_nested::proofs::PlaceLemmas::answers_at))]
     final fn from_value(alloc: Global, value: &Lit) -> Result<Self>
         ensures { Answers seen result (spec.from_value cells value.now) }
     {
@@ -106,7 +110,7 @@ pub trait FromMeta: Sized {
 
     /// The value of `path = value`. By default invisible groups around it are looked through, a literal goes by
     /// [`from_value`](FromMeta::from_value), and no other expression is a value of the type.
-    #[tactic(auto, using(meta_cells::proofs::PlaceLemmas::answers_at))]
+    #[tactic(auto, using(meta_nested::proofs::PlaceLemmas::answers_at))]
     final fn from_expr(alloc: Global, expr: &Expr) -> Result<Self>
         ensures { Answers seen result (spec.from_expr cells expr.now) }
     {
@@ -132,7 +136,7 @@ pub trait FromMeta: Sized {
     }
 
     /// A meta. By default a word, a list and a value go by their calls.
-    #[tactic(auto, using(meta_cells::proofs::PlaceLemmas::answers_at))]
+    #[tactic(auto, using(meta_nested::proofs::PlaceLemmas::answers_at))]
     final fn from_meta(alloc: Global, item: &Meta) -> Result<Self>
         ensures { Answers seen result (spec.from_meta cells item.now) }
     {
@@ -152,7 +156,7 @@ pub trait FromMeta: Sized {
     }
 
     /// A nested item. By default a meta, a literal and a bad value go by their calls.
-    #[tactic(auto, using(meta_cells::proofs::PlaceLemmas::answers_at))]
+    #[tactic(auto, using(meta_nested::proofs::PlaceLemmas::answers_at))]
     final fn from_nested_meta(alloc: Global, item: &NestedMeta) -> Result<Self>
         ensures { Answers seen result (spec.from_nested_meta cells item.now) }
     {

@@ -1,11 +1,11 @@
 //! Tags of types: whether a type is asked for its value where no item is.
 
 ghost use Rattle.std.specs.Prelude.{◌≡◌, None, IfOk};
-ghost use Rattle.meta_cells.specs.Cells.{GivesNone};
-ghost use Rattle.meta_cells.specs.Dispatch as spec;
+ghost use Rattle.meta_nested.specs.Cells.{GivesNone};
+ghost use Rattle.meta_nested.specs.Dispatch as spec;
 
 use crate::from_meta::FromMeta;
-use error_core::Mem;
+use base_core::Mem;
 use std::alloc::Global;
 use std::marker::PhantomData;
 

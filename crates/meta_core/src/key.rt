@@ -3,9 +3,12 @@
 ghost use Rattle.std.specs.Prelude.{◌≡◌, IfOk};
 ghost use Rattle.error_core.specs.Answers.{Answers};
 
-use error_core::{Error, Fail, Mem, Result, Text, TryClone};
-use node_core::{Ident, Path, path_to_string};
+use base_core::{Mem, Text, TryClone};
+use error_core::{Error, Fail, Result};
+use node_expr::Path;
+use node_make::path_to_string;
 use std::alloc::Global;
+use tok_types::Ident;
 
 /// A type that a map's keys have: each is read from the path of an item.
 pub trait KeyFromPath: Sized {

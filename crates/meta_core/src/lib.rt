@@ -11,22 +11,32 @@ mod map_key;
 mod path_list;
 mod rows;
 
-pub use error_core::{Error, Fail, Result, Spanned};
+pub use base_core::{Boxed, Items, Mem, Text, TryClone};
+pub use error_core::{Error, Fail, Result};
 pub use from_meta::FromMeta;
 pub use from_meta_tag::{FromMetaTag, FromMetaTagAll};
 pub use key::KeyFromPath;
 pub use map_key::{KeySet, MapKey};
-pub use meta_cells::{
-    Call, MetaNameValueInvalidExpr, NestedMeta, Parse, ParseFail, item_front, items_of, parse_expr,
-    parse_items, parse_path, spanned, without_groups,
+pub use meta_nested::{
+    Call, MetaNameValueInvalidExpr, NestedMeta, items_of, spanned, without_groups,
 };
-pub use meta_reads::{read_non_zero_signed, read_non_zero_unsigned, read_signed, read_unsigned};
+pub use meta_reads::{
+    read_non_zero_signed, read_non_zero_unsigned, read_signed, read_unsigned, tokens_of_text,
+};
 pub use node_core::{
-    Boxed, Comma, Expr, ExprArray, ExprPath, ExprRange, FnArg, Ident, Items, Lit, LitBool, LitByte,
-    LitByteStr, LitChar, LitFloat, LitInt, LitStr, Mem, Meta, MetaList, MetaNameValue, Path,
-    Punctuated, Span, SynError, Text, TokenStream, TryClone, Type, TypeArray, TypeFnPtr, TypeGroup,
-    TypeImplTrait, TypeInfer, TypeNever, TypeParam, TypeParen, TypePath, TypePtr, TypeReference,
-    TypeSlice, TypeTraitObject, TypeTuple, Visibility, WhereClause, WherePredicate, path_to_string,
+    Comma, Meta, MetaList, MetaNameValue, Punctuated, SynError, TypeParam, Visibility, WhereClause,
+    WherePredicate,
 };
+pub use node_expr::{
+    Expr, ExprArray, ExprPath, ExprRange, FnArg, Lit, LitBool, LitByte, LitByteStr, LitChar,
+    LitFloat, LitInt, LitStr, Path, Type, TypeArray, TypeFnPtr, TypeGroup, TypeImplTrait,
+    TypeInfer, TypeNever, TypeParen, TypePath, TypePtr, TypeReference, TypeSlice, TypeTraitObject,
+    TypeTuple,
+};
+pub use node_make::path_to_string;
+pub use node_span::Spanned;
 pub use path_list::{Intersection, PathList};
 pub use rows::read_key;
+pub use syn_core::{Parse, ParseFail, parse_expr, parse_items, parse_path};
+pub use syn_items::item_front;
+pub use tok_types::{Ident, Span, TokenStream};

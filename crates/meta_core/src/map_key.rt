@@ -3,11 +3,12 @@
 ghost use Rattle.std.specs.Prelude.{◌≡◌, ◌||◌, IfOk, OnOk, false};
 
 use crate::key::KeyFromPath;
-use error_core::{Mem, Path, Text, TryClone};
-use node_core::Ident;
+use base_core::{Mem, Text, TryClone};
+use node_expr::Path;
 use std::alloc::Global;
 use std::collections::{BTreeSet, HashSet};
 use std::hash::Hash;
+use tok_types::Ident;
 
 /// A key that a map compares by what is seen of it.
 pub trait MapKey: KeyFromPath + Eq {

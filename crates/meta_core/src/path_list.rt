@@ -7,9 +7,12 @@ ghost use Rattle.error_core.specs.Each.{each};
 ghost use Rattle.meta_core.specs.PathLists.{common, path_word};
 
 use crate::from_meta::FromMeta;
-use error_core::{Error, Fail, Mem, Path, Result, Text, TryClone};
-use meta_cells::{Call, NestedMeta};
-use node_core::{Items, Meta, path_to_string};
+use base_core::{Items, Mem, Text, TryClone};
+use error_core::{Error, Fail, Result};
+use meta_nested::{Call, NestedMeta};
+use node_core::Meta;
+use node_expr::Path;
+use node_make::path_to_string;
 use std::alloc::Global;
 use std::iter::FusedIterator;
 use std::marker::Model;

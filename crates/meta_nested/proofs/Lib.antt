@@ -1,3 +1,5 @@
+pub mod GroupLemmas
+pub mod PlaceLemmas
 pub mod Least
 pub mod Readings
 pub mod Numbers

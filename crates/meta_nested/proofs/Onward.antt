@@ -13,7 +13,7 @@ use Rattle.syn_grammar.specs.Literals.{lit_of}
 use Rattle.syn_grammar.specs.Token.{is_comma, is_equals, literal_of}
 use Rattle.syn_grammar.specs.Words.{next_word}
 use Rattle.syn_items.specs.Attributes.{delimiter_of, meta_path}
-use Rattle.law_places_items.proofs.Steps.{Moved, Goes, pure-goes, so-at, map-goes, if-at, seen-at, here-goes, upto_then-at, skip-at, skip_by-at, eat-at, take_as-at}
+use Rattle.law_places.proofs.Steps.{Moved, Goes, pure-goes, so-at, map-goes, if-at, seen-at, here-goes, upto_then-at, skip-at, skip_by-at, eat-at, take_as-at}
 use Rattle.law_places_items.proofs.Attributes.{meta_list-on, meta_path-stood, signed-stood}
 use Rattle.law_places_items.proofs.Lists.{take_all-at}
 use Rattle.meta_nested.specs.declared.item.Found.{Found}

@@ -8,10 +8,10 @@ ghost use Rattle.law_angles.specs.Ends.{Before, behind, nothing};
 ghost use Rattle.meta_nested.specs.Angles.{RowTells, Tells, before_at, role_of};
 
 use base_core::{Items, Mem};
-use node_expr::TokenTree;
 use std::alloc::Global;
 use syn_grammar::{is_colons, is_comma, is_greater, is_joint, is_less, is_mark};
-use syn_rules::MAX_DEPTH;
+use syn_types::MAX_DEPTH;
+use tok_types::TokenTree;
 
 /// How many angles may be open in each other.
 const MAX_ANGLES: usize = 2 * MAX_DEPTH;

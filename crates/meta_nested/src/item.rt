@@ -10,13 +10,14 @@ use crate::nested::NestedMeta;
 use crate::value::take_value;
 use base_core::Mem;
 use node_core::Meta;
-use node_expr::{Delimiter, Lit, LitBool, Path, Span, TokenTree};
+use node_expr::{Lit, LitBool, Path};
 use std::alloc::Global;
 use syn_grammar::{
     Cursor, Word, after_one, is_equals, is_group, is_mark, lit_of, literal_of, next_word,
 };
 use syn_items::{delimiter_of, meta_list, meta_path, signed};
-use syn_rules::Parsed;
+use syn_lists::Parsed;
+use tok_types::{Delimiter, Span, TokenTree};
 
 /// What stands in a list.
 pub enum Found {

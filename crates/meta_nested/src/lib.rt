@@ -5,19 +5,17 @@
 #![tactic(auto)]
 
 mod angles;
+mod answer;
+mod call;
+mod groups;
 mod item;
 mod nested;
 mod nodes;
 mod value;
 
-pub use nested::{MetaNameValueInvalidExpr, NestedMeta};
-
-// The definitions speak of these, so proofs of other crates have to name them.
+pub use answer::{items_of, spanned};
+pub use call::Call;
+pub use groups::without_groups;
 pub use item::{Found, ItemStart};
-pub use syn_core::{
-    Parse, ParseFail, parse_expr, parse_expr_array, parse_expr_path, parse_expr_range, parse_exprs,
-    parse_fn_args, parse_ident, parse_idents, parse_items, parse_path, parse_paths, parse_type,
-    parse_type_param, parse_visibility, parse_where,
-};
-pub use syn_items::item_front;
+pub use nested::{MetaNameValueInvalidExpr, NestedMeta};
 pub use value::Value;

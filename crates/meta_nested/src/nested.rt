@@ -11,12 +11,13 @@ use crate::item::{Found, item};
 use base_core::{Items, Mem};
 use error_core::Error;
 use node_core::Meta;
-use node_expr::{Lit, Path, Span, TokenStream};
+use node_expr::{Lit, Path};
 use node_span::Spanned;
 use std::alloc::Global;
 use syn_core::{Parse, ParseFail};
 use syn_grammar::{Cursor, ReadFail};
-use syn_rules::{Parsed, all_of};
+use syn_lists::{Parsed, all_of};
+use tok_types::{Span, TokenStream};
 
 /// One item of the list in an attribute.
 #[derive_where(PartialEq, Eq, Hash)]

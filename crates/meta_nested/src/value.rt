@@ -12,11 +12,14 @@ use crate::nested::{MetaNameValueInvalidExpr, NestedMeta};
 use base_core::Mem;
 use error_core::Error;
 use node_core::{Meta, MetaNameValue};
-use node_expr::{Expr, Lit, Path, Span, TokenStream, TokenTree};
+use node_expr::{Expr, Lit, Path};
 use std::alloc::{AllocError, Global};
 use syn_grammar::{Cursor, ReadFail, is_comma, span_of};
 use syn_items::{number_of, stream_of};
-use syn_rules::{ANY_LEVEL, MAX_DEPTH, Parsed, read_expr};
+use syn_lists::Parsed;
+use syn_rules::read_expr;
+use syn_types::{ANY_LEVEL, MAX_DEPTH};
+use tok_types::{Span, TokenStream, TokenTree};
 
 /// A value, or tokens in its place and where the fault is.
 pub enum Value {

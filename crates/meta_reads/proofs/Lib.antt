@@ -1,3 +1,4 @@
+pub mod Read
 pub mod Characters
 pub mod Faults
 pub mod Numerals

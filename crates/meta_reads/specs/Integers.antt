@@ -7,8 +7,8 @@ use Rattle.base_core.specs.declared.text.Text.{Text}
 use Rattle.node_expr.specs.declared.lit.LitInt.{LitInt}
 use Rattle.error_fault.specs.Outcome.{Outcome, Value, bind, refused}
 use Rattle.error_fault.specs.declared.kind.FaultKind.TheVariants.{Custom}
-use Rattle.meta_cells.specs.Cells.{Cells, no_cells}
-use Rattle.meta_cells.specs.Dispatch.{known}
+use Rattle.meta_nested.specs.Cells.{Cells, no_cells}
+use Rattle.meta_nested.specs.Dispatch.{known}
 use Rattle.meta_reads.specs.Literals.{lit_int_in}
 
 -- what std says of a number above those of the type

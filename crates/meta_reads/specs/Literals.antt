@@ -9,7 +9,7 @@ use Rattle.node_expr.specs.declared.lit.LitChar.{LitChar}
 use Rattle.node_expr.specs.declared.lit.LitFloat.{LitFloat}
 use Rattle.node_expr.specs.declared.lit.LitInt.{LitInt}
 use Rattle.error_fault.specs.Outcome.{Value}
-use Rattle.meta_cells.specs.Cells.{Cells, no_cells}
+use Rattle.meta_nested.specs.Cells.{Cells, no_cells}
 
 -- the integer that a literal is
 abbrev pub lit_int_in : Lit → Option LitInt

@@ -10,8 +10,8 @@ use Rattle.error_fault.specs.Kind.{set_of}
 use Rattle.error_fault.specs.Outcome.{Outcome, Value, settle}
 use Rattle.error_fault.specs.declared.fault.Fault.{Fault}
 use Rattle.error_fault.specs.declared.kind.FaultKind.TheVariants.{UnexpectedType, UnknownField}
-use Rattle.meta_cells.specs.NestedMeta.{NestedMeta}
-use Rattle.meta_cells.specs.NestedMeta.TheVariants as nested
+use Rattle.meta_nested.specs.declared.nested.NestedMeta.{NestedMeta}
+use Rattle.meta_nested.specs.declared.nested.NestedMeta.TheVariants as nested
 
 -- the `bool` that a text is
 abbrev pub bool_in : Text → Option Bool

@@ -6,12 +6,12 @@ ghost use Rattle.std.specs.Option.{SomeIff};
 ghost use Rattle.error_fault.specs.Outcome.{refused};
 ghost use Rattle.error_fault.specs.declared.kind.FaultKind.TheVariants.{Custom};
 ghost use Rattle.error_core.specs.Answers.{Answers};
-ghost use Rattle.meta_cells.specs.Cells.{AnswersCell, cell_at};
-ghost use Rattle.meta_cells.specs.Dispatch.{known};
+ghost use Rattle.meta_nested.specs.Cells.{AnswersCell, cell_at};
+ghost use Rattle.meta_nested.specs.Dispatch.{known};
 ghost use Rattle.meta_reads.specs.Integers as spec;
 
 use error_core::{Error, Fail, Result};
-use meta_cells::Call;
+use meta_nested::Call;
 use node_expr::{Lit, LitInt};
 use std::alloc::Global;
 

@@ -5,8 +5,9 @@ ghost use Rattle.error_core.specs.Answers.{Answers};
 ghost use Rattle.error_core.specs.ErrorView.{One};
 ghost use Rattle.meta_reads.specs.Words as spec;
 
-use error_core::{Accumulator, Error, Fail, Mem, Result};
-use meta_cells::NestedMeta;
+use base_core::Mem;
+use error_core::{Accumulator, Error, Fail, Result};
+use meta_nested::NestedMeta;
 use std::alloc::Global;
 
 /// The `bool` that the text is.

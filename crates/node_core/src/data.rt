@@ -1,8 +1,9 @@
 //! Visibilities, fields, variants and the bodies of items.
 
 use crate::attr::Attribute;
+use base_core::Items;
 use node_expr::{Expr, Path, Type};
-use tok_types::{Ident, Items, Span};
+use tok_types::{Ident, Span};
 
 /// Nothing, `pub`, `pub(crate)`, or `pub(in path)`
 #[derive_where(PartialEq, Eq, Hash)]

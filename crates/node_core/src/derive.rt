@@ -3,7 +3,8 @@
 use crate::attr::Attribute;
 use crate::data::{Data, Visibility};
 use crate::generics::Generics;
-use tok_types::{Ident, Items, Span};
+use base_core::Items;
+use tok_types::{Ident, Span};
 
 /// An item that a derive reads: `#[attr] pub struct Name<T> { a: T }`, an `enum` or a `union`
 #[derive_where(PartialEq, Eq, Hash)]

@@ -1,8 +1,9 @@
 //! Parameters of items and `where` clauses.
 
 use crate::attr::Attribute;
+use base_core::Items;
 use node_expr::{Expr, Type, TypeParamBound};
-use tok_types::{Ident, Items, Lifetime, Span};
+use tok_types::{Ident, Lifetime, Span};
 
 /// `<'a: 'b, T: Copy = u8, const N: usize = 8>`, with `where T: 'a` where it is written
 #[derive_where(PartialEq, Eq, Hash)]

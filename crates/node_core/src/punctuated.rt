@@ -1,7 +1,7 @@
 //! Lists whose items stand between marks.
 
+use base_core::Items;
 use std::marker::PhantomData;
-use tok_types::Items;
 
 /// A list that is written with the mark `P` between its items: `a, b, c` for
 /// `Punctuated<Expr, Comma>`. The marks are not kept.

@@ -4,7 +4,7 @@ ghost use Rattle.std.specs.Prelude.{◌≡◌, ◌↔◌, IsTrue};
 ghost use Rattle.node_core.specs.Style as spec;
 
 use crate::data::Fields;
-use node_expr::{Mem, TryClone};
+use base_core::{Mem, TryClone};
 use std::alloc::Global;
 
 /// How the members of a body are written.

@@ -6,7 +6,8 @@ ghost use Rattle.node_expr.specs.Kinds.{array_in, path_in, range_in};
 
 use crate::lit::{Lit, LitInt};
 use crate::path::{GenericArgument, Path, QSelf};
-use tok_types::{Boxed, Ident, Items, Span, TokenStream};
+use base_core::{Boxed, Items};
+use tok_types::{Ident, Span, TokenStream};
 
 /// An expression: `1`, `a::b`, `[a, b]`, `-a`, `a + b`, `f(a)`, `|a| a`, `{ a; b }`
 #[cycle(nodes)]

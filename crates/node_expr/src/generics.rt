@@ -1,7 +1,8 @@
 //! Bounds of types.
 
 use crate::path::Path;
-use tok_types::{Items, Lifetime, Span};
+use base_core::Items;
+use tok_types::{Lifetime, Span};
 
 /// One bound of `Copy + 'a`
 #[cycle(nodes)]

@@ -24,10 +24,6 @@ pub use expr::{BinOp, Expr, ExprArray, ExprClosure, ExprPath, ExprRange, Member,
 pub use generics::{TraitBound, TypeParamBound};
 pub use lit::{Lit, LitBool, LitByte, LitByteStr, LitChar, LitFloat, LitInt, LitStr};
 pub use path::{GenericArgument, Path, PathArguments, PathSegment, QSelf};
-pub use tok_types::{
-    Boxed, Delimiter, Group, Ident, Items, Lifetime, Literal, Mem, Punct, Span, Text, TokenStream,
-    TokenTree, TryClone,
-};
 pub use ty::{
     FnArg, NamedArg, ReturnType, Type, TypeArray, TypeFnPtr, TypeGroup, TypeImplTrait, TypeInfer,
     TypeNever, TypeParen, TypePath, TypePtr, TypeReference, TypeSlice, TypeTraitObject, TypeTuple,

@@ -3,7 +3,8 @@
 ghost use Rattle.std.specs.Prelude.{◌≡◌};
 ghost use Rattle.node_expr.specs.Kinds.{string_in};
 
-use tok_types::{Items, Literal, Span, Text};
+use base_core::{Items, Text};
+use tok_types::{Literal, Span};
 
 /// A literal: `"text"`, `b"bytes"`, `b'x'`, `'x'`, `1`, `-1.5`, `true`.
 #[derive_where(PartialEq, Eq, Hash)]

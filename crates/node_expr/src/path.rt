@@ -3,7 +3,8 @@
 use crate::expr::Expr;
 use crate::generics::TypeParamBound;
 use crate::ty::{ReturnType, Type};
-use tok_types::{Boxed, Ident, Items, Lifetime, Span};
+use base_core::{Boxed, Items};
+use tok_types::{Ident, Lifetime, Span};
 
 /// `std::vec::Vec<T>`, or with a leading colon `::std::vec::Vec<T>`
 #[cycle(nodes)]

@@ -3,7 +3,8 @@
 use crate::expr::Expr;
 use crate::generics::TypeParamBound;
 use crate::path::{Path, QSelf};
-use tok_types::{Boxed, Ident, Items, Lifetime, Span, TokenStream};
+use base_core::{Boxed, Items};
+use tok_types::{Ident, Lifetime, Span, TokenStream};
 
 /// A type: `Vec<T>`, `&'a T`, `[T; 8]`, `(A, B)`, `fn(A) -> B`, `dyn Trait`
 #[cycle(nodes)]

@@ -1,14 +1,14 @@
 //! Nodes of their parts, where a node holds a part in a box: the part comes as itself, and is boxed
 //! here. Want of memory drops the parts.
 ghost use Rattle.std.specs.Prelude.{◌≡◌, IfOk};
-ghost use Rattle.node_make.specs.Make.{make_type_array};
 
+use base_core::{Boxed, Items, Mem};
 use node_expr::{
     BinOp, Expr, ExprClosure, ExprRange, GenericArgument, Member, QSelf, ReturnType, Type,
-    TypeArray, TypeGroup, TypeParen, TypePtr, TypeReference, TypeSlice, UnOp,
+    TypeGroup, TypeParen, TypePtr, TypeReference, UnOp,
 };
 use std::alloc::Global;
-use tok_types::{Boxed, Ident, Items, Lifetime, Mem, Span, TokenStream};
+use tok_types::{Ident, Lifetime, Span, TokenStream};
 
 /// `[expr; len]`
 pub fn expr_repeat(alloc: Global, expr: Expr, len: Expr, span: Span) -> Mem<Expr>
@@ -189,22 +189,6 @@ pub fn type_ptr(alloc: Global, mutable: bool, elem: Type, span: Span) -> Mem<Typ
         elem,
         span,
     })
-}
-
-/// `[ty]`
-pub fn type_slice(alloc: Global, elem: Type, span: Span) -> Mem<TypeSlice>
-    ensures { IfOk result (λ it. it ≡ record { elem = elem; span = span }) }
-{
-    let elem = Boxed::new(alloc, elem)?;
-    Ok(TypeSlice { elem, span })
-}
-
-/// `[ty; len]`
-pub fn type_array(alloc: Global, elem: Type, len: Expr, span: Span) -> Mem<TypeArray>
-    ensures { IfOk result (λ it. it ≡ make_type_array elem len span) }
-{
-    let elem = Boxed::new(alloc, elem)?;
-    Ok(TypeArray { elem, len, span })
 }
 
 /// `(ty)`

@@ -4,9 +4,9 @@ ghost use Rattle.std.specs.Prelude.{◌≡◌, ◌++◌, codes, IfOk, OnOk};
 ghost use Rattle.std.specs.List.{join_by};
 ghost use Rattle.node_make.specs.PathText.{segment_text, path_text, full_path_text};
 
+use base_core::{Mem, Text};
 use node_expr::{Path, PathSegment};
 use std::alloc::Global;
-use tok_types::{Mem, Text};
 
 /// The identifiers of the path's segments, joined by `::`: two paths that differ only in a leading
 /// `::` and in arguments have one text.

@@ -5,8 +5,9 @@ ghost use Rattle.node_span.specs.Spanned.{body_span, fields_span, meta_span, vis
 use crate::spanned::Spanned;
 use node_core::{
     Attribute, Data, DataEnum, DataStruct, DataUnion, DeriveInput, Field, Fields, FieldsNamed,
-    FieldsUnnamed, Meta, MetaList, MetaNameValue, Span, Variant, Visibility,
+    FieldsUnnamed, Meta, MetaList, MetaNameValue, Variant, Visibility,
 };
+use tok_types::Span;
 
 impl Spanned for Attribute {
     ghost span_of = { λ it. it.span };

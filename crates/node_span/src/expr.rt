@@ -3,7 +3,8 @@
 ghost use Rattle.node_span.specs.Spanned.{expr_path_span, expr_span, member_span};
 
 use crate::spanned::Spanned;
-use node_core::{Expr, ExprArray, ExprClosure, ExprPath, ExprRange, Member, Span};
+use node_expr::{Expr, ExprArray, ExprClosure, ExprPath, ExprRange, Member};
+use tok_types::Span;
 
 impl Spanned for Expr {
     ghost span_of = { expr_span };

@@ -4,9 +4,10 @@ ghost use Rattle.node_span.specs.Spanned.{bound_span, generics_span, param_span,
 
 use crate::spanned::Spanned;
 use node_core::{
-    ConstParam, GenericParam, Generics, LifetimeParam, Span, TraitBound, TypeParam, TypeParamBound,
-    WhereClause, WherePredicate,
+    ConstParam, GenericParam, Generics, LifetimeParam, TypeParam, WhereClause, WherePredicate,
 };
+use node_expr::{TraitBound, TypeParamBound};
+use tok_types::Span;
 
 impl Spanned for Generics {
     ghost span_of = { generics_span };

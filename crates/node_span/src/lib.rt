@@ -13,5 +13,4 @@ mod spanned;
 mod token;
 mod ty;
 
-pub use node_core::Span;
 pub use spanned::Spanned;

@@ -3,7 +3,8 @@
 ghost use Rattle.node_span.specs.Spanned.{lit_span};
 
 use crate::spanned::Spanned;
-use node_core::{Lit, LitBool, LitByte, LitByteStr, LitChar, LitFloat, LitInt, LitStr, Span};
+use node_expr::{Lit, LitBool, LitByte, LitByteStr, LitChar, LitFloat, LitInt, LitStr};
+use tok_types::Span;
 
 impl Spanned for LitStr {
     ghost span_of = { λ it. it.span };

@@ -3,7 +3,8 @@
 ghost use Rattle.node_span.specs.Spanned.{argument_span, arguments_span, path_span, segment_span};
 
 use crate::spanned::Spanned;
-use node_core::{GenericArgument, Path, PathArguments, PathSegment, QSelf, Span};
+use node_expr::{GenericArgument, Path, PathArguments, PathSegment, QSelf};
+use tok_types::Span;
 
 impl Spanned for Path {
     ghost span_of = { path_span };

@@ -3,7 +3,9 @@
 ghost use Rattle.std.specs.Prelude.{◌≡◌};
 ghost use Rattle.node_span.specs.Spanned.{list_span, option_span};
 
-use node_core::{Boxed, Items, Punctuated, Span};
+use base_core::{Boxed, Items};
+use node_core::Punctuated;
+use tok_types::Span;
 
 /// A token, a node, or a list of them, that knows where it stands.
 pub trait Spanned {

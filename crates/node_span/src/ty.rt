@@ -3,11 +3,11 @@
 ghost use Rattle.node_span.specs.Spanned.{return_span, type_array_span, type_path_span, type_span};
 
 use crate::spanned::Spanned;
-use node_core::{
-    FnArg, NamedArg, ReturnType, Span, Type, TypeArray, TypeFnPtr, TypeGroup, TypeImplTrait,
-    TypeInfer, TypeNever, TypeParen, TypePath, TypePtr, TypeReference, TypeSlice, TypeTraitObject,
-    TypeTuple,
+use node_expr::{
+    FnArg, NamedArg, ReturnType, Type, TypeArray, TypeFnPtr, TypeGroup, TypeImplTrait, TypeInfer,
+    TypeNever, TypeParen, TypePath, TypePtr, TypeReference, TypeSlice, TypeTraitObject, TypeTuple,
 };
+use tok_types::Span;
 
 impl Spanned for Type {
     ghost span_of = { type_span };

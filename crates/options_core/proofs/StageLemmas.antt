@@ -6,10 +6,11 @@ use Rattle.node_core.specs.declared.data.Variant.{Variant}
 use Rattle.node_core.specs.declared.derive.DeriveInput.{DeriveInput}
 use Rattle.error_fault.specs.Outcome.{Outcome, Value, Faults, bind, faults_of, value_of, on_value, settle}
 use Rattle.error_fault.specs.declared.fault.Fault.{Fault}
-use Rattle.options_rows.specs.Data.{with_members}
-use Rattle.options_rows.specs.AstData.TheVariants as container
+use Rattle.body_core.specs.Data.{with_members}
+use Rattle.body_core.specs.declared.ast.data.«Data».TheVariants as container
 use Rattle.options_rows.specs.Entries.{option_entries}
-use Rattle.options_rows.specs.Members.{after_members, after_outcome, fields_of, is_union, members_faults, no_variant, read_body, variants_of, variant_or}
+use Rattle.options_rows.specs.Members.{after_members, after_outcome, fields_of, members_faults, no_variant, read_body, variants_of, variant_or}
+use Rattle.node_core.specs.Bodies.{is_union}
 use Rattle.options_rows.specs.Rows.{else_faults, list_of}
 use Rattle.options_rows.specs.Values.{Rules}
 use Rattle.options_rows.specs.Walk.{all_faults, read_options}

@@ -23,15 +23,15 @@ use Rattle.error_fault.specs.Outcome.{Outcome, on_value}
 use Rattle.error_fault.specs.declared.fault.Fault.{Fault}
 use Rattle.error_fault.specs.declared.kind.FaultKind.TheVariants.{Custom}
 use Rattle.options_rows.specs.PathLists.{common}
-use Rattle.codegen_program.specs.Callable.{Callable}
+use Rattle.options_rows.specs.Callable.{Callable}
 use Rattle.options_rows.specs.Table.{renamed}
 use Rattle.options_rows.specs.Table as names
 use Rattle.options_rows.specs.RenameKind.TheVariants as kinds
 use Rattle.options_rows.specs.RenameRule.{RenameRule}
 use Rattle.options_rows.specs.RenameRule.TheVariants.{Keep}
-use Rattle.options_rows.specs.Data.{unplaced, with_members}
-use Rattle.options_rows.specs.AstData.{«Data»}
-use Rattle.options_rows.specs.AstData.TheVariants as container
+use Rattle.body_core.specs.Data.{unplaced, with_members}
+use Rattle.body_core.specs.declared.ast.data.«Data».{«Data»}
+use Rattle.body_core.specs.declared.ast.data.«Data».TheVariants as container
 use Rattle.options_rows.specs.DefaultExpression.{DefaultExpression}
 use Rattle.options_rows.specs.DefaultExpression.TheVariants.{Inherit, Trait}
 use Rattle.options_rows.specs.ForwardAttrsFilter.{ForwardAttrsFilter}
@@ -70,7 +70,7 @@ field_start field = record {
   skip = None;
   post_transform = None;
   multiple = None;
-  flatten = record { place = None };
+  flatten = record { 0 = None };
 }
 
 -- its own name, else the identifier under the container's rule
@@ -148,7 +148,7 @@ transparent_faults (Some span) count = cond (count == 1) [] (not_single span ∷
 
 -- where `flatten` stands
 abbrev pub flat_spans : List InputField → List Span
-flat_spans fields = flat_map (λ field. list_of field.flatten.place) fields
+flat_spans fields = flat_map (λ field. list_of field.flatten.0) fields
 
 -- several of them
 abbrev pub flatten_faults : List Span → List Fault
@@ -160,7 +160,7 @@ body_checks transparent (container.Struct it) = transparent_faults transparent (
 
 -- of every container
 abbrev pub core_checks : Core → List Fault
-core_checks core = body_checks core.transparent.place core.body
+core_checks core = body_checks core.transparent.0 core.body
 
 -- the text of a path as its tokens are written
 abbrev pub written : Path → Text
@@ -217,8 +217,8 @@ expr_faults delegated (Some callable) = cond delegated (on_transparent (codes "f
 abbrev pub call_faults : FromMetaOptions → Body → List Fault
 call_faults set (container.Enum variants) = []
 call_faults set (container.Struct it) =
-    word_faults (is_unit it.style) (is_delegated it.style (length it.fields) set.base.transparent.place) set.from_word
-    ++ expr_faults (is_delegated it.style (length it.fields) set.base.transparent.place) set.from_expr
+    word_faults (is_unit it.style) (is_delegated it.style (length it.fields) set.base.transparent.0) set.from_word
+    ++ expr_faults (is_delegated it.style (length it.fields) set.base.transparent.0) set.from_expr
 
 -- under `FromMeta`
 abbrev pub meta_checks : FromMetaOptions → List Fault
@@ -249,7 +249,7 @@ core_start rules input = record {
   body = start_body input.body;
   bound = None;
   allow_unknown_fields = None;
-  transparent = record { place = None };
+  transparent = record { 0 = None };
 }
 
 abbrev pub outer_start : Rules → DeriveInput → OuterFrom

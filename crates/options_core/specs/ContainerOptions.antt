@@ -8,7 +8,7 @@ use Rattle.node_core.specs.declared.attr.Meta.{Meta}
 use Rattle.node_span.specs.Spanned.{path_span}
 use Rattle.error_fault.specs.Outcome.{Outcome, Value, on_value}
 use Rattle.error_fault.specs.declared.fault.Fault.{Fault}
-use Rattle.codegen_program.specs.Callable.{Callable}
+use Rattle.options_rows.specs.Callable.{Callable}
 use Rattle.codegen_program.specs.declared.arm.PostfixTransform.{PostfixTransform}
 use Rattle.options_rows.specs.DefaultExpression.{DefaultExpression}
 use Rattle.options_rows.specs.DefaultExpression.TheVariants.{Trait}
@@ -62,7 +62,7 @@ abbrev pub allow_unknown_fields : CoreOpt Bool
 allow_unknown_fields = record { name = AllowUnknownFields; word = codes "allow_unknown_fields"; at = λ set. set.allow_unknown_fields; read = bool_of; again = λ set. duplicate; alone = λ value. false }
 
 abbrev pub transparent : CoreOpt Span
-transparent = record { name = Transparent; word = codes "transparent"; at = λ set. set.transparent.place; read = present_of; again = λ set. duplicate; alone = λ value. false }
+transparent = record { name = Transparent; word = codes "transparent"; at = λ set. set.transparent.0; read = present_of; again = λ set. duplicate; alone = λ value. false }
 
 abbrev pub krate : CoreOpt Path
 krate = record { name = Crate; word = codes "crate"; at = λ set. set.krate; read = path_of; again = λ set. duplicate; alone = λ value. false }
@@ -96,7 +96,7 @@ core_options rules set items = record set {
   post_transform = first_of set.post_transform (values is_core_transform transform_of items);
   bound = last_of set.bound (values (same_core Bound) (λ item. on_value Some (predicates_of item)) items);
   allow_unknown_fields = core_taken allow_unknown_fields set items;
-  transparent = record { place = core_taken transparent set items };
+  transparent = record { 0 = core_taken transparent set items };
   krate = core_taken krate set items;
 }
 

@@ -9,7 +9,7 @@ use Rattle.node_span.specs.Spanned.{meta_span}
 use Rattle.error_fault.specs.Fault.{at_span}
 use Rattle.error_fault.specs.declared.fault.Fault.{Fault}
 use Rattle.error_fault.specs.declared.kind.FaultKind.TheVariants.{Custom}
-use Rattle.codegen_program.specs.Callable.{Callable}
+use Rattle.options_rows.specs.Callable.{Callable}
 use Rattle.codegen_program.specs.declared.arm.PostfixTransform.{PostfixTransform}
 use Rattle.options_rows.specs.DefaultExpression.{DefaultExpression}
 use Rattle.options_rows.specs.SpannedValue.{SpannedValue}
@@ -62,7 +62,7 @@ abbrev pub default : FieldOpt DefaultExpression
 default = record { name = Default; word = codes "default"; at = λ set. set.default; read = default_of; again = λ set. duplicate; alone = λ value. false }
 
 abbrev pub flatten : FieldOpt Span
-flatten = record { name = Flatten; word = codes "flatten"; at = λ set. set.flatten.place; read = present_of; again = λ set. duplicate; alone = λ value. false }
+flatten = record { name = Flatten; word = codes "flatten"; at = λ set. set.flatten.0; read = present_of; again = λ set. duplicate; alone = λ value. false }
 
 -- the table, in the order in which `flatten` names what may not stand beside it
 abbrev pub field_table : List (OptionRow InputField FieldName)
@@ -92,7 +92,7 @@ field_options set items = record set {
   skip = taken skip set items;
   post_transform = first_of set.post_transform (values is_transform transform_of items);
   multiple = taken multiple set items;
-  flatten = record { place = taken flatten set items };
+  flatten = record { 0 = taken flatten set items };
 }
 
 -- what is wrong with reading an item behind what is set
@@ -106,7 +106,7 @@ together word item = at_span (Custom (codes "`flatten` and `" ++ word ++ codes "
 -- whether `flatten` stands, and the option, which may not stand beside it
 abbrev pub clash_of : InputField → Meta → FieldName → List Fault
 clash_of set item name =
-    cond (is_some set.flatten.place && row_stands_alone (field_row name) set) (together (row_word (field_row name)) item ∷ []) []
+    cond (is_some set.flatten.0 && row_stands_alone (field_row name) set) (together (row_word (field_row name)) item ∷ []) []
 
 -- an item of an option is held against `flatten`, one of `flatten` against all options in the table's order
 abbrev pub clashes : InputField → FieldName → Meta → List Fault

@@ -5,7 +5,7 @@ pub mod ContainerLaws
 pub mod Body
 pub mod Stages
 pub mod Views
-pub use Rattle.options_rows.specs.AstData
+pub use Rattle.body_core.specs.declared.ast.data.«Data» as AstData
 pub use Rattle.options_rows.specs.DefaultExpression
 pub use Rattle.options_rows.specs.Entries
 pub use Rattle.options_rows.specs.Members

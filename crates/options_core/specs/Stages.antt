@@ -7,9 +7,10 @@ use Rattle.node_core.specs.declared.derive.DeriveInput.{DeriveInput}
 use Rattle.error_fault.specs.Fault.{plain}
 use Rattle.error_fault.specs.Outcome.{Outcome, Value, bind, faults_of, value_of, settle}
 use Rattle.error_fault.specs.declared.fault.Fault.{Fault}
-use Rattle.options_rows.specs.Data.{no_unions}
+use Rattle.body_core.specs.Data.{no_unions}
 use Rattle.options_rows.specs.Entries.{items, option_entries}
-use Rattle.options_rows.specs.Members.{fields_of, is_union, no_variant, read_body, variants_of, field_or, variant_or}
+use Rattle.options_rows.specs.Members.{fields_of, no_variant, read_body, variants_of, field_or, variant_or}
+use Rattle.node_core.specs.Bodies.{is_union}
 use Rattle.options_rows.specs.Rows.{else_faults, list_of}
 use Rattle.options_rows.specs.Values.{Rules}
 use Rattle.options_rows.specs.Walk.{all_faults, read_options}

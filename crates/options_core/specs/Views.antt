@@ -5,9 +5,9 @@ use Rattle.std.specs.Option.{option_copied}
 use Rattle.tok_types.specs.declared.ident.Ident.{Ident}
 use Rattle.node_expr.specs.declared.ty.«Type».{«Type» as Type'}
 use Rattle.node_span.specs.Spanned.{type_span}
-use Rattle.options_rows.specs.AstData.{«Data»}
-use Rattle.options_rows.specs.AstData.TheVariants as body
-use Rattle.options_rows.specs.Data.{place}
+use Rattle.body_core.specs.declared.ast.data.«Data».{«Data»}
+use Rattle.body_core.specs.declared.ast.data.«Data».TheVariants as body
+use Rattle.body_core.specs.Data.{place}
 use Rattle.codegen_core.specs.Defaults.{custom}
 use Rattle.codegen_core.specs.declared.default_expression.DefaultExpression.{DefaultExpression as Shown}
 use Rattle.codegen_core.specs.declared.default_expression.DefaultExpression.TheVariants as shown
@@ -50,7 +50,7 @@ pub record IsField (left : Field) (it : InputField) : Type 0 where
   pub name : left.name_in_attr.now ≡ it.name
   pub ty : left.ty.now ≡ it.ty
   pub skip : left.skip ≡ holds (λ value. value.value) it.skip
-  pub flatten : left.flatten ≡ is_some it.flatten.place
+  pub flatten : left.flatten ≡ is_some it.flatten.0
   pub multiple : left.multiple ≡ unwrap_or it.multiple false
   pub with : custom left.with_callable ≡ it.with
   pub at : StandsAt it.ty left.with_callable
@@ -76,7 +76,7 @@ pub record IsImpl (left : TraitImpl) (it : Core) : Type 0 where
   pub default : AreDefaults it.ident left.default it.default
   pub transform : option_copied left.post_transform ≡ it.post_transform
   pub allow : left.allow_unknown_fields ≡ unwrap_or it.allow_unknown_fields false
-  pub transparent : left.transparent ≡ is_some it.transparent.place
+  pub transparent : left.transparent ≡ is_some it.transparent.0
   pub krate : option_copied left.krate ≡ it.krate
 
 -- the same under `FromDeriveInput`

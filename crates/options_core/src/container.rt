@@ -5,7 +5,7 @@ ghost use Rattle.error_fault.specs.Outcome.{Value, settle};
 ghost use Rattle.error_core.specs.Answers.{Answers};
 ghost use Rattle.error_core.specs.ErrorView.{One, held};
 ghost use Rattle.options_rows.specs.Does.{Does};
-ghost use Rattle.options_rows.specs.Members.{is_union};
+ghost use Rattle.node_core.specs.Bodies.{is_union};
 ghost use Rattle.options_rows.specs.Rows.{one};
 ghost use Rattle.options_core.specs.Body as spec;
 ghost use Rattle.options_core.specs.ContainerOptions.{core_faults, core_options};
@@ -14,15 +14,18 @@ ghost use Rattle.options_core.specs.Stages.{union_faults};
 use crate::input_field::InputField;
 use crate::input_variant::InputVariant;
 use crate::names::CoreName;
+use base_core::{Items, Mem, TryClone};
+use body_core::ast::Data;
 use codegen_program::PostfixTransform;
-use error_core::{Accumulator, Error, Items, Mem, Result, Span, TryClone};
-use node_core::{DeriveInput, Field, Generics, Ident, Variant};
-use options_rows::ast::Data;
+use error_core::{Accumulator, Error, Result};
+use node_core::{DeriveInput, Field, Generics, Meta, Variant, WherePredicate};
+use node_expr::Path;
 use options_rows::{
-    DefaultExpression, Flag, Meta, ParseAttribute, ParseData, Path, RenameRule, RenameTable,
-    WherePredicate, last_given, last_rule, once, once_transform, unknown,
+    DefaultExpression, Flag, ParseAttribute, ParseData, RenameRule, RenameTable, last_given,
+    last_rule, once, once_transform, unknown,
 };
 use std::alloc::Global;
+use tok_types::{Ident, Span};
 
 /// What the options of a declaration say, whatever it derives.
 pub struct Core {
@@ -85,7 +88,7 @@ impl Core {
             CoreName::AndThen => once_transform(alloc, &mut self.post_transform, item),
             CoreName::Bound => last_given(alloc, &mut self.bound, item),
             CoreName::AllowUnknownFields => once(alloc, &mut self.allow_unknown_fields, item),
-            CoreName::Transparent => once(alloc, &mut self.transparent.place, item),
+            CoreName::Transparent => once(alloc, &mut self.transparent.0, item),
             CoreName::Crate => once(alloc, &mut self.krate, item),
             CoreName::Unknown => unknown(alloc, item),
         }
@@ -196,9 +199,9 @@ fn check_transparent(
     count: usize,
     errors: &mut Accumulator,
 ) -> Mem<()>
-    ensures { OnOk result (held errors.new ≡ held errors.old ++ spec.transparent_faults transparent.now.place count) }
+    ensures { OnOk result (held errors.new ≡ held errors.old ++ spec.transparent_faults transparent.now.0 count) }
 {
-    let Some(span) = transparent.place else {
+    let Some(span) = transparent.0 else {
         return Ok(());
     };
     if count == 1 {
@@ -222,7 +225,7 @@ fn flat_spans(alloc: Global, fields: &[InputField]) -> Mem<Items<Span>>
 {
     let mut spans = Items::new(alloc);
     for field in fields {
-        if let Some(span) = field.flatten.place {
+        if let Some(span) = field.flatten.0 {
             spans.push(span)?;
         }
     }

@@ -4,7 +4,7 @@ ghost use Rattle.std.specs.Prelude.{◌≡◌};
 ghost use Rattle.error_fault.specs.Outcome.{Value, settle};
 ghost use Rattle.error_core.specs.Answers.{Answers};
 ghost use Rattle.options_rows.specs.Does.{Does};
-ghost use Rattle.options_rows.specs.Members.{is_union};
+ghost use Rattle.node_core.specs.Bodies.{is_union};
 ghost use Rattle.options_rows.specs.Rows.{one};
 ghost use Rattle.options_core.specs.Body.{fdi_start};
 ghost use Rattle.options_core.specs.ContainerOptions.{fdi_faults, fdi_options};
@@ -12,9 +12,10 @@ ghost use Rattle.options_core.specs.Stages as spec;
 
 use crate::names::FdiName;
 use crate::outer_from::OuterFrom;
-use error_core::{Accumulator, Mem, Result};
-use node_core::{DeriveInput, Field, Variant};
-use options_rows::{DeriveInputShapeSet, Meta, ParseAttribute, ParseData, RenameTable, last_given};
+use base_core::Mem;
+use error_core::{Accumulator, Result};
+use node_core::{DeriveInput, Field, Meta, Variant};
+use options_rows::{DeriveInputShapeSet, ParseAttribute, ParseData, RenameTable, last_given};
 use std::alloc::Global;
 
 /// The options of a receiver that derives `FromDeriveInput`.

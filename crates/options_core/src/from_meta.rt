@@ -5,7 +5,7 @@ ghost use Rattle.error_fault.specs.Outcome.{Value, settle};
 ghost use Rattle.error_core.specs.Answers.{Answers};
 ghost use Rattle.error_core.specs.ErrorView.{One, held};
 ghost use Rattle.options_rows.specs.Does.{Does};
-ghost use Rattle.options_rows.specs.Members.{is_union};
+ghost use Rattle.node_core.specs.Bodies.{is_union};
 ghost use Rattle.options_rows.specs.Rows.{one};
 ghost use Rattle.options_core.specs.Body as body;
 ghost use Rattle.options_core.specs.ContainerOptions.{meta_faults, meta_options};
@@ -14,10 +14,11 @@ ghost use Rattle.options_core.specs.Stages as spec;
 use crate::container::Core;
 use crate::input_field::InputField;
 use crate::names::MetaName;
-use error_core::{Accumulator, Error, Mem, Result, Text};
-use node_core::{DeriveInput, Field, Style, Variant};
-use options_rows::ast::{Data, Fields};
-use options_rows::{Callable, Flag, Meta, ParseAttribute, ParseData, RenameTable, once_at_path};
+use base_core::{Mem, Text};
+use body_core::ast::{Data, Fields};
+use error_core::{Accumulator, Error, Result};
+use node_core::{DeriveInput, Field, Meta, Style, Variant};
+use options_rows::{Callable, Flag, ParseAttribute, ParseData, RenameTable, once_at_path};
 use std::alloc::Global;
 
 /// The options of a receiver that derives `FromMeta`.
@@ -163,7 +164,7 @@ impl ParseData for FromMetaOptions {
 
 /// Whether a struct is read as its one field is: a tuple of one, or one with names that says so.
 fn is_delegated(fields: &Fields<InputField>, transparent: &Flag) -> bool
-    ensures { result ≡ body.is_delegated fields.now.style (length fields.now.fields) transparent.now.place }
+    ensures { result ≡ body.is_delegated fields.now.style (length fields.now.fields) transparent.now.0 }
 {
     match fields.style {
         Style::Tuple => fields.len() == 1,

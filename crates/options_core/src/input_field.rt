@@ -12,14 +12,17 @@ ghost use Rattle.options_core.specs.FieldOptions as spec;
 
 use crate::container::Core;
 use crate::names::FieldName;
+use base_core::{Mem, Text, TryClone};
 use codegen_program::PostfixTransform;
-use error_core::{Accumulator, Error, Fail, Mem, Result, Span, Text, TryClone};
-use node_core::{Field, Ident, Type};
+use error_core::{Accumulator, Error, Fail, Result};
+use node_core::{Field, Meta};
+use node_expr::Type;
 use options_rows::{
-    Callable, DefaultExpression, Flag, Meta, ParseAttribute, RenameTable, SpannedValue, once,
+    Callable, DefaultExpression, Flag, ParseAttribute, RenameTable, SpannedValue, once,
     once_transform, unknown,
 };
 use std::alloc::Global;
+use tok_types::{Ident, Span};
 
 /// A field of a receiver, as its options and its container say it.
 pub struct InputField {
@@ -134,7 +137,7 @@ impl InputField {
             FieldName::Map => once_transform(alloc, &mut self.post_transform, item),
             FieldName::AndThen => once_transform(alloc, &mut self.post_transform, item),
             FieldName::Default => once(alloc, &mut self.default, item),
-            FieldName::Flatten => once(alloc, &mut self.flatten.place, item),
+            FieldName::Flatten => once(alloc, &mut self.flatten.0, item),
             FieldName::Unknown => unknown(alloc, item),
         }
     }

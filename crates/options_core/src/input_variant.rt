@@ -1,9 +1,10 @@
 //! A variant of a receiver, as its options say it.
 
 use crate::input_field::InputField;
-use node_core::{Ident, Text};
-use options_rows::ast::Fields;
+use base_core::Text;
+use body_core::ast::Fields;
 use options_rows::{Flag, SpannedValue};
+use tok_types::Ident;
 
 /// A variant of a receiver, as its options say it.
 pub struct InputVariant {

@@ -6,6 +6,7 @@
 //! Parts of an item that a receiver takes as they stand, and variants of receivers, are no part of it yet.
 #![tactic(auto)]
 
+mod clone;
 mod container;
 mod from_derive;
 mod from_meta;

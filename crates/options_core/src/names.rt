@@ -6,7 +6,8 @@ ghost use Rattle.options_core.specs.FieldOptions.{field_name_of, field_row};
 ghost use Rattle.options_rows.specs.Rows.{row_word};
 ghost use Rattle.options_rows.specs.Values.{word_of};
 
-use options_rows::{Path, word_of};
+use node_expr::Path;
+use options_rows::word_of;
 
 /// The options of every container.
 #[derive(Clone, Copy)]

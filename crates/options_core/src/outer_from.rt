@@ -6,7 +6,7 @@ ghost use Rattle.error_core.specs.Answers.{Answers};
 ghost use Rattle.error_core.specs.ErrorView.{One, held};
 ghost use Rattle.options_rows.specs.PathLists.{common};
 ghost use Rattle.options_rows.specs.Does.{Does};
-ghost use Rattle.options_rows.specs.Members.{is_union};
+ghost use Rattle.node_core.specs.Bodies.{is_union};
 ghost use Rattle.options_rows.specs.Rows.{one};
 ghost use Rattle.options_core.specs.Body as spec;
 ghost use Rattle.options_core.specs.ContainerOptions.{outer_faults, outer_options};
@@ -14,11 +14,14 @@ ghost use Rattle.options_core.specs.Stages.{union_faults};
 
 use crate::container::Core;
 use crate::names::OuterName;
-use error_core::{Accumulator, Error, Mem, Result, Spanned, Text};
-use node_core::{DeriveInput, Field, Variant};
+use base_core::{Mem, Text};
+use error_core::{Accumulator, Error, Result};
+use node_core::{DeriveInput, Field, Meta, Variant};
+use node_expr::Path;
+use node_span::Spanned;
 use options_rows::{
-    DefaultExpression, ForwardAttrsFilter, Meta, ParseAttribute, ParseData, Path, PathList,
-    RenameTable, last, last_given,
+    DefaultExpression, ForwardAttrsFilter, ParseAttribute, ParseData, PathList, RenameTable, last,
+    last_given,
 };
 use print_core::ToTokens;
 use std::alloc::Global;

@@ -9,14 +9,16 @@ use crate::container::Core;
 use crate::from_derive::FdiOptions;
 use crate::from_meta::FromMetaOptions;
 use crate::input_field::InputField;
+use base_core::Mem;
+use body_core::ast::{Data, Fields};
 use codegen_core::{
     DefaultExpression, Field, FromDeriveInputImpl, FromMetaImpl, OverrideableCallable, TraitImpl,
 };
-use error_core::{Mem, Spanned};
-use node_core::{Ident, Type};
+use node_expr::Type;
+use node_span::Spanned;
 use options_rows::Callable;
-use options_rows::ast::{Data, Fields};
 use std::alloc::Global;
+use tok_types::Ident;
 
 impl InputField {
     /// What is compiled from it.

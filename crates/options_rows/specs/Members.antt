@@ -1,8 +1,7 @@
 -- The members of a body: fields and variants, one after another, and what is checked behind them.
-use Rattle.std.specs.Prelude.{Bool, true, false, List, [], ◌∷◌, ◌++◌, codes, Option, Some, None}
+use Rattle.std.specs.Prelude.{List, [], ◌∷◌, ◌++◌, codes, Option, Some, None}
+use Rattle.node_core.specs.Bodies.{field_list}
 use Rattle.node_core.specs.declared.data.Field.{Field}
-use Rattle.node_core.specs.declared.data.Fields.{Fields}
-use Rattle.node_core.specs.declared.data.Fields.TheVariants as fields
 use Rattle.node_core.specs.declared.data.Variant.{Variant}
 use Rattle.node_core.specs.declared.data.«Data».{«Data»}
 use Rattle.node_core.specs.declared.data.«Data».TheVariants as body
@@ -12,14 +11,9 @@ use Rattle.error_fault.specs.declared.fault.Fault.{Fault}
 use Rattle.error_fault.specs.declared.kind.FaultKind.TheVariants.{UnexpectedFormat}
 use Rattle.options_rows.specs.Values.{Rules}
 
--- the fields of a struct in order
-abbrev pub listed_fields : Fields → List Field
-listed_fields (fields.Named it) = it.named
-listed_fields (fields.Unnamed it) = it.unnamed
-listed_fields fields.Unit = []
-
+-- the fields of a struct, which are read one by one
 abbrev pub fields_of : «Data» → List Field
-fields_of (body.Struct it) = listed_fields it.fields
+fields_of (body.Struct it) = field_list it.fields
 fields_of (body.Enum it) = []
 fields_of (body.Union it) = []
 
@@ -28,11 +22,6 @@ abbrev pub variants_of : «Data» → List Variant
 variants_of (body.Struct it) = []
 variants_of (body.Enum it) = it.variants
 variants_of (body.Union it) = []
-
-abbrev pub is_union : «Data» → Bool
-is_union (body.Struct it) = false
-is_union (body.Enum it) = false
-is_union (body.Union it) = true
 
 -- a member that the type does not read
 unfoldable pub no_field : Field → Fault

@@ -23,11 +23,11 @@ use Rattle.options_types.specs.PathList.{PathList}
 use Rattle.options_types.specs.Exprs.{path_cells}
 use Rattle.options_types.specs.Syntax.{where_predicates_cells}
 use Rattle.options_types.specs.Callable.{callable, callable_cells}
-use Rattle.codegen_program.specs.Callable.{Callable}
+use Rattle.options_types.specs.UtilCoreCallable.{Callable}
 use Rattle.options_types.specs.Flag.{flag_cells}
-use Rattle.options_types.specs.Rule.{rule_cells}
-use Rattle.options_types.specs.Row.{Row as NameRow}
-use Rattle.options_types.specs.RenameRule.{RenameRule}
+use Rattle.util_table.specs.Rule.{rule_cells}
+use Rattle.util_table.specs.declared.row.Row.{Row as NameRow}
+use Rattle.util_table.specs.declared.rule.RenameRule.{RenameRule}
 use Rattle.codegen_program.specs.declared.arm.PostfixTransform.{PostfixTransform}
 use Rattle.options_types.specs.DefaultExpression.{default_cells}
 use Rattle.options_types.specs.ForwardAttrs.{forward_cells}

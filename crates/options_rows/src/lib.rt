@@ -6,13 +6,12 @@ mod parse_attribute;
 mod parse_data;
 mod steps;
 
-pub use node_core::{Meta, WherePredicate};
-pub use node_expr::Path;
 pub use option_value::{OptionValue, word_of};
 pub use options_types::{
     Callable, DataShape, DefaultExpression, DeriveInputShapeSet, Flag, ForwardAttrsFilter, Ignored,
-    PathList, RenameRule, RenameTable, SpannedValue, WithOriginal, ast,
+    PathList, SpannedValue, WithOriginal,
 };
 pub use parse_attribute::ParseAttribute;
 pub use parse_data::ParseData;
 pub use steps::{last, last_given, last_rule, once, once_at_path, once_transform, unknown};
+pub use util_table::{RenameRule, RenameTable, TableFail};

@@ -4,13 +4,17 @@ ghost use Rattle.std.specs.Prelude.{◌≡◌, IfOk};
 ghost use Rattle.error_core.specs.ErrorView.{One};
 ghost use Rattle.options_rows.specs.Values as spec;
 
+use base_core::{Items, Mem, Text, TryClone};
 use codegen_program::PostfixTransform;
-use error_core::{Error, Fail, Items, Mem, Result, Span, Text, TryClone};
+use error_core::{Error, Fail, Result};
+use node_core::{Meta, WherePredicate};
+use node_expr::Path;
 use options_types::{
-    Callable, DefaultExpression, DeriveInputShapeSet, Flag, ForwardAttrsFilter, FromMeta, Ident,
-    Meta, Path, PathList, SpannedValue, WherePredicate,
+    Callable, DefaultExpression, DeriveInputShapeSet, Flag, ForwardAttrsFilter, FromMeta, PathList,
+    SpannedValue,
 };
 use std::alloc::Global;
+use tok_types::{Ident, Span};
 
 /// What the item of an option is read as. A contract sees the whole value.
 pub trait OptionValue: Sized + Drop {

@@ -11,10 +11,14 @@ ghost use Rattle.options_rows.specs.Values.{word_of};
 ghost use Rattle.options_rows.specs.Walk.{after_entry, all_faults, entry_faults, read_options, walk_faults, walk_state};
 
 use crate::option_value::word_of;
-use error_core::{Accumulator, Error, Fail, Lit, Mem, Result, TryClone};
-use node_core::Attribute;
-use options_types::{Meta, NestedMeta, Path, RenameTable, TokenStream, items_of};
+use base_core::{Mem, TryClone};
+use error_core::{Accumulator, Error, Fail, Result};
+use node_core::{Attribute, Meta};
+use node_expr::{Lit, Path};
+use options_types::{NestedMeta, items_of};
 use std::alloc::{AllocError, Global};
+use tok_types::TokenStream;
+use util_table::RenameTable;
 
 /// What reads its options from attributes, item by item.
 pub trait ParseAttribute: Sized + Drop {

@@ -4,13 +4,15 @@ ghost use Rattle.std.specs.Prelude.{◌≡◌, ◌++◌, List, IfOk, OnOk, false
 ghost use Rattle.error_fault.specs.Outcome.{Outcome, faults_of};
 ghost use Rattle.error_core.specs.Answers.{Answers};
 ghost use Rattle.error_core.specs.ErrorView.{One, held};
+ghost use Rattle.node_core.specs.Bodies.{is_union};
 ghost use Rattle.options_rows.specs.Does.{Takes, TakesOwn};
 ghost use Rattle.options_rows.specs.Members as spec;
 
-use error_core::{Accumulator, Error, Fail, Mem, Result};
-use node_core::{Data, Field, Fields, Variant};
-use options_types::RenameTable;
+use base_core::Mem;
+use error_core::{Accumulator, Error, Fail, Result};
+use node_core::{Data, Field, Variant};
 use std::alloc::Global;
+use util_table::RenameTable;
 
 /// What reads the members of a body one by one, and checks what it read.
 ///
@@ -77,7 +79,7 @@ pub trait ParseData: Sized + Drop {
     ///
     /// Fails with the faults of all members in order, and with those of the checks behind them.
     final fn parse_body(self, alloc: Global, body: &Data, table: &RenameTable) -> Result<Self>
-        requires { spec.is_union body.now ≡ false }
+        requires { is_union body.now ≡ false }
         ensures { Answers (λ it. it) result (spec.read_body (spec.field_or of_field table.now) (spec.variant_or of_variant table.now) checks self body.now) }
     {
         let mut read = self;
@@ -113,7 +115,7 @@ fn read_body<T: ParseData>(
     table: &RenameTable,
     errors: &mut Accumulator,
 ) -> Mem<()>
-    requires { spec.is_union body.now ≡ false }
+    requires { is_union body.now ≡ false }
     ensures { OnOk result
         ((target.new ≡ spec.after_body (spec.field_or T.of_field table.now) (spec.variant_or T.of_variant table.now) target.old body.now)
         × (held errors.new ≡ held errors.old
@@ -131,25 +133,15 @@ fn parse_members<T: ParseData>(
     table: &RenameTable,
     errors: &mut Accumulator,
 ) -> Mem<()>
-    requires { spec.is_union body.now ≡ false }
+    requires { is_union body.now ≡ false }
     ensures { OnOk result
         ((target.new ≡ spec.after_body (spec.field_or T.of_field table.now) (spec.variant_or T.of_variant table.now) target.old body.now)
         × (held errors.new ≡ held errors.old ++ spec.body_faults (spec.field_or T.of_field table.now) (spec.variant_or T.of_variant table.now) target.old body.now)) }
 {
     match body {
-        Data::Struct(it) => parse_fields(alloc, target, listed(&it.fields), table, errors),
+        Data::Struct(it) => parse_fields(alloc, target, it.fields.as_slice(), table, errors),
         Data::Enum(it) => parse_variants(alloc, target, it.variants.as_slice(), table, errors),
         Data::Union(_) => unreachable!(),
-    }
-}
-
-fn listed(fields: &Fields) -> &[Field]
-    ensures { result.now ≡ spec.listed_fields fields.now }
-{
-    match fields {
-        Fields::Named(it) => it.named.as_slice(),
-        Fields::Unnamed(it) => it.unnamed.as_slice(),
-        Fields::Unit => &[],
     }
 }
 

@@ -11,10 +11,13 @@ ghost use Rattle.options_rows.specs.Rows.{first_of, fresh, last_of, list_of};
 ghost use Rattle.options_rows.specs.Values.{name_of, rule_of, transform_of, unknown};
 
 use crate::option_value::{OptionValue, unknown_error, word_of};
+use base_core::{Mem, Text};
 use codegen_program::PostfixTransform;
-use error_core::{Error, Fail, Mem, Result, Text};
-use options_types::{Meta, RenameRule, RenameTable, path_to_string};
+use error_core::{Error, Fail, Result};
+use node_core::Meta;
+use node_make::path_to_string;
 use std::alloc::Global;
+use util_table::{RenameRule, RenameTable};
 
 /// The first value stands: an option that is set and given again is a duplicate.
 pub fn once<T: OptionValue>(alloc: Global, slot: &mut Option<T>, item: &Meta) -> Result<()>

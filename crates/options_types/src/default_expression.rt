@@ -1,8 +1,13 @@
 //! What stands where no item gives a value, as an option says it.
 
-use error_core::{Error, Fail, Mem, Result, Span, Spanned, TryClone};
+use base_core::{Mem, TryClone};
+use error_core::{Error, Fail, Result};
+use node_core::Meta;
+use node_expr::Expr;
+use node_span::Spanned;
 use std::alloc::Global;
-use util_core::{Call, Callable, Expr, FromMeta, Meta};
+use tok_types::Span;
+use util_core::{Call, Callable, FromMeta};
 
 /// The value of a field, or of a whole receiver, where no item gives one.
 pub enum DefaultExpression {

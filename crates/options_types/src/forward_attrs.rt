@@ -3,7 +3,8 @@
 ghost use Rattle.std.specs.Prelude.{◌↔◌, IsTrue};
 ghost use Rattle.options_types.specs.ForwardAttrs.{ForwardsNone};
 
-use error_core::{Mem, Result, TryClone};
+use base_core::{Mem, TryClone};
+use error_core::Result;
 use std::alloc::Global;
 use util_core::{Call, FromMeta, PathList};
 

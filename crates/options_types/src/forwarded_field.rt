@@ -1,8 +1,9 @@
 //! A field that takes a part of an item as it stands.
 
-use error_core::{Mem, TryClone};
-use node_core::{Ident, Type};
+use base_core::{Mem, TryClone};
+use node_expr::Type;
 use std::alloc::Global;
+use tok_types::Ident;
 use util_core::Callable;
 
 /// A field that takes a part of an item as it stands, as `attrs` takes the attributes.

@@ -1,9 +1,11 @@
 //! What is read and not kept.
 
+use base_core::{Mem, TryClone};
 use body_core::{
     FromDeriveInput, FromField, FromGenericParam, FromGenerics, FromTypeParam, FromVariant,
 };
-use error_core::{Mem, Result, TryClone};
+use body_usage::{Mentions, Searched};
+use error_core::Result;
 use node_core::{DeriveInput, Field, GenericParam, Generics, TypeParam, Variant};
 use std::alloc::Global;
 use util_core::{Call, FromMeta};
@@ -21,6 +23,17 @@ impl Default for Ignored {
 impl TryClone for Ignored {
     fn try_clone(&self, _alloc: Global) -> Mem<Ignored> {
         Ok(*self)
+    }
+}
+
+/// No name is used, as nothing is kept.
+impl Searched for Ignored {
+    ghost use Rattle.std.specs.Prelude.{[]};
+
+    ghost mentions = { λ _ _. [] };
+
+    fn push_mentions<'n>(&'n self, _in_qself: bool, _found: &mut Mentions<'n>) -> Mem<()> {
+        Ok(())
     }
 }
 

@@ -11,18 +11,11 @@ mod spanned_read;
 mod spanned_value;
 mod with_original;
 
-pub use body_core::ast;
 pub use default_expression::DefaultExpression;
 pub use forward_attrs::ForwardAttrsFilter;
 pub use forwarded_field::ForwardedField;
 pub use ignored::Ignored;
-pub use node_core::{Meta, WherePredicate};
-pub use node_expr::Path;
 pub use shapes::{DataShape, DeriveInputShapeSet};
 pub use spanned_value::SpannedValue;
-pub use tok_types::{Ident, TokenStream};
-pub use util_core::{
-    Callable, Flag, FromMeta, NestedMeta, PathList, RenameRule, RenameTable, items_of,
-    path_to_string,
-};
+pub use util_core::{Callable, Flag, FromMeta, NestedMeta, PathList, items_of};
 pub use with_original::WithOriginal;

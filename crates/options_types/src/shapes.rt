@@ -5,10 +5,13 @@ ghost use Rattle.error_core.specs.Answers.{Answers};
 ghost use Rattle.error_core.specs.Each.{each};
 ghost use Rattle.options_types.specs.Shapes as spec;
 
-use error_core::{Error, Fail, Mem, Result, Text, TryClone};
-use node_core::PathSegment;
+use base_core::{Items, Mem, Text, TryClone};
+use error_core::{Error, Fail, Result};
+use node_core::Meta;
+use node_expr::PathSegment;
 use std::alloc::Global;
-use util_core::{Call, FromMeta, Ident, Items, Meta, NestedMeta};
+use tok_types::Ident;
+use util_core::{Call, FromMeta, NestedMeta};
 
 /// The shapes of structs, or of an enum's variants, that a receiver takes.
 #[derive(Clone, Copy, Default, PartialEq, Eq)]

@@ -8,10 +8,12 @@ use crate::spanned_value::SpannedValue;
 use body_core::{
     FromDeriveInput, FromField, FromGenericParam, FromGenerics, FromTypeParam, FromVariant,
 };
-use error_core::{Result, Span, Spanned};
-use node_core::{DeriveInput, Field, GenericParam, Generics, TypeParam, Variant};
+use error_core::Result;
+use node_core::{DeriveInput, Field, GenericParam, Generics, Meta, TypeParam, Variant};
+use node_span::Spanned;
 use std::alloc::Global;
-use util_core::{Call, FromMeta, Meta, spanned};
+use tok_types::Span;
+use util_core::{Call, FromMeta, spanned};
 
 /// What the type inside reads, and where it stands: the word, the tokens of the list, the value behind the `=`, or the
 /// whole item.

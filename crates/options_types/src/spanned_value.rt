@@ -6,11 +6,12 @@ ghost use Rattle.std.specs.Fn.{FnOnceReturnsAt, FnOnceTakesAt};
 ghost use Rattle.options_types.specs.SpannedValue as spec;
 ghost use Rattle.options_types.specs.contracts.spanned_value.SpannedValue.{the_row};
 
-use error_core::{Mem, Span, Spanned, TryClone};
-use node_core::Items;
-use print_core::{ToTokens, TokenTree};
+use base_core::{Items, Mem, TryClone};
+use node_span::Spanned;
+use print_core::ToTokens;
 use std::alloc::Global;
 use std::ops::{Deref, DerefMut};
+use tok_types::{Span, TokenTree};
 
 /// A value, and the place in a text that a fault with it is told at.
 #[derive(Drop)]

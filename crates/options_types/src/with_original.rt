@@ -3,13 +3,15 @@
 ghost use Rattle.std.specs.Prelude.{◌≡◌};
 ghost use Rattle.options_types.specs.WithOriginal as spec;
 
+use base_core::{Mem, TryClone};
 use body_core::{
     FromDeriveInput, FromField, FromGenericParam, FromGenerics, FromTypeParam, FromVariant,
 };
-use error_core::{Mem, Result, TryClone};
-use node_core::{DeriveInput, Field, GenericParam, Generics, TypeParam, Variant};
+use body_usage::{Mentions, Searched};
+use error_core::Result;
+use node_core::{DeriveInput, Field, GenericParam, Generics, Meta, TypeParam, Variant};
 use std::alloc::Global;
-use util_core::{Call, FromMeta, Meta};
+use util_core::{Call, FromMeta};
 
 /// A value, and the syntax that it was read from.
 #[derive(Drop)]
@@ -33,6 +35,15 @@ impl<T: TryClone + Drop, O: TryClone> TryClone for WithOriginal<T, O> {
         let parsed = self.parsed.try_clone(alloc)?;
         let original = self.original.try_clone(alloc)?;
         Ok(WithOriginal { parsed, original })
+    }
+}
+
+/// The names that the value uses; what it was read from is not searched.
+impl<T: Searched, O> Searched for WithOriginal<T, O> {
+    ghost mentions = { λ it. T.mentions it.parsed };
+
+    fn push_mentions<'n>(&'n self, in_qself: bool, found: &mut Mentions<'n>) -> Mem<()> {
+        self.parsed.push_mentions(in_qself, found)
     }
 }
 

@@ -7,4 +7,3 @@ pub mod Exprs
 pub mod Nodes
 pub mod Kinds
 pub mod Items
-pub use Rattle.node_core.specs.Nodes as NodeTypes

@@ -3,9 +3,10 @@
 use crate::list::print_all;
 use crate::push::{push_group, push_mark};
 use crate::to_tokens::ToTokens;
+use base_core::{Items, Mem};
 use node_core::{Attribute, Meta, MetaList, MetaNameValue};
 use std::alloc::Global;
-use tok_types::{Delimiter, Items, Mem, TokenTree};
+use tok_types::{Delimiter, TokenTree};
 
 /// `#[meta]`
 impl ToTokens for Attribute {

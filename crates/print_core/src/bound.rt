@@ -10,9 +10,10 @@ use crate::list::print_in_angles;
 use crate::path::{PathStyle, print_path};
 use crate::push::{push_mark, push_plus, push_word};
 use crate::to_tokens::ToTokens;
-use node_core::{TraitBound, TypeParamBound};
+use base_core::{Items, Mem};
+use node_expr::{TraitBound, TypeParamBound};
 use std::alloc::Global;
-use tok_types::{Items, Lifetime, Mem, Span, TokenTree};
+use tok_types::{Lifetime, Span, TokenTree};
 
 impl ToTokens for TypeParamBound {
     ghost printing = { bound_tokens };

@@ -8,12 +8,13 @@ use crate::list::{print_all, print_maybe_equal, print_separated};
 use crate::push::{push_group, push_mark, push_word};
 use crate::to_tokens::ToTokens;
 use crate::ty::print_maybe_name;
+use base_core::{Items, Mem};
 use node_core::{
     Data, DataEnum, DataStruct, DataUnion, Field, Fields, FieldsNamed, FieldsUnnamed, Variant,
     Visibility, WhereClause,
 };
 use std::alloc::Global;
-use tok_types::{Delimiter, Items, Mem, TokenTree};
+use tok_types::{Delimiter, TokenTree};
 
 /// Nothing, `pub`, `pub(crate)`, `pub(in path)`
 impl ToTokens for Visibility {

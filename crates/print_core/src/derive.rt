@@ -4,9 +4,11 @@ use crate::data::print_body;
 use crate::list::print_all;
 use crate::push::{push_mark, push_word};
 use crate::to_tokens::ToTokens;
-use node_core::{Data, DeriveInput, FnArg};
+use base_core::{Items, Mem};
+use node_core::{Data, DeriveInput};
+use node_expr::FnArg;
 use std::alloc::Global;
-use tok_types::{Items, Mem, TokenTree};
+use tok_types::TokenTree;
 
 /// `#[attr] pub struct Name<T> where .. { a: T }`, an `enum` or a `union`
 impl ToTokens for DeriveInput {

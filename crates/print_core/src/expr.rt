@@ -11,9 +11,10 @@ use crate::path::{PathStyle, print_after_type, print_angled, print_path};
 use crate::push::{push_colons, push_comma, push_group, push_mark, push_word};
 use crate::to_tokens::ToTokens;
 use crate::ty::print_mutability;
-use node_core::{BinOp, Expr, ExprArray, ExprClosure, ExprPath, ExprRange, GenericArgument, UnOp};
+use base_core::{Items, Mem};
+use node_expr::{BinOp, Expr, ExprArray, ExprClosure, ExprPath, ExprRange, GenericArgument, UnOp};
 use std::alloc::Global;
-use tok_types::{Delimiter, Items, Mem, Span, TokenTree};
+use tok_types::{Delimiter, Span, TokenTree};
 
 impl ToTokens for Expr {
     ghost printing = { expr_tokens };

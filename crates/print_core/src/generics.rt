@@ -10,11 +10,13 @@ use crate::list::{
 };
 use crate::push::{push_mark, push_word};
 use crate::to_tokens::ToTokens;
+use base_core::{Items, Mem};
 use node_core::{
-    ConstParam, GenericParam, Generics, LifetimeParam, Type, TypeParam, WhereClause, WherePredicate,
+    ConstParam, GenericParam, Generics, LifetimeParam, TypeParam, WhereClause, WherePredicate,
 };
+use node_expr::Type;
 use std::alloc::Global;
-use tok_types::{Items, Lifetime, Mem, Span, TokenTree};
+use tok_types::{Lifetime, Span, TokenTree};
 
 /// `<'a, T, const N: usize>`, or nothing without parameters. The where clause prints apart.
 impl ToTokens for Generics {

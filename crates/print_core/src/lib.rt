@@ -19,17 +19,22 @@ mod to_tokens;
 mod token;
 mod ty;
 
+pub use base_core::{Boxed, Items, Mem, Text, TryClone};
 pub use node_core::{
-    Attribute, BinOp, Boxed, Comma, ConstParam, Data, DataEnum, DataStruct, DataUnion, Delimiter,
-    DeriveInput, Expr, ExprArray, ExprClosure, ExprPath, ExprRange, Field, Fields, FieldsNamed,
-    FieldsUnnamed, FnArg, GenericArgument, GenericParam, Generics, Group, Ident, Items, Lifetime,
-    LifetimeParam, Lit, LitBool, LitByte, LitByteStr, LitChar, LitFloat, LitInt, LitStr, Literal,
-    Mem, Member, Meta, MetaList, MetaNameValue, NamedArg, Path, PathArguments, PathSegment, Punct,
-    Punctuated, QSelf, ReturnType, Span, Text, TokenStream, TokenTree, TraitBound, TryClone, Type,
-    TypeArray, TypeFnPtr, TypeGroup, TypeImplTrait, TypeInfer, TypeNever, TypeParam,
-    TypeParamBound, TypeParen, TypePath, TypePtr, TypeReference, TypeSlice, TypeTraitObject,
-    TypeTuple, UnOp, Variant, Visibility, WhereClause, WherePredicate,
+    Attribute, Comma, ConstParam, Data, DataEnum, DataStruct, DataUnion, DeriveInput, Field,
+    Fields, FieldsNamed, FieldsUnnamed, GenericParam, Generics, LifetimeParam, Meta, MetaList,
+    MetaNameValue, Punctuated, TypeParam, Variant, Visibility, WhereClause, WherePredicate,
+};
+pub use node_expr::{
+    BinOp, Expr, ExprArray, ExprClosure, ExprPath, ExprRange, FnArg, GenericArgument, Lit, LitBool,
+    LitByte, LitByteStr, LitChar, LitFloat, LitInt, LitStr, Member, NamedArg, Path, PathArguments,
+    PathSegment, QSelf, ReturnType, TraitBound, Type, TypeArray, TypeFnPtr, TypeGroup,
+    TypeImplTrait, TypeInfer, TypeNever, TypeParamBound, TypeParen, TypePath, TypePtr,
+    TypeReference, TypeSlice, TypeTraitObject, TypeTuple, UnOp,
 };
 pub use path::PathStyle;
 pub use push::{push_comma, push_group};
 pub use to_tokens::ToTokens;
+pub use tok_types::{
+    Delimiter, Group, Ident, Lifetime, Literal, Punct, Span, TokenStream, TokenTree,
+};

@@ -8,9 +8,10 @@ ghost use Rattle.print_core.specs.Fronts.{IsFront};
 
 use crate::push::{push_mark, push_word};
 use crate::to_tokens::ToTokens;
+use base_core::{Items, Mem};
 use node_core::{Comma, Punctuated};
 use std::alloc::Global;
-use tok_types::{Items, Mem, Span, TokenTree};
+use tok_types::{Span, TokenTree};
 
 /// `a, b`, with no node around it
 impl<T: ToTokens> ToTokens for Punctuated<T, Comma> {

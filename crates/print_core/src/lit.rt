@@ -2,9 +2,10 @@
 
 use crate::push::{push_mark, push_word};
 use crate::to_tokens::ToTokens;
-use node_core::{Lit, LitBool, LitByte, LitByteStr, LitChar, LitFloat, LitInt, LitStr, Member};
+use base_core::{Items, Mem};
+use node_expr::{Lit, LitBool, LitByte, LitByteStr, LitChar, LitFloat, LitInt, LitStr, Member};
 use std::alloc::Global;
-use tok_types::{Items, Mem, TokenTree};
+use tok_types::TokenTree;
 
 impl ToTokens for Lit {
     ghost use Rattle.print_core.specs.Literals.{lit_tokens};

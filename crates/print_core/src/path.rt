@@ -10,9 +10,10 @@ use crate::bound::print_bounds;
 use crate::push::{push_colons, push_comma, push_group, push_mark, push_word};
 use crate::to_tokens::ToTokens;
 use crate::ty::{print_return, print_types};
-use node_core::{GenericArgument, Path, PathArguments, PathSegment};
+use base_core::{Items, Mem};
+use node_expr::{GenericArgument, Path, PathArguments, PathSegment};
 use std::alloc::Global;
-use tok_types::{Delimiter, Items, Mem, Span, TokenTree};
+use tok_types::{Delimiter, Span, TokenTree};
 
 /// How the arguments in angles stand in a path.
 #[derive(Clone, Copy, Debug, PartialEq, Eq)]

@@ -3,10 +3,9 @@ ghost use Rattle.std.specs.Prelude.{◌≡◌, ◌++◌, OnOk};
 ghost use Rattle.print_core.specs.Marks.{mark, word, group, comma, plus, colons};
 ghost use Rattle.print_core.specs.Fronts.{IsFront};
 
+use base_core::{Boxed, Items, Mem, Text};
 use std::alloc::Global;
-use tok_types::{
-    Boxed, Delimiter, Group, Ident, Items, Mem, Punct, Span, Text, TokenStream, TokenTree,
-};
+use tok_types::{Delimiter, Group, Ident, Punct, Span, TokenStream, TokenTree};
 
 /// Writes the mark of these characters, each joint but the last.
 pub fn push_mark(trees: &mut Items<TokenTree>, characters: &[char], span: Span) -> Mem<()>

@@ -1,7 +1,8 @@
 //! What has tokens: the trait.
 
+use base_core::{Items, Mem};
 use std::alloc::Global;
-use tok_types::{Items, Mem, TokenStream, TokenTree};
+use tok_types::{TokenStream, TokenTree};
 
 /// What has tokens.
 pub trait ToTokens {

@@ -4,10 +4,9 @@
 ghost use Rattle.std.specs.Prelude.{◌∷◌, []};
 
 use crate::to_tokens::ToTokens;
+use base_core::{Boxed, Items, Mem, TryClone};
 use std::alloc::Global;
-use tok_types::{
-    Boxed, Group, Ident, Items, Lifetime, Literal, Mem, Punct, TokenStream, TokenTree, TryClone,
-};
+use tok_types::{Group, Ident, Lifetime, Literal, Punct, TokenStream, TokenTree};
 
 impl ToTokens for Ident {
     ghost use Rattle.print_core.specs.Marks.{ident};

@@ -12,13 +12,14 @@ use crate::bound::{print_binder, print_bounds};
 use crate::path::{PathStyle, print_after_type, print_path};
 use crate::push::{push_comma, push_group, push_mark, push_word};
 use crate::to_tokens::ToTokens;
-use node_core::{
+use base_core::{Items, Mem};
+use node_expr::{
     NamedArg, ReturnType, Type, TypeArray, TypeFnPtr, TypeGroup, TypeImplTrait, TypeInfer,
     TypeNever, TypeParamBound, TypeParen, TypePath, TypePtr, TypeReference, TypeSlice,
     TypeTraitObject, TypeTuple,
 };
 use std::alloc::Global;
-use tok_types::{Delimiter, Ident, Items, Mem, Span, TokenTree};
+use tok_types::{Delimiter, Ident, Span, TokenTree};
 
 impl ToTokens for Type {
     ghost printing = { type_tokens };

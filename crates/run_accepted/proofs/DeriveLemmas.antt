@@ -9,9 +9,9 @@ use Rattle.codegen_program.specs.declared.program.Derive.{Derive}
 use Rattle.codegen_program.specs.declared.program.Derive.TheVariants as derives
 use Rattle.codegen_program.specs.declared.program.«Unit».{«Unit» as Unit'}
 use Rattle.machine_forms.specs.Units.{has_derive, has_twins}
-use Rattle.run_derives.specs.declared.derives.Derived.{Derived}
-use Rattle.run_derives.specs.Repeated as named
-use Rattle.run_derives.specs.Repeated.{repeated_behind, repeated_derives}
+use Rattle.run_accepted.specs.declared.derives.Derived.{Derived}
+use Rattle.run_accepted.specs.Repeated as named
+use Rattle.run_accepted.specs.Repeated.{repeated_behind, repeated_derives}
 
 -- the unit is of the derive
 abbrev pub IsOf : Derived → Unit' → Type 0

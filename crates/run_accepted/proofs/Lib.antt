@@ -1,3 +1,10 @@
+pub mod TraitLemmas
+pub mod RepeatLemmas
+pub mod PairLemmas
+pub mod PlainLemmas
+pub mod OutcomeLemmas
+pub mod BuiltLemmas
+pub mod WalkLemmas
 pub mod ListLemmas
 pub mod PlaceLemmas
 pub mod NameLemmas

@@ -10,12 +10,13 @@ use Rattle.node_core.specs.declared.data.«Data».{«Data»}
 use Rattle.node_core.specs.declared.data.«Data».TheVariants as body
 use Rattle.node_core.specs.declared.derive.DeriveInput.{DeriveInput}
 use Rattle.codegen_program.specs.declared.program.«Unit».{«Unit» as Unit'}
-use Rattle.machine_forms.specs.Decls.{decl_names, list_of}
+use Rattle.machine_host.specs.Decls.{decl_names}
+use Rattle.node_core.specs.Bodies.{field_list}
 use Rattle.machine_forms.specs.Names.{field_names, has_name, names_in, repeated, repeated_field, repeated_fields, repeated_members, repeated_names, repeated_variants, variant_names}
 use Rattle.machine_forms.specs.Places.{refused_if}
 use Rattle.machine_forms.specs.Units.{has_twins}
 use Rattle.machine_forms.proofs.Steps.{places_from-same}
-use Rattle.run_derives.specs.Attributes.{body_without, field_without, fields_without, variant_without, without_attributes}
+use Rattle.run_accepted.specs.Attributes.{body_without, field_without, fields_without, variant_without, without_attributes}
 use Rattle.run_accepted.proofs.ListLemmas.{filter_map-map}
 use Rattle.run_accepted.proofs.PlaceLemmas.{places_from-changed}
 
@@ -24,18 +25,18 @@ same_fields =
     places_from-changed field_without (λ before field. repeated_field (has_name (field_names before)) field.ident)
     (λ before field. ap (λ names. repeated_field (has_name names) field.ident) (filter_map-map (λ (it : Field). it.ident) field_without before))
 
-list_of-without : (it : Fields) → list_of (fields_without it) ≡ map field_without (list_of it)
+list_of-without : (it : Fields) → field_list (fields_without it) ≡ map field_without (field_list it)
 list_of-without (fields.Named it) = refl
 list_of-without (fields.Unnamed it) = refl
 list_of-without fields.Unit = refl
 
-same_body : (it : Fields) → repeated_fields (list_of (fields_without it)) ≡ repeated_fields (list_of it)
-same_body it = ap repeated_fields (list_of-without it) ∙ same_fields (list_of it)
+same_body : (it : Fields) → repeated_fields (field_list (fields_without it)) ≡ repeated_fields (field_list it)
+same_body it = ap repeated_fields (list_of-without it) ∙ same_fields (field_list it)
 
 same_variants : (its : List Variant) → repeated_variants (map variant_without its) ≡ repeated_variants its
 same_variants =
     places_from-changed variant_without
-    (λ before variant. repeated (has_name (variant_names before)) variant.ident ++ repeated_fields (list_of variant.fields))
+    (λ before variant. repeated (has_name (variant_names before)) variant.ident ++ repeated_fields (field_list variant.fields))
     (λ before variant.
     ap₂ (λ names places. repeated (has_name names) variant.ident ++ places) (map-map (λ (it : Variant). it.ident) variant_without before)
     (same_body variant.fields))

@@ -10,7 +10,7 @@ use Rattle.machine_forms.specs.declared.refusals.Unsupported.{Unsupported}
 use Rattle.machine_forms.specs.declared.unfit.Unfit.{Unfit}
 use Rattle.machine_forms.specs.declared.unfit.Unfit.TheVariants as unfit
 use Rattle.machine_fit.specs.Unfitness.{refusals}
-use Rattle.run_compile.specs.Values.{Rules}
+use Rattle.options_rows.specs.Values.{Rules}
 use Rattle.run_accepted.specs.Accepted.{IsSound, Refuses, error_of, unfitness}
 use Rattle.run_accepted.proofs.TwinLemmas.{no_duplicates}
 

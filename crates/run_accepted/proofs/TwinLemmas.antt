@@ -11,12 +11,12 @@ use Rattle.codegen_program.specs.declared.program.Program.{Program}
 use Rattle.codegen_program.specs.declared.program.«Unit».{«Unit» as Unit'}
 use Rattle.machine_forms.specs.Names.{duplicate_names, names_in, repeated_names}
 use Rattle.machine_forms.specs.Units.{has_twins, is_of, units_of}
-use Rattle.run_derives.specs.Attributes.{without_attributes}
-use Rattle.run_derives.specs.Derives.{derives_of}
-use Rattle.run_derives.specs.declared.derives.Derived.{Derived}
-use Rattle.run_compile.specs.Values.{Rules}
-use Rattle.run_compile.specs.Compiled.{IsProgram, IsUnit, IsUnitUnder}
-use Rattle.run_compile.specs.Pairs.{Pair, pair, pairs_from, pairs_of}
+use Rattle.run_accepted.specs.Attributes.{without_attributes}
+use Rattle.run_accepted.specs.Derives.{derives_of}
+use Rattle.run_accepted.specs.declared.derives.Derived.{Derived}
+use Rattle.options_rows.specs.Values.{Rules}
+use Rattle.run_accepted.specs.Compiled.{IsProgram, IsUnit, IsUnitUnder}
+use Rattle.run_accepted.specs.Pairs.{Pair, pair, pairs_from, pairs_of}
 use Rattle.run_accepted.specs.Accepted.{derives_named_again, duplicate}
 use Rattle.run_accepted.proofs.DeriveLemmas.{IsOf, no_twins}
 use Rattle.run_accepted.proofs.ListLemmas.{AllZip-filter, AllZip-of_map, filter-all, filter-none}

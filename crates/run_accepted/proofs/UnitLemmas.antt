@@ -5,11 +5,11 @@ use Rattle.node_core.specs.declared.derive.DeriveInput.{DeriveInput}
 use Rattle.codegen_program.specs.declared.program.Derive.{Derive}
 use Rattle.codegen_program.specs.declared.program.Derive.TheVariants as derive
 use Rattle.codegen_program.specs.declared.program.«Unit».{«Unit» as Unit'}
-use Rattle.run_compile.specs.Compiled.{IsUnitUnder}
-use Rattle.run_compile.specs.Derives.{derives_of}
-use Rattle.run_compile.specs.Pairs.{Pair, pair, pairs_from, pairs_of}
-use Rattle.run_compile.specs.Values.{Rules}
-use Rattle.run_accepted.specs.Units.{is_input}
+use Rattle.run_accepted.specs.Compiled.{IsUnitUnder}
+use Rattle.run_accepted.specs.Derives.{derives_of}
+use Rattle.run_accepted.specs.Pairs.{Pair, pair, pairs_from, pairs_of}
+use Rattle.options_rows.specs.Values.{Rules}
+use Rattle.codegen_program.specs.Traits.{is_input}
 
 -- the declaration of a pair stands at its number
 abbrev pub Stands : List DeriveInput → Pair → Type 0

@@ -10,13 +10,13 @@ use Rattle.machine_forms.specs.Refusals.{first_in_text}
 use Rattle.machine_forms.specs.declared.unfit.Unfit.{Unfit}
 use Rattle.machine_forms.specs.declared.unfit.Unfit.TheVariants as unfit
 use Rattle.machine_fit.specs.Unfitness.{refusals}
-use Rattle.run_derives.specs.Derives.{derives_of}
-use Rattle.run_derives.specs.Repeated.{repeated_derives}
-use Rattle.run_compile.specs.Compiled.{IsProgram}
-use Rattle.run_compile.specs.Pairs.{pairs_from, rejected}
-use Rattle.run_compile.specs.Values.{Rules}
-use Rattle.run_compile.specs.declared.rejected.CompileFail.{CompileFail}
-use Rattle.run_compile.specs.declared.rejected.CompileFail.TheVariants as compile
+use Rattle.run_accepted.specs.Derives.{derives_of}
+use Rattle.run_accepted.specs.Repeated.{repeated_derives}
+use Rattle.run_accepted.specs.Compiled.{IsProgram}
+use Rattle.run_accepted.specs.Pairs.{pairs_from, rejected}
+use Rattle.options_rows.specs.Values.{Rules}
+use Rattle.run_accepted.specs.declared.rejected.CompileFail.{CompileFail}
+use Rattle.run_accepted.specs.declared.rejected.CompileFail.TheVariants as compile
 use Rattle.run_accepted.specs.declared.error.RunError.{RunError}
 use Rattle.run_accepted.specs.declared.error.RunError.TheVariants as error
 

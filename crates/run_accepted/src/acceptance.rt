@@ -2,16 +2,21 @@
 
 ghost use Rattle.std.specs.Prelude.{◌≡◌, ◌<◌, ◌^◌, ◌++◌, length, IfOk, OnOk};
 ghost use Rattle.std.specs.List.{All};
-ghost use Rattle.run_compile.specs.Unbuilt.{IsBuilt};
+ghost use Rattle.run_accepted.specs.Unbuilt.{IsBuilt};
 ghost use Rattle.machine_forms.specs.Names as names;
 ghost use Rattle.run_accepted.specs.Accepted as spec;
 
 use crate::error::RunError;
-use machine_fit::{Host, Program, Unfit, earliest, refusals, repeated_names};
-use node_core::{DeriveInput, Items, Mem, Span};
-use run_compile::{RenameTable, compile};
-use run_derives::{derives_of, repeated_derives};
+use crate::{compile, derives_of, repeated_derives};
+use base_core::{Items, Mem};
+use codegen_program::Program;
+use machine_fit::refusals;
+use machine_forms::{Unfit, earliest, repeated_names};
+use machine_host::Host;
+use node_core::DeriveInput;
+use options_rows::RenameTable;
 use std::alloc::Global;
+use tok_types::Span;
 
 /// Whether the declarations can be run with the host, and else why not.
 ///

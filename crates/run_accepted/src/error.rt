@@ -3,10 +3,11 @@
 ghost use Rattle.std.specs.Prelude.{◌≡◌};
 ghost use Rattle.run_accepted.specs.Accepted as spec;
 
-use machine_fit::{Form, Unfit};
-use node_core::{Mem, Span, TryClone};
-use run_compile::{CompileFail, Rejected};
+use crate::{CompileFail, Rejected};
+use base_core::{Mem, TryClone};
+use machine_forms::{Form, Unfit};
 use std::alloc::{AllocError, AllocFailed, Global};
+use tok_types::Span;
 
 /// Why texts can't be run. Where several of these would fit, the first of this list that does is named, at its first place
 /// in the text.

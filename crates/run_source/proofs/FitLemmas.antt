@@ -1,5 +1,5 @@
 -- A program of which nothing stands first in the text, against running it, is fit.
-use Rattle.run_accepted.specs.Unfitness.{refusals}
+use Rattle.law_options.specs.Unfitness.{refusals}
 use Rattle.run_accepted.proofs.FitLemmas.{none_listed}
 use Rattle.run_source.specs.Claims.{AcceptedFits}
 

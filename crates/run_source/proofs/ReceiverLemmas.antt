@@ -11,15 +11,16 @@ use Rattle.codegen_program.specs.declared.program.Derive.{Derive}
 use Rattle.codegen_program.specs.declared.program.Derive.TheVariants as derive
 use Rattle.codegen_program.specs.declared.program.Program.{Program}
 use Rattle.codegen_program.specs.declared.program.«Unit».{«Unit» as Unit'}
-use Rattle.run_accepted.specs.Units.{is_input, is_of, is_receiver as is_received}
-use Rattle.run_accepted.specs.Unfitness.{refusals}
-use Rattle.law_options.specs.Elements.{OnInput, machine_on, unit_on}
+use Rattle.codegen_program.specs.Traits.{is_input}
+use Rattle.law_options.specs.Units.{is_of, is_receiver as is_received}
+use Rattle.law_options.specs.Unfitness.{refusals}
+use Rattle.machine_execute.specs.Elements.{OnInput, machine_on, unit_on}
 use Rattle.law_options.specs.HostSays.{HostSays}
 use Rattle.law_options.specs.Values.{Rules}
-use Rattle.law_options.specs.Attributes.{without_attributes}
-use Rattle.law_options.specs.Unbuilt.{IsBuilt}
-use Rattle.law_options.specs.Compiled.{IsUnit, IsUnitUnder}
-use Rattle.law_options.specs.Pairs.{pair, pairs_from}
+use Rattle.run_accepted.specs.Attributes.{without_attributes}
+use Rattle.run_accepted.specs.Unbuilt.{IsBuilt}
+use Rattle.run_accepted.specs.Compiled.{IsUnit, IsUnitUnder}
+use Rattle.run_accepted.specs.Pairs.{pair, pairs_from}
 use Rattle.run_accepted.specs.Accepted.{unfitness}
 use Rattle.run_accepted.proofs.FitLemmas.{has_receiver}
 use Rattle.run_accepted.proofs.ListLemmas.{at_place, opposite}

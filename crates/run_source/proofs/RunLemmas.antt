@@ -5,11 +5,11 @@ use Rattle.node_core.specs.declared.derive.DeriveInput.{DeriveInput}
 use Rattle.error_fault.specs.Outcome.{Outcome}
 use Rattle.codegen_program.specs.declared.program.Program.{Program}
 use Rattle.machine_value.specs.declared.value.Value.{Value as Datum}
-use Rattle.run_accepted.specs.HostSays.{HostSays}
+use Rattle.law_options.specs.HostSays.{HostSays}
 use Rattle.run_accepted.specs.Unbuilt.{IsBuilt, unbuilt}
-use Rattle.run_accepted.specs.Values.{Rules}
+use Rattle.law_options.specs.Values.{Rules}
 use Rattle.run_accepted.proofs.PlaceLemmas.{none_first}
-use Rattle.law_options.proofs.BuiltLemmas.{all_built}
+use Rattle.run_accepted.proofs.BuiltLemmas.{all_built}
 use Rattle.run_source.specs.Meaning.{item_meaning}
 use Rattle.run_source.specs.Receiver.{CanRun, outcome, receiver}
 use Rattle.run_source.specs.Source.{IsProgramOf, IsRun, first_unbuilt}

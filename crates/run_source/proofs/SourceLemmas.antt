@@ -3,12 +3,12 @@ use Rattle.std.proofs.Common.{◌≡◌, ◌⊎◌, ◌∙◌, ℕ, List, Option
 use Rattle.tok_types.specs.declared.span.Span.{Span}
 use Rattle.node_core.specs.declared.derive.DeriveInput.{DeriveInput}
 use Rattle.codegen_program.specs.declared.program.Program.{Program}
-use Rattle.run_accepted.specs.HostSays.{HostSays}
-use Rattle.run_accepted.specs.Unfit.{Unfit}
-use Rattle.run_accepted.specs.Unfit.TheVariants as unfit
-use Rattle.run_accepted.specs.Values.{Rules}
+use Rattle.law_options.specs.HostSays.{HostSays}
+use Rattle.law_options.specs.Unfit.{Unfit}
+use Rattle.law_options.specs.Unfit.TheVariants as unfit
+use Rattle.law_options.specs.Values.{Rules}
 use Rattle.run_accepted.specs.Pairs.{pairs_from, rejected}
-use Rattle.run_accepted.specs.Rejected.{Rejected}
+use Rattle.run_accepted.specs.declared.rejected.Rejected.{Rejected}
 use Rattle.run_accepted.specs.Accepted as accepted
 use Rattle.run_accepted.specs.Accepted.{IsAccepted, IsUnfit, duplicate, unfitness}
 use Rattle.run_accepted.specs.declared.error.RunError.{RunError}

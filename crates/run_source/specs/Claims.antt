@@ -4,9 +4,9 @@ use Rattle.std.specs.List.{All}
 use Rattle.node_core.specs.declared.derive.DeriveInput.{DeriveInput}
 use Rattle.codegen_program.specs.declared.program.Program.{Program}
 use Rattle.law_options.specs.HostSays.{HostSays}
-use Rattle.run_accepted.specs.Unfitness.{unfitness}
+use Rattle.law_options.specs.Unfitness.{unfitness}
 use Rattle.law_options.specs.Values.{Rules}
-use Rattle.law_options.specs.Unbuilt.{IsBuilt}
+use Rattle.run_accepted.specs.Unbuilt.{IsBuilt}
 use Rattle.run_accepted.specs.Accepted.{IsAccepted}
 use Rattle.run_source.specs.Receiver.{CanRun, outcome}
 use Rattle.run_source.specs.Meaning.{item_meaning}

@@ -6,7 +6,7 @@ use Rattle.tok_core.specs.Spells.{Spells}
 use Rattle.tok_core.specs.Endings.{EndsAt, IsWithin, deep, wrong}
 use Rattle.syn_grammar.specs.Input.{first_span}
 use Rattle.syn_items.specs.Trees.{IsItemFront, items_of}
-use Rattle.run_accepted.specs.Places.{start_of}
+use Rattle.law_options.specs.Places.{start_of}
 use Rattle.run_source.specs.declared.part.Part.{Part}
 use Rattle.run_source.specs.declared.part.Part.TheVariants as part
 

@@ -5,9 +5,9 @@ use Rattle.error_fault.specs.Outcome.{Outcome}
 use Rattle.codegen_program.specs.declared.program.Program.{Program}
 use Rattle.codegen_program.specs.declared.program.«Unit».{«Unit» as Unit'}
 use Rattle.machine_value.specs.declared.value.Value.{Value as Datum}
-use Rattle.law_options.specs.Elements.{HasOutcome, OnInput, machine_on}
+use Rattle.machine_execute.specs.Elements.{HasOutcome, OnInput, machine_on}
 use Rattle.law_options.specs.HostSays.{HostSays}
-use Rattle.run_accepted.specs.Units.{is_input}
+use Rattle.codegen_program.specs.Traits.{is_input}
 
 -- by the unit items of a text are read as the last of so many declarations
 abbrev pub is_receiver : ℕ → Unit' → Bool

@@ -5,10 +5,10 @@ use Rattle.node_core.specs.declared.derive.DeriveInput.{DeriveInput}
 use Rattle.error_fault.specs.Outcome.{Outcome}
 use Rattle.codegen_program.specs.declared.program.Program.{Program}
 use Rattle.machine_value.specs.declared.value.Value.{Value as Datum}
-use Rattle.run_accepted.specs.HostSays.{HostSays}
-use Rattle.run_accepted.specs.Places.{earliest}
+use Rattle.law_options.specs.HostSays.{HostSays}
+use Rattle.law_options.specs.Places.{earliest}
 use Rattle.run_accepted.specs.Unbuilt.{unbuilt}
-use Rattle.run_accepted.specs.Values.{Rules}
+use Rattle.law_options.specs.Values.{Rules}
 use Rattle.run_accepted.specs.Accepted as accepted
 use Rattle.run_accepted.specs.Accepted.{IsAccepted}
 use Rattle.run_accepted.specs.declared.error.RunError.{RunError}

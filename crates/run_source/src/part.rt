@@ -1,18 +1,20 @@
 //! A text as a list of items.
 
 ghost use Rattle.std.specs.Prelude.{◌≡◌, ◌≤◌, length, IfOk, Some};
-ghost use Rattle.run_accepted.specs.Places as places;
+ghost use Rattle.law_options.specs.Places as places;
 ghost use Rattle.run_source.specs.Parts as spec;
 ghost use Rattle.run_source.specs.Source as source;
 
 use crate::source::Texts;
-use node_core::{DeriveInput, Items, Mem, Span};
+use base_core::{Items, Mem};
+use node_core::DeriveInput;
 use run_accepted::RunError;
 use std::alloc::{AllocError, Global};
-use syn_core::{ParseFail, item_front, parse_items};
+use syn_core::{ParseFail, parse_items};
 use syn_grammar::Cursor;
+use syn_items::item_front;
 use tok_core::{LexError, MAX_LEN, lex};
-use tok_types::{TokenStream, TokenTree};
+use tok_types::{Span, TokenStream, TokenTree};
 
 /// What a text is read to. A place is a byte of it.
 pub(crate) enum Part {

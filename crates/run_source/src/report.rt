@@ -1,9 +1,10 @@
 //! What is told of two texts that were run.
 
+use base_core::{Items, Mem, TryClone};
 use codegen_program::Program;
+use law_options::RenameTable;
 use machine_execute::Outcome;
-use node_core::{DeriveInput, Items, Mem, TryClone};
-use run_accepted::RenameTable;
+use node_core::DeriveInput;
 use std::alloc::Global;
 
 /// What was read, what it was compiled to, and what came of it.

@@ -1,14 +1,15 @@
 //! What a program makes of items of a text.
 
 ghost use Rattle.std.specs.Prelude.{◌≡◌, Some, IfOk, map};
-ghost use Rattle.law_options.specs.Elements.{HasOutcome, OnInput, machine_on};
+ghost use Rattle.machine_execute.specs.Elements.{HasOutcome, OnInput, machine_on};
 ghost use Rattle.run_source.specs.Receiver as spec;
 
 use crate::units::receiver;
+use base_core::{Items, Mem};
 use codegen_program::Program;
+use law_options::Host;
 use machine_execute::{Element, Outcome, execute};
-use node_core::{DeriveInput, Items, Mem};
-use run_accepted::Host;
+use node_core::DeriveInput;
 use std::alloc::Global;
 
 /// What the receiver makes of each item, in order.

@@ -7,10 +7,12 @@ use crate::part::read_part;
 use crate::report::Report;
 use crate::run::run_program;
 use crate::units::receiver;
+use base_core::{Items, TryClone};
 use codegen_program::Program;
+use law_options::{Host, RenameTable, earliest};
 use machine_execute::Outcome;
-use node_core::{DeriveInput, Items, TryClone};
-use run_accepted::{Host, RenameTable, RunError, earliest, program_of, unbuilt};
+use node_core::DeriveInput;
+use run_accepted::{RunError, program_of, unbuilt};
 use std::alloc::Global;
 use tok_core::MAX_LEN;
 

@@ -3,8 +3,8 @@
 ghost use Rattle.std.specs.Prelude.{◌≡◌, IfOk};
 ghost use Rattle.run_source.specs.Receiver as spec;
 
+use base_core::Mem;
 use codegen_program::{Derive, Program, Unit};
-use node_core::Mem;
 use std::alloc::AllocError;
 
 /// The number of the unit by which items of a text are read as the last declaration. A number that a `u32` can't hold is

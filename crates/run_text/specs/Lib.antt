@@ -1,2 +1,1 @@
 pub mod ValueText
-pub use Rattle.error_fault.specs.FaultText

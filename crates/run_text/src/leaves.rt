@@ -8,10 +8,11 @@ ghost use Rattle.error_fault.specs.FaultText.{fault_line};
 ghost use Rattle.run_text.specs.ValueText.{backquote, quoted, bool_text, int_text, faults_text, host_text};
 
 use crate::quoted::push_quoted;
+use base_core::{Mem, Text};
 use error_fault::{Fault, push_fault_line};
 use std::alloc::Global;
 use tok_core::to_text;
-use tok_types::{Mem, Text, TokenStream};
+use tok_types::TokenStream;
 
 /// `true` or `false`
 pub(crate) fn push_bool(out: &mut Text, it: bool) -> Mem<()>

@@ -6,5 +6,4 @@ mod quoted;
 mod values;
 
 pub use leaves::push_fault_lines;
-pub use machine_value::{Style, Value};
 pub use values::{push_value, value_text};

@@ -3,8 +3,8 @@
 ghost use Rattle.std.specs.Prelude.{◌≡◌, ◌++◌, flat_map, chars, OnOk};
 ghost use Rattle.run_text.specs.ValueText.{quoted_char, quoted, char_text};
 
+use base_core::{Mem, Text};
 use error_fault::push_escaped_char;
-use tok_types::{Mem, Text};
 
 /// The text between two of the quote, which stands in it by a backslash.
 pub(crate) fn push_quoted(out: &mut Text, quote: char, text: &str) -> Mem<()>

@@ -7,10 +7,11 @@ use crate::leaves::{
     push_bool, push_faults, push_host, push_int, push_key, push_label, push_tokens,
 };
 use crate::quoted::{push_char, push_quoted};
+use base_core::{Boxed, Mem, Text};
 use error_fault::push_span;
-use machine_value::{Style, Value};
+use machine_value::Value;
+use node_core::Style;
 use std::alloc::Global;
-use tok_types::{Boxed, Mem, Text};
 
 /// The text of a value, as `Opts {name: "a"}`.
 pub fn value_text(alloc: Global, value: &Value) -> Mem<Text>

@@ -1,14 +1,14 @@
 pub mod Nodes
 pub mod OneTree
 pub mod Parses
-pub mod Tokens
+pub use Rattle.node_core.specs.Bodies
 pub use Rattle.node_core.specs.Error
-pub use Rattle.node_core.specs.Folds
-pub use Rattle.node_core.specs.Kinds
-pub use Rattle.node_core.specs.Layers
 pub use Rattle.node_core.specs.Meta
-pub use Rattle.node_core.specs.PathIdent
-pub use Rattle.node_core.specs.PathText
+pub use Rattle.node_expr.specs.Folds
+pub use Rattle.node_expr.specs.Kinds
+pub use Rattle.node_expr.specs.Layers
+pub use Rattle.node_expr.specs.PathIdent
+pub use Rattle.node_make.specs.PathText
 pub use Rattle.node_span.specs.Spanned
 pub use Rattle.syn_grammar.specs.Arguments
 pub use Rattle.syn_grammar.specs.Depth
@@ -35,6 +35,7 @@ pub use Rattle.syn_items.specs.Lists as ItemLists
 pub use Rattle.syn_items.specs.Trees as ItemTrees
 pub use Rattle.syn_items.specs.Visibility
 pub use Rattle.syn_lists.specs.Lists
+pub use Rattle.tok_core.specs.Tokens
 pub use Rattle.tok_types.specs.Ident
 pub use Rattle.tok_types.specs.Names
 pub use Rattle.tok_types.specs.Span

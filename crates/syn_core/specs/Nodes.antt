@@ -1,4 +1,4 @@
--- The types of nodes, for definitions over them.
+-- The types of nodes in one list, for definitions over them.
 pub use Rattle.node_expr.specs.declared.expr.Expr.{Expr, out-Expr, roll-Expr}
 pub use Rattle.node_expr.specs.declared.expr.Expr.TheVariants as expr
 pub use Rattle.node_expr.specs.declared.expr.Expr.TheOpen.{Expr-F, TypeParamBound-F, GenericArgument-F, PathArguments-F, Type-F, ExprPath-F, TraitBound-F, Path-F, PathSegment-F, TypeArray-F, TypePath-F}
@@ -81,4 +81,4 @@ pub use Rattle.node_core.specs.declared.generics.WherePredicate.{WherePredicate}
 pub use Rattle.node_core.specs.declared.generics.WherePredicate.TheVariants as where_predicate
 pub use Rattle.node_core.specs.declared.punctuated.Punctuated.{Punctuated}
 pub use Rattle.node_core.specs.declared.punctuated.Comma.{Comma}
-pub use Rattle.node_error.specs.declared.error.SynError.{SynError}
+pub use Rattle.node_core.specs.declared.error.SynError.{SynError}

@@ -3,7 +3,7 @@ use Rattle.std.specs.Prelude.{◌≡◌, ℕ, List, [], Option, Some, None, Resu
 use Rattle.tok_types.specs.declared.span.Span.{Span}
 use Rattle.tok_types.specs.declared.tree.TokenStream.{TokenStream}
 use Rattle.node_span.specs.Spanned.{stream_span}
-use Rattle.node_core.specs.Nodes.{SynError}
+use Rattle.node_core.specs.declared.error.SynError.{SynError}
 use Rattle.syn_core.specs.declared.fail.ParseFail.{ParseFail}
 use Rattle.syn_core.specs.declared.fail.ParseFail.TheVariants.{Syn, NoMemory}
 

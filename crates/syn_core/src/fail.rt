@@ -2,9 +2,10 @@
 
 ghost use Rattle.syn_core.specs.Parses.{Refuses, fault_at};
 
-use node_core::{Mem, SynError, TryClone};
-use node_expr::Span;
+use base_core::{Mem, TryClone};
+use node_core::SynError;
 use std::alloc::{AllocError, AllocFailed, Global};
+use tok_types::Span;
 
 /// Why a parser gives no tree.
 #[derive(Debug, Drop)]

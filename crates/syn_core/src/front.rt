@@ -17,13 +17,13 @@ ghost use Rattle.syn_lists.specs.Lists.{all_depth};
 
 use base_core::Items;
 use node_core::{DeriveInput, TypeParam, Visibility, WhereClause};
-use node_expr::{Expr, FnArg, Ident, Path, TokenStream, Type};
+use node_expr::{Expr, FnArg, Path, Type};
 use std::alloc::Global;
 use syn_grammar::Cursor;
-use syn_rules::{
-    ANY_LEVEL, MAX_DEPTH, MAX_PATTERN, Parsed, items_after, pattern, read_expr, read_path,
-    read_type,
-};
+use syn_lists::{MAX_PATTERN, Parsed, items_after, pattern};
+use syn_rules::{read_expr, read_path, read_type};
+use syn_types::{ANY_LEVEL, MAX_DEPTH};
+use tok_types::{Ident, TokenStream};
 
 /// A type, where a `dyn` or `impl` has several bounds.
 pub(crate) fn ty(alloc: Global, tokens: &mut Cursor<'_>) -> Parsed<Type>

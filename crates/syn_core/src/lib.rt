@@ -7,18 +7,20 @@ mod front;
 mod laws;
 mod parse;
 
+pub use base_core::{Boxed, Items, Mem, Text, TryClone};
 pub use fail::{Parse, ParseFail};
 pub use laws::tokens_have_one_tree;
 pub use node_core::{
-    Attribute, BinOp, Boxed, ConstParam, Data, DataEnum, DataStruct, DataUnion, Delimiter,
-    DeriveInput, Expr, ExprArray, ExprClosure, ExprPath, ExprRange, Field, Fields, FieldsNamed,
-    FieldsUnnamed, FnArg, GenericArgument, GenericParam, Generics, Group, Ident, Items, Lifetime,
-    LifetimeParam, Lit, LitBool, LitByte, LitByteStr, LitChar, LitFloat, LitInt, LitStr, Literal,
-    Mem, Member, Meta, MetaList, MetaNameValue, NamedArg, Path, PathArguments, PathSegment, Punct,
-    QSelf, ReturnType, Span, SynError, Text, TokenStream, TokenTree, TraitBound, TryClone, Type,
-    TypeArray, TypeFnPtr, TypeGroup, TypeImplTrait, TypeInfer, TypeNever, TypeParam,
-    TypeParamBound, TypeParen, TypePath, TypePtr, TypeReference, TypeSlice, TypeTraitObject,
-    TypeTuple, UnOp, Variant, Visibility, WhereClause, WherePredicate,
+    Attribute, ConstParam, Data, DataEnum, DataStruct, DataUnion, DeriveInput, Field, Fields,
+    FieldsNamed, FieldsUnnamed, GenericParam, Generics, LifetimeParam, Meta, MetaList,
+    MetaNameValue, SynError, TypeParam, Variant, Visibility, WhereClause, WherePredicate,
+};
+pub use node_expr::{
+    BinOp, Expr, ExprArray, ExprClosure, ExprPath, ExprRange, FnArg, GenericArgument, Lit, LitBool,
+    LitByte, LitByteStr, LitChar, LitFloat, LitInt, LitStr, Member, NamedArg, Path, PathArguments,
+    PathSegment, QSelf, ReturnType, TraitBound, Type, TypeArray, TypeFnPtr, TypeGroup,
+    TypeImplTrait, TypeInfer, TypeNever, TypeParamBound, TypeParen, TypePath, TypePtr,
+    TypeReference, TypeSlice, TypeTraitObject, TypeTuple, UnOp,
 };
 pub use node_span::Spanned;
 pub use parse::{
@@ -28,4 +30,7 @@ pub use parse::{
 };
 pub use syn_grammar::lit_of;
 pub use syn_items::item_front;
-pub use syn_rules::MAX_DEPTH;
+pub use syn_types::MAX_DEPTH;
+pub use tok_types::{
+    Delimiter, Group, Ident, Lifetime, Literal, Punct, Span, TokenStream, TokenTree,
+};

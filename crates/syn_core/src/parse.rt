@@ -11,11 +11,12 @@ use crate::fail::{Parse, ParseFail};
 use crate::front;
 use base_core::Items;
 use node_core::{DeriveInput, TypeParam, Visibility, WhereClause};
-use node_expr::{Expr, ExprArray, ExprPath, ExprRange, FnArg, Ident, Path, TokenStream, Type};
+use node_expr::{Expr, ExprArray, ExprPath, ExprRange, FnArg, Path, Type};
 use node_span::Spanned;
 use std::alloc::Global;
 use syn_grammar::Cursor;
-use syn_rules::{Parsed, all_of};
+use syn_lists::{Parsed, all_of};
+use tok_types::{Ident, TokenStream};
 
 /// The one fault over all of the tokens.
 fn refusal(alloc: Global, tokens: &TokenStream, text: &str) -> ParseFail

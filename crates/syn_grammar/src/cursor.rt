@@ -13,11 +13,11 @@ use crate::token::{
     contents_of, ident_of, is_arrow, is_colon, is_colons, is_mark, lifetime_of, literal_of, span_of,
 };
 use crate::word::{Word, name_of, peek, segment_word};
-use base_core::{Items, Mem};
+use base_core::{Items, Mem, TryClone};
 use node_expr::LitInt;
 use std::alloc::Global;
 use std::marker::Model;
-use tok_types::{Ident, Lifetime, Literal, Span, TokenTree, TryClone};
+use tok_types::{Ident, Lifetime, Literal, Span, TokenTree};
 
 /// The tokens that are left of a list, and where the last one that was read stands.
 #[derive(Drop)]

@@ -4,11 +4,11 @@ ghost use Rattle.std.specs.Prelude.{◌≡◌, IfOk, chars};
 ghost use Rattle.syn_grammar.specs.Literals as spec;
 
 use crate::token::literal_of;
-use base_core::Mem;
+use base_core::{Mem, TryClone};
 use node_expr::{Lit, LitByte, LitByteStr, LitChar, LitFloat, LitInt, LitStr};
 use std::alloc::Global;
 use tok_lit::Value;
-use tok_types::{Literal, TokenTree, TryClone};
+use tok_types::{Literal, TokenTree};
 
 /// The value of a text, where it is one whole literal.
 fn value_of(alloc: Global, text: &str) -> Mem<Option<Value>>

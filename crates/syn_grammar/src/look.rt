@@ -8,7 +8,8 @@ use crate::token::{
     is_mark, is_question, is_turbofish, lifetime_of, literal_of, mark_of,
 };
 use crate::word::{Word, next_word};
-use node_expr::{BinOp, Delimiter, TokenTree};
+use node_expr::BinOp;
+use tok_types::{Delimiter, TokenTree};
 
 /// What begins a type.
 #[derive(Clone, Copy, Debug, PartialEq, Eq)]

@@ -7,14 +7,15 @@ ghost use Rattle.syn_items.specs.Lists.{Flat};
 
 use crate::lists::{While, each_while};
 use crate::look::delimiter_of;
-use base_core::Mem;
+use base_core::{Items, Mem};
 use node_core::{Attribute, Meta, MetaList, MetaNameValue};
-use node_expr::{
-    Delimiter, Expr, Items, Lit, Path, PathArguments, PathSegment, Span, TokenStream, TokenTree,
-};
+use node_expr::{Expr, Lit, Path, PathArguments, PathSegment};
 use std::alloc::Global;
 use syn_grammar::{Cursor, ReadFail, contents_of, lit_of};
-use syn_rules::{ANY_LEVEL, Joint, MAX_DEPTH, Parsed, all_of, inside, joined_by, read_expr};
+use syn_lists::{Joint, Parsed, all_of, inside, joined_by};
+use syn_rules::read_expr;
+use syn_types::{ANY_LEVEL, MAX_DEPTH};
+use tok_types::{Delimiter, Span, TokenStream, TokenTree};
 
 /// A segment of a meta path: any word, a keyword or `_` too.
 #[tactic(auto, unfolding(crate::specs::Attributes::meta_segment))]

@@ -6,11 +6,13 @@ ghost use Rattle.syn_items.specs.Lists.{Flat};
 
 use crate::generics::{bounds, lifetimes, ty};
 use crate::look::ends_where;
+use base_core::Items;
 use node_core::{WhereClause, WherePredicate};
-use node_expr::{Items, TypeParamBound};
+use node_expr::TypeParamBound;
 use std::alloc::Global;
 use syn_grammar::{Cursor, ReadFail, Word, lifetime_of, peek};
-use syn_rules::{Parsed, binder};
+use syn_lists::Parsed;
+use syn_types::binder;
 
 /// `'a: 'b + 'c`
 #[tactic(auto, unfolding(crate::specs::Generics::lifetime_predicate))]

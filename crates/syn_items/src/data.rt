@@ -7,11 +7,14 @@ ghost use Rattle.syn_items.specs.Lists.{Flat};
 use crate::attr::attributes;
 use crate::generics::{expr, ty};
 use crate::restriction::visibility;
+use base_core::Items;
 use node_core::{Field, Fields, FieldsNamed, FieldsUnnamed, Variant};
-use node_expr::{Delimiter, Expr, Items};
+use node_expr::Expr;
 use std::alloc::Global;
 use syn_grammar::{Cursor, ReadFail, is_group};
-use syn_rules::{ANY_LEVEL, Parsed, inside, items_after};
+use syn_lists::{Parsed, inside, items_after};
+use syn_types::ANY_LEVEL;
+use tok_types::Delimiter;
 
 /// `#[attr] pub name: T`
 #[tactic(auto, unfolding(crate::specs::Fields::named_field))]

@@ -12,14 +12,14 @@ use crate::generics::params;
 use crate::lists::{While, each_while};
 use crate::look::{ItemStart, item_start};
 use crate::restriction::visibility;
-use base_core::Mem;
+use base_core::{Items, Mem};
 use node_core::{
     Data, DataEnum, DataStruct, DataUnion, DeriveInput, Fields, Generics, WhereClause,
 };
-use node_expr::{Delimiter, Items, TokenStream};
 use std::alloc::{AllocError, Global};
 use syn_grammar::{Cursor, ReadFail, is_group};
-use syn_rules::{Parsed, inside};
+use syn_lists::{Parsed, inside};
+use tok_types::{Delimiter, TokenStream};
 
 /// A body, and the `where` clause that stands before or in it.
 type Body = (Option<WhereClause>, Data);

@@ -7,17 +7,15 @@ ghost use Rattle.syn_items.specs.Generics as spec;
 ghost use Rattle.syn_items.specs.Lists.{Flat};
 
 use crate::attr::attributes;
-use base_core::Mem;
+use base_core::{Items, Mem};
 use node_core::{Attribute, ConstParam, GenericParam, LifetimeParam, TypeParam};
-use node_expr::{
-    Expr, ExprPath, Ident, Items, Lifetime, Path, PathArguments, PathSegment, Span, Type,
-    TypeParamBound,
-};
+use node_expr::{Expr, ExprPath, Path, PathArguments, PathSegment, Type, TypeParamBound};
 use std::alloc::Global;
 use syn_grammar::{Cursor, ReadFail, Word, begins_constant, lifetime_of, peek};
-use syn_rules::{
-    CONSTANT_LEVEL, Joint, MAX_DEPTH, Parsed, joined_by, read_bounds, read_expr, read_type, until,
-};
+use syn_lists::{Joint, Parsed, joined_by, until};
+use syn_rules::{read_bounds, read_expr, read_type};
+use syn_types::{CONSTANT_LEVEL, MAX_DEPTH};
+use tok_types::{Ident, Lifetime, Span};
 
 /// A lifetime.
 fn lifetime(alloc: Global, tokens: &mut Cursor<'_>) -> Parsed<Lifetime>

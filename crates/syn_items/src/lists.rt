@@ -6,10 +6,11 @@ ghost use Rattle.syn_grammar.specs.Reads.{Reads};
 ghost use Rattle.syn_items.specs.Lists as spec;
 ghost use Rattle.syn_lists.specs.Lists.{ReadsItems, all_depth};
 
-use node_expr::{Items, TokenTree};
+use base_core::Items;
 use std::alloc::Global;
 use syn_grammar::{Cursor, ReadFail, is_mark};
-use syn_rules::Parsed;
+use syn_lists::Parsed;
+use tok_types::TokenTree;
 
 /// What comes next as long as a list goes on.
 #[derive(Clone, Copy, Debug, PartialEq, Eq)]

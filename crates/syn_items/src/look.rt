@@ -7,8 +7,8 @@ ghost use Rattle.syn_items.specs.Generics as generics;
 ghost use Rattle.syn_items.specs.Items as items;
 ghost use Rattle.syn_items.specs.Visibility as visibility;
 
-use node_expr::{Delimiter, Ident, TokenTree};
 use syn_grammar::{Word, ident_of, is_group, is_semicolon, next_word};
+use tok_types::{Delimiter, Ident, TokenTree};
 
 /// Which item begins at its keyword.
 #[derive(Clone, Copy, Debug, PartialEq, Eq)]

@@ -5,12 +5,15 @@ ghost use Rattle.syn_items.specs.Lists.{Flat};
 ghost use Rattle.syn_items.specs.Visibility as spec;
 
 use crate::look::scope_word;
-use base_core::Mem;
+use base_core::{Items, Mem, TryClone};
 use node_core::Visibility;
-use node_expr::{Delimiter, Ident, Items, Path, PathArguments, PathSegment, TokenTree, TryClone};
+use node_expr::{Path, PathArguments, PathSegment};
 use std::alloc::Global;
 use syn_grammar::{Cursor, ReadFail, Word, contents_of, is_group};
-use syn_rules::{MAX_DEPTH, Parsed, all_of, read_path};
+use syn_lists::{Parsed, all_of};
+use syn_rules::read_path;
+use syn_types::MAX_DEPTH;
+use tok_types::{Delimiter, Ident, TokenTree};
 
 /// The path of one word.
 fn path_of_word(alloc: Global, ident: Ident) -> Mem<Path>

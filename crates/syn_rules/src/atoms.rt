@@ -12,12 +12,13 @@ ghost use Rattle.syn_lists.specs.Lists.{all_depth};
 
 use crate::rules::ExprRules;
 use base_core::Items;
-use node_expr::{Delimiter, Expr, ExprArray, ExprPath, Lit, LitBool, Span};
+use node_expr::{Expr, ExprArray, ExprPath, Lit, LitBool};
 use node_make::make;
 use std::alloc::Global;
 use syn_grammar::{AtomStart, Cursor, ReadFail, Word, atom_start, is_group, lit_of, next_word};
 use syn_lists::{Parsed, items_after};
 use syn_types::{ANY_LEVEL, ReadParts};
+use tok_types::{Delimiter, Span};
 
 fn lit_bool(word: Word, span: Span) -> Expr
     ensures { result ≡ spec.lit_bool word span }

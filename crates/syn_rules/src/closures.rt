@@ -10,11 +10,12 @@ ghost use Rattle.syn_grammar.specs.Steps.{Expects};
 ghost use Rattle.syn_grammar.specs.Token.{is_group};
 
 use crate::rules::ExprRules;
-use node_expr::{Delimiter, Expr, TokenStream};
+use node_expr::Expr;
 use node_make::make;
 use syn_grammar::{Cursor, ReadFail, Word, is_group};
 use syn_lists::{MAX_PATTERN, Parsed, pattern, until};
 use syn_types::{ANY_LEVEL, CONSTANT_LEVEL, ReadParts};
+use tok_types::{Delimiter, TokenStream};
 
 /// A block must come next. It is left where it is.
 #[tactic(auto, unfolding(syn_grammar::specs::Input::skipped))]

@@ -11,7 +11,3 @@ mod recursion;
 mod rules;
 
 pub use recursion::{read_bounds, read_expr, read_path, read_type};
-pub use syn_lists::{
-    Joint, MAX_PATTERN, Parsed, all_of, inside, items_after, joined_by, pattern, until,
-};
-pub use syn_types::{ANY_LEVEL, CONSTANT_LEVEL, MAX_DEPTH, binder};

@@ -10,7 +10,7 @@ ghost use Rattle.syn_grammar.specs.Reads.{Reads, ReadsKept};
 ghost use Rattle.syn_grammar.specs.Token.{is_closed_dots};
 
 use crate::rules::ExprRules;
-use node_expr::{Expr, Span, UnOp};
+use node_expr::{Expr, UnOp};
 use node_make::make;
 use syn_grammar::{
     Cursor, Infix, OperandStart, ReadFail, Word, begins_closure, begins_operand, is_closed_dots,
@@ -18,6 +18,7 @@ use syn_grammar::{
 };
 use syn_lists::Parsed;
 use syn_types::{ANY_LEVEL, CONSTANT_LEVEL, ReadParts};
+use tok_types::Span;
 
 /// An operand of an operator.
 const OPERAND_LEVEL: u8 = 0;

@@ -16,13 +16,14 @@ ghost use Rattle.syn_rules.specs.Postfixes.{goes_on};
 
 use crate::rules::ExprRules;
 use base_core::Items;
-use node_expr::{Delimiter, Expr, Ident, Member, Span};
+use node_expr::{Expr, Member};
 use node_make::make;
 use syn_grammar::{
     AtomStart, Cursor, PostfixStart, ReadFail, is_group, is_turbofish, name_of, postfix_start,
 };
 use syn_lists::Parsed;
 use syn_types::{ANY_LEVEL, ReadParts};
+use tok_types::{Delimiter, Ident, Span};
 
 fn goes_on(begins: PostfixStart) -> bool
     ensures { result ≡ goes_on begins }

@@ -9,7 +9,8 @@ ghost use Rattle.syn_lists.specs.Lists.{all_depth};
 ghost use Rattle.syn_rules.specs.ReadsParts.{ReadsParts};
 
 use crate::rules::ExprRules;
-use node_expr::{Expr, Items, Path, Type, TypeParamBound};
+use base_core::Items;
+use node_expr::{Expr, Path, Type, TypeParamBound};
 use std::alloc::Global;
 use syn_grammar::{Cursor, ReadFail};
 use syn_lists::Parsed;

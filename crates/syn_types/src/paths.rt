@@ -11,9 +11,10 @@ ghost use Rattle.tok_types.specs.declared.tree.Delimiter.TheVariants as delimite
 ghost use Rattle.syn_lists.specs.Lists.{all_depth};
 
 use crate::rules::{CONSTANT_LEVEL, ReadParts, Rules};
+use base_core::{Boxed, Items};
 use node_expr::{
-    Boxed, Delimiter, GenericArgument, Items, Lifetime, Path, PathArguments, PathSegment, QSelf,
-    ReturnType, Span, TraitBound, Type, TypeParamBound,
+    GenericArgument, Path, PathArguments, PathSegment, QSelf, ReturnType, TraitBound, Type,
+    TypeParamBound,
 };
 use node_make::make;
 use std::alloc::Global;
@@ -22,6 +23,7 @@ use syn_grammar::{
     lifetime_of,
 };
 use syn_lists::{Joint, Parsed, inside, items_after, joined_by, until};
+use tok_types::{Delimiter, Lifetime, Span};
 
 /// A lifetime, which has no depth.
 fn lifetime(alloc: Global, tokens: &mut Cursor<'_>) -> Parsed<Lifetime>

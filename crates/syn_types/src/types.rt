@@ -15,9 +15,10 @@ ghost use Rattle.syn_lists.specs.Lists.{all_depth};
 
 use crate::paths::binder;
 use crate::rules::{ANY_LEVEL, ReadParts, Rules};
+use base_core::{Boxed, Items, TryClone};
 use node_expr::{
-    Boxed, Delimiter, Ident, Items, Lifetime, NamedArg, Span, TryClone, Type, TypeArray, TypeFnPtr,
-    TypeImplTrait, TypeInfer, TypeNever, TypePath, TypeSlice, TypeTraitObject, TypeTuple,
+    NamedArg, Type, TypeArray, TypeFnPtr, TypeImplTrait, TypeInfer, TypeNever, TypePath, TypeSlice,
+    TypeTraitObject, TypeTuple,
 };
 use node_make::make;
 use std::alloc::Global;
@@ -25,6 +26,7 @@ use syn_grammar::{
     Cursor, ReadFail, TypeStart, Word, after_one, is_colon, lifetime_of, name_of, type_start,
 };
 use syn_lists::{Parsed, inside, items_after};
+use tok_types::{Delimiter, Ident, Lifetime, Span};
 
 /// `'a`, or nothing
 fn optional_lifetime(alloc: Global, tokens: &mut Cursor<'_>) -> Result<Option<Lifetime>, ReadFail>

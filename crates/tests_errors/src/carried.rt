@@ -1,28 +1,31 @@
-//! The crate's own tests of errors and of their kinds, each by its name there.
+//! The crate's own tests of errors and of their kinds, and accumulators: a row is `kind | commands => answer`, with the
+//! name of the crate's test before its kind.
 
-use crate::errors::{is_told, text_of};
-use crate::rows::{Tested, expects, kind_of, row_of};
-use error_core::{Accumulator, Error, Fail, Mem};
-use std::alloc::{AllocError, Global};
+use crate::errors::text_of;
+use error_core::{Accumulator, Error, Fail, Mem, Result};
+use std::alloc::Global;
+use std::fmt::Debug;
 
-// The name of the test, and a row as `errors` has it. The text of a flattened error ends without ` at`, so it is in no
-// field itself.
-const ROWS: &str = "present_no_alts | shows | unknown hello => Unknown field: `hello`
-present_few_alts | shows | unknown_with hello world friend => Unknown field: `hello`. Available values: `friend`, `world`
-flatten_noop | stands | duplicate hello; at world => none Duplicate field `hello` at world
-flatten_noop | stands | duplicate hello; at world; clone; flatten => none Duplicate field `hello` at world
-flatten_noop | length | duplicate hello; at world; clone; flatten => 1
-flatten_simple | shows | unknown hello; at world; missing hell_no; at world; gather 2; at foo; flatten => Multiple errors: (Unknown field: `hello` at foo/world, Missing field `hell_no` at foo/world)
-flatten_simple | children | unknown hello; at world; missing hell_no; at world; gather 2; at foo; flatten => Unknown field: `hello` at foo/world; Missing field `hell_no` at foo/world
-len_single | length | duplicate hello => 1
-len_multiple | length | duplicate hello; missing hell_no; gather 2 => 2
-len_nested | length | duplicate hello; duplicate hi; missing bye; duplicate whatsup; gather 1; gather 3; gather 2 => 4";
-
-// The name of the test, and what its accumulator gives: a value, the text of its error, or the number of its errors.
-const ACCUMULATORS: &str = "accum_ok => test
-accum_errr => foo!
-accum_into_inner => 1
-accum_checkpoint_error => foo!";
+// The text of a flattened error ends without ` at`, so it is in no field itself. Of an accumulator what it gives: a
+// value, the text of its error, or the number of its errors.
+pub const ROWS: &str = r#"present_no_alts: shows | unknown hello => Unknown field: `hello`
+present_few_alts: shows | unknown_with hello world friend => Unknown field: `hello`. Available values: `friend`, `world`
+flatten_noop: stands | duplicate hello; at world => none Duplicate field `hello` at world
+flatten_noop: stands | duplicate hello; at world; clone; flatten => none Duplicate field `hello` at world
+flatten_noop: length | duplicate hello; at world; clone; flatten => 1
+flatten_simple: shows | unknown hello; at world; missing hell_no; at world; gather 2; at foo; flatten => Multiple errors: (Unknown field: `hello` at foo/world, Missing field `hell_no` at foo/world)
+flatten_simple: children | unknown hello; at world; missing hell_no; at world; gather 2; at foo; flatten => Unknown field: `hello` at foo/world; Missing field `hell_no` at foo/world
+len_single: length | duplicate hello => 1
+len_multiple: length | duplicate hello; missing hell_no; gather 2 => 2
+len_nested: length | duplicate hello; duplicate hi; missing bye; duplicate whatsup; gather 1; gather 3; gather 2 => 4
+accumulator | accum_ok => "test"
+accumulator | accum_errr => foo!
+accumulator | accum_into_inner => 1
+accumulator | accum_checkpoint_error => foo!
+accumulator | finish_with => 5
+accumulator | finish => ()
+accumulator | checkpoint => 0
+accumulator | no memory => no error"#;
 
 /// Collects the error `foo!`.
 fn collect(errors: &mut Accumulator, alloc: Global) -> Mem<()> {
@@ -36,59 +39,36 @@ fn collected(alloc: Global) -> Accumulator {
     errors
 }
 
-/// The text of the error that is given in place of a value.
-fn refusal(alloc: Global, fail: Fail) -> Mem<String> {
-    match fail.into_error() {
-        Some(error) => text_of(alloc, &error),
-        None => Err(AllocError),
+/// The value, or the text of the error that is given in its place.
+fn outcome<T: Debug + Drop>(alloc: Global, given: Result<T>) -> Mem<String> {
+    match given {
+        Ok(value) => format!(in alloc; "{value:?}"),
+        Err(fail) => match fail.into_error() {
+            Some(error) => text_of(alloc, &error),
+            None => format!(in alloc; "no error"),
+        },
     }
 }
 
-fn accum_ok(alloc: Global) -> Mem<String> {
-    match Error::accumulator(alloc).finish_with("test") {
-        Ok(value) => format!(in alloc; "{value}"),
-        Err(fail) => refusal(alloc, fail),
+/// The number of the errors, or the text of the error that is given in place of an accumulator.
+fn checked(alloc: Global, errors: Accumulator) -> Mem<String> {
+    match errors.checkpoint() {
+        Ok(fresh) => format!(in alloc; "{}", fresh.into_inner().len()),
+        Err(fail) => outcome::<()>(alloc, Err(fail)),
     }
 }
 
-fn accum_errr(alloc: Global) -> Mem<String> {
-    match collected(alloc).finish() {
-        Ok(()) => format!(in alloc; "no error"),
-        Err(fail) => refusal(alloc, fail),
+/// What the accumulator of the row gives.
+pub fn accumulated(alloc: Global, row: &str) -> Mem<String> {
+    match row {
+        "accum_ok" => outcome(alloc, Error::accumulator(alloc).finish_with("test")),
+        "accum_errr" => outcome(alloc, collected(alloc).finish()),
+        "accum_into_inner" => format!(in alloc; "{}", collected(alloc).into_inner().len()),
+        "accum_checkpoint_error" => checked(alloc, collected(alloc)),
+        "finish_with" => outcome(alloc, Error::accumulator(alloc).finish_with(5)),
+        "finish" => outcome(alloc, Error::accumulator(alloc).finish()),
+        "checkpoint" => checked(alloc, Error::accumulator(alloc)),
+        "no memory" => outcome::<()>(alloc, Err(Fail::NoMemory)),
+        _ => format!(in alloc; "no such row"),
     }
-}
-
-fn accum_into_inner(alloc: Global) -> Mem<String> {
-    format!(in alloc; "{}", collected(alloc).into_inner().len())
-}
-
-fn accum_checkpoint_error(alloc: Global) -> Mem<String> {
-    match collected(alloc).checkpoint() {
-        Ok(fresh) => format!(in alloc; "{} errors", fresh.into_inner().len()),
-        Err(fail) => refusal(alloc, fail),
-    }
-}
-
-/// What the accumulator of the test gives.
-fn given(alloc: Global, name: &str) -> Mem<String> {
-    match name {
-        "accum_ok" => accum_ok(alloc),
-        "accum_errr" => accum_errr(alloc),
-        "accum_into_inner" => accum_into_inner(alloc),
-        "accum_checkpoint_error" => accum_checkpoint_error(alloc),
-        _ => format!(in alloc; "no such test"),
-    }
-}
-
-#[test]
-fn the_tests_of_the_crate_are_carried(rt: HostRuntime) -> Tested<()> {
-    for row in ROWS.lines() {
-        let (_name, told) = kind_of(row)?;
-        is_told(rt.alloc(), told)?;
-    }
-    for row in ACCUMULATORS.lines() {
-        let (name, told) = row_of(row)?;
-        expects(row, given(rt.alloc(), name)?.as_str(), told)?;
-    }
-    Ok(())
 }

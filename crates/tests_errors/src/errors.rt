@@ -1,8 +1,9 @@
-//! Errors are made, gathered, moved, flattened and told.
+//! Errors are made, gathered, moved, flattened and told: a row is `kind | commands => answer`.
 
 use crate::made::{made, two_of_syntax};
-use crate::rows::{Tested, expects, kind_of, row_of, span_text};
-use error_core::{Accumulator, Error, Mem, Result, Span, Text, into_compile_error};
+use crate::rows::{Tested, kind_of, row_of, span_text};
+use crate::{carried, faults};
+use error_core::{Error, Mem, Span, Text, into_compile_error};
 use node_core::TokenStream;
 use node_span::Spanned;
 use std::alloc::Global;
@@ -59,7 +60,7 @@ length | duplicate hello; duplicate hi; missing bye; duplicate whatsup; gather 1
 length | duplicate hello; duplicate hi; missing bye; duplicate whatsup; gather 1; at c; gather 3; at b; gather 2; at a; flatten; flatten => 4
 children | duplicate hello; duplicate hi; missing bye; duplicate whatsup; gather 1; at c; gather 3; at b; gather 2; at a; flatten; flatten => Duplicate field `hello` at a; Duplicate field `hi` at a/b; Missing field `bye` at a/b; Duplicate field `whatsup` at a/b/c
 children | custom a => a
-debug | missing z; at x; custom b; gather 2; span 1..2 => Faults(Error { node: Many([Error { node: Leaf(MissingField("z")), locations: Items { vec: ["x"] }, span: None, .. }, Error { node: Leaf(Custom("b")), locations: Items { vec: [] }, span: None, .. }]), locations: Items { vec: [] }, span: Some(At { source: 1, start: 1, end: 2 }), .. })
+debug | missing z; at x; custom b; gather 2; span 1..2 => Faults(Error { nodes: Items { vec: [Node { size: 3, locations: Items { vec: [] }, span: Some(At { source: 1, start: 1, end: 2 }), kind: None }, Node { size: 1, locations: Items { vec: ["x"] }, span: None, kind: Some(MissingField("z")) }, Node { size: 1, locations: Items { vec: [] }, span: None, kind: Some(Custom("b")) }] }, .. })
 inside | unknown k; unknown l; gather 2; span 1..2; missing z; unknown m; at x; gather 3; span 3..4; widen => 1..2 Multiple errors: (Unknown field: `k`. Available values: `a`, `b`, Unknown field: `l`. Available values: `a`, `b`); none Missing field `z`; none Unknown field: `m` at x
 length | custom a; custom b; gather 2; span 1..2; clone => 2
 stands | custom a; custom b; gather 2; span 1..2; clone => 1..2 Multiple errors: (a, b)
@@ -74,15 +75,17 @@ compiled | custom no value; span 1..4 => 1..4 ::core::compile_error!{"no value"}
 compiled | torn; span 1..4 => 1..4 ::core::compile_error! { "`a`\n\t\"\\" }
 syntax |  => 1..4 ::core::compile_error!{"a"} ::core::compile_error!{"b"}"#;
 
-// Trees of many levels, whose calls are to keep within the stack. In the text of a tree `Multiple errors: (`, `, `
-// and `)` stand for each level, and the text of each leaf.
-const DEEP: &str = "length | deep 10000 => 10001
+// Trees of many levels, each the tree so far and one new leaf: no call takes stack for a level, and `checks/stack.sh`
+// runs these rows within 256 kB of it. In the text of a tree `Multiple errors: (`, `, ` and `)` stand for each level.
+const MANY_LEVELS: &str = "length | deep 10000; flatten => 10001
+first | deep 10000; clone; widen => 10000
 bytes | deep 10000 => 390018
-length | deep 10000; clone => 10001
-first | deep 10000 => 10000
-length | deep 10000; flatten => 10001
-trees | deep 10000 => 80008
-length | deep 5000; widen => 5001";
+trees | deep 10000 => 80008";
+
+// Errors of one accumulator: what is told of them takes time in their number.
+const MANY: &str = "length | pushed 1000000; flatten => 1000000
+bytes | pushed 1000000 => 3000017
+trees | pushed 1000000 => 8000000";
 
 /// The text of the error, whoever writes it.
 pub fn text_of(alloc: Global, error: &Error) -> Mem<String> {
@@ -102,18 +105,12 @@ fn own_place(alloc: Global, error: &Error) -> Mem<String> {
     }
 }
 
+/// The own place of the error and its text.
 fn stands(alloc: Global, error: &Error) -> Mem<String> {
-    let own = own_place(alloc, error)?;
-    format!(in alloc; "{} {}", own.as_str(), text_of(alloc, error)?.as_str())
-}
-
-fn places(alloc: Global, error: &Error) -> Mem<String> {
-    let own = own_place(alloc, error)?;
-    format!(in alloc;
-        "{} {}",
-        own.as_str(),
-        span_text(alloc, error.span())?.as_str()
-    )
+    let mut told = own_place(alloc, error)?;
+    told.push(' ')?;
+    told.push_str(text_of(alloc, error)?.as_str())?;
+    Ok(told)
 }
 
 /// The texts of the children, in their order, each behind its own place if that is asked for.
@@ -164,7 +161,12 @@ fn told_of(alloc: Global, kind: &str, error: Error) -> Mem<String> {
         "shows" => text_of(alloc, &error),
         "debug" => format!(in alloc; "{:?}", error_core::Fail::Faults(error)),
         "stands" => stands(alloc, &error),
-        "place" => places(alloc, &error),
+        "place" => {
+            let mut told = own_place(alloc, &error)?;
+            told.push(' ')?;
+            told.push_str(span_text(alloc, error.span())?.as_str())?;
+            Ok(told)
+        }
         "length" => format!(in alloc; "{}", error.len()),
         "bytes" => format!(in alloc; "{}", error.to_text(alloc)?.len()),
         "children" => children(alloc, error, false),
@@ -176,77 +178,58 @@ fn told_of(alloc: Global, kind: &str, error: Error) -> Mem<String> {
     }
 }
 
-/// Whether the tokens are those of the text, and run over the place before it.
-fn spells(alloc: Global, row: &str, tokens: TokenStream, told: &str) -> Tested<()> {
-    let Some((place, text)) = told.split_once(' ') else {
-        return Err(Fail::new(format_args!("{row} has no place")));
-    };
-    if text.len() > 200 {
-        return Err(Fail::new(format_args!("{row} is too long")));
+/// What is expected, if the tokens are those of its text and run over the place before it.
+fn spelled(alloc: Global, tokens: TokenStream, expected: &str) -> Tested<String> {
+    let (place, text) = expected.split_once(' ').unwrap_or((expected, ""));
+    if text.len() > 200 || lex(alloc, 0, text)? != tokens {
+        return Ok(format!(in alloc; "other tokens")?);
     }
-    if lex(alloc, 0, text)? == tokens {
-        return expects(row, span_text(alloc, tokens.spanned())?.as_str(), place);
-    }
-    Err(Fail::new(format_args!("{row} has other tokens")))
+    let mut told = span_text(alloc, tokens.spanned())?;
+    told.push_str(expected.strip_prefix(place).unwrap_or(""))?;
+    Ok(told)
 }
 
-/// Whether the row tells of its error what is so.
-pub fn is_told(alloc: Global, row: &str) -> Tested<()> {
-    let (kind, rest) = kind_of(row)?;
-    let (commands, told) = row_of(rest)?;
+/// What is told by the kind of a row.
+fn told(alloc: Global, kind: &str, commands: &str, expected: &str) -> Tested<String> {
     match kind {
-        "compiled" => spells(
-            alloc,
-            row,
-            made(alloc, commands)?.write_errors(alloc)?,
-            told,
-        ),
-        "syntax" => spells(
-            alloc,
-            row,
-            into_compile_error(alloc, two_of_syntax(alloc)?)?,
-            told,
-        ),
-        _ => expects(
-            row,
-            told_of(alloc, kind, made(alloc, commands)?)?.as_str(),
-            told,
-        ),
+        "line" => Ok(faults::line(alloc, commands)?),
+        "accumulator" => Ok(carried::accumulated(alloc, commands)?),
+        "compiled" => spelled(alloc, made(alloc, commands)?.write_errors(alloc)?, expected),
+        "syntax" => {
+            let tokens = into_compile_error(alloc, two_of_syntax(alloc)?)?;
+            spelled(alloc, tokens, expected)
+        }
+        _ => Ok(told_of(alloc, kind, made(alloc, commands)?)?),
     }
 }
 
-#[test]
-fn what_is_told_of_errors(rt: HostRuntime) -> Tested<()> {
-    for row in ROWS.lines() {
-        is_told(rt.alloc(), row)?;
+/// Each row is answered so. The crate's own tests have their names before the kind.
+fn hold(alloc: Global, rows: &str) -> Tested<()> {
+    for row in rows.lines() {
+        let (kind, rest) = kind_of(row)?;
+        let (_, kind) = kind.split_once(": ").unwrap_or(("", kind));
+        let (commands, expected) = row_of(rest)?;
+        let found = told(alloc, kind, commands, expected)?;
+        if found.as_str() != expected {
+            return Err(Fail::new(format_args!("{row} is {found}")));
+        }
     }
     Ok(())
 }
 
 #[test]
-fn trees_of_many_levels_keep_within_the_stack(rt: HostRuntime) -> Tested<()> {
-    for row in DEEP.lines() {
-        is_told(rt.alloc(), row)?;
-    }
-    Ok(())
-}
-
-fn starts_anew(outcome: Result<Accumulator>) -> bool {
-    match outcome {
-        Ok(fresh) => fresh.into_inner().is_empty(),
-        Err(_) => false,
-    }
+fn rows_are_answered(rt: HostRuntime) -> Tested<()> {
+    hold(rt.alloc(), ROWS)?;
+    hold(rt.alloc(), carried::ROWS)?;
+    hold(rt.alloc(), faults::ROWS)
 }
 
 #[test]
-fn an_accumulator_without_errors_gives_its_value(rt: HostRuntime) {
-    let alloc = rt.alloc();
-    assert!(rt; Error::accumulator(alloc).finish_with(5).ok() == Some(5));
-    assert!(rt; Error::accumulator(alloc).finish().is_ok());
-    assert!(rt; starts_anew(Error::accumulator(alloc).checkpoint()));
+fn many_levels_take_no_stack(rt: HostRuntime) -> Tested<()> {
+    hold(rt.alloc(), MANY_LEVELS)
 }
 
 #[test]
-fn want_of_memory_is_no_error(rt: HostRuntime) {
-    assert!(rt; error_core::Fail::NoMemory.into_error().is_none());
+fn many_errors_take_time_in_their_number(rt: HostRuntime) -> Tested<()> {
+    hold(rt.alloc(), MANY)
 }

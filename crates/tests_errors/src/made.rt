@@ -40,6 +40,7 @@ fn next(alloc: Global, errors: &mut Vec<Error>, word: &str, argument: &str) -> M
         "collected" => collected(alloc),
         "spilled" => spilled(alloc),
         "deep" => deep(alloc, number(argument)),
+        "pushed" => pushed(alloc, number(argument)),
         _ => created(alloc, word, argument),
     }
 }
@@ -159,6 +160,29 @@ fn deep(alloc: Global, levels: u32) -> Mem<Error> {
         tree = Error::multiple(alloc, two)?;
     }
     Ok(tree)
+}
+
+/// So many errors of one accumulator.
+fn pushed(alloc: Global, count: u32) -> Mem<Error> {
+    let mut errors = Error::accumulator(alloc);
+    let pushed = push_many(alloc, &mut errors, count);
+    let outcome = errors.finish();
+    pushed?;
+    let given = match outcome {
+        Ok(()) => None,
+        Err(fail) => fail.into_error(),
+    };
+    match given {
+        Some(error) => Ok(error),
+        None => Error::custom(alloc, "no error is given"),
+    }
+}
+
+fn push_many(alloc: Global, errors: &mut Accumulator, count: u32) -> Mem<()> {
+    for _error in 0..count {
+        errors.push(alloc, Error::custom(alloc, "a")?)?;
+    }
+    Ok(())
 }
 
 fn seven() -> Result<u8> {

@@ -22,14 +22,6 @@ pub fn row_of(row: &str) -> Tested<(&str, &str)> {
     }
 }
 
-/// Whether the text that is found is the one behind the arrow of the row.
-pub fn expects(row: &str, found: &str, expected: &str) -> Tested<()> {
-    if found == expected {
-        return Ok(());
-    }
-    Err(Fail::new(format_args!("{row} is {found}")))
-}
-
 /// The first word, and the others.
 pub fn first_word(words: &str) -> (&str, &str) {
     words.split_once(' ').unwrap_or((words, ""))

@@ -1,9 +1,25 @@
-//! Types as rows of the table of conversions.
+//! The machine and what stands around it: types as rows, hosts, programs, and what is read of declarations.
 #![tactic(auto)]
 
 #[cfg(test)]
-mod deep;
+mod answers;
 #[cfg(test)]
-mod rows;
+mod ask;
 #[cfg(test)]
-mod shown;
+mod compiled;
+#[cfg(test)]
+mod fits;
+#[cfg(test)]
+mod hosts;
+#[cfg(test)]
+mod programs;
+#[cfg(test)]
+mod refused;
+#[cfg(test)]
+mod sources;
+#[cfg(test)]
+mod statements;
+#[cfg(test)]
+mod table;
+#[cfg(test)]
+mod types;

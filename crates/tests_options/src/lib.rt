@@ -1,11 +1,15 @@
-//! Types that options are read as.
+//! Options of receivers, bodies, shapes, and the parameters that items use.
 #![tactic(auto)]
 
 #[cfg(test)]
-mod calls;
+mod ask;
 #[cfg(test)]
-mod elements;
+mod bodies;
 #[cfg(test)]
-mod items;
+mod receivers;
 #[cfg(test)]
-mod shown;
+mod searched;
+#[cfg(test)]
+mod usage;
+#[cfg(test)]
+mod values;

@@ -1,11 +1,15 @@
-//! Tests of the run, whole.
+//! Tests of the run, whole, and of the proved callers.
 #![tactic(auto)]
 
 #[cfg(test)]
+mod callers;
+#[cfg(test)]
+mod declarations;
+#[cfg(test)]
 mod ends;
 #[cfg(test)]
-mod rows;
+mod inputs;
 #[cfg(test)]
-mod run;
+mod receivers;
 #[cfg(test)]
 mod values;

@@ -1,90 +1,105 @@
-//! The parsers read trees of 256 levels and refuse deeper ones.
+//! Trees of 256 levels are read and deeper ones refused. A row is `kind | levels | form => answer`: what stands in a
+//! form behind its first mark `@`, and behind its third, stands there for each level. What stands around the
+//! middle is a level each, or two, and the middle is one.
 
+use crate::told::told;
 use std::alloc::Global;
 use std::test::Fail;
-use syn_core::{parse_expr, parse_type};
-use tests_checks::{Tested, kind_of, must_read, no_kind, refused, tokens};
+use tests_checks::{Tested, kind_of, row_of};
 use tok_core::Text;
 
-// Ways to nest: the kind, how often at most, and what stands before, in the middle, and behind. What
-// stands around the middle is a level each, or two, and the middle is one.
-const FORMS: &str = "type | 255 | & @A@
-type | 255 | * const @A@
-type | 255 | fn () -> @A@
-type | 255 | A < @A@ >
-type | 127 | A < B : A < @A@ > >
-expr | 255 | - @a@
-expr | 255 | ! @a@
-expr | 255 | & mut @a@
-expr | 255 | || @a@
-expr | 255 | @a@?
-expr | 255 | @a@.b
-expr | 255 | @a@.b()
-expr | 255 | @a@[0]
-expr | 255 | @a@ + a";
+const ROWS: &str = "type | 255 | @& @A@@ => as it stands
+type | 256 | @& @A@@ => refused
+type | 255 | @* const @A@@ => as it stands
+type | 256 | @* const @A@@ => refused
+type | 255 | @fn () -> @A@@ => as it stands
+type | 256 | @fn () -> @A@@ => refused
+type | 255 | @A < @A@ >@ => as it stands
+type | 256 | @A < @A@ >@ => refused
+type | 127 | @A < B : A < @A@ > >@ => as it stands
+type | 128 | @A < B : A < @A@ > >@ => refused
+expr | 255 | @- @a@@ => as it stands
+expr | 256 | @- @a@@ => refused
+expr | 255 | @! @a@@ => as it stands
+expr | 256 | @! @a@@ => refused
+expr | 255 | @& mut @a@@ => as it stands
+expr | 256 | @& mut @a@@ => refused
+expr | 255 | @|| @a@@ => as it stands
+expr | 256 | @|| @a@@ => refused
+expr | 255 | @@a@?@ => read
+expr | 256 | @@a@?@ => refused
+expr | 255 | @@a@.b@ => read
+expr | 256 | @@a@.b@ => refused
+expr | 255 | @@a@.b()@ => read
+expr | 256 | @@a@.b()@ => refused
+expr | 255 | @@a@[0]@ => read
+expr | 256 | @@a@[0]@ => refused
+expr | 255 | @@a@ + a@ => as it stands
+expr | 256 | @@a@ + a@ => refused
+item | 300 | # [a = @- @a@@] struct S ; => as it stands
+meta | 255 | a = @- @b@@, c => value
+meta | 256 | a = @- @b@@, c => bad";
 
-/// So many of what stands before the middle and of what stands behind it, with the middle between.
+const MANY: &str = "expr | 100000 | @- @a@@ => refused
+expr | 100000 | @! @a@@ => refused
+expr | 100000 | @& mut @a@@ => refused
+expr | 100000 | @|| @a@@ => refused
+expr | 100000 | @@a@?@ => refused
+expr | 100000 | @@a@.b@ => refused
+expr | 100000 | @@a@.b()@ => refused
+expr | 100000 | @@a@[0]@ => refused
+expr | 100000 | @@a@ + a@ => refused
+expr | 1000000 | @&@a@@ => refused
+type | 1000000 | @&@a@@ => refused";
+
+/// The form with so many levels.
 fn nested(alloc: Global, levels: usize, form: &str) -> Tested<Text> {
-    let Some((before, rest)) = form.split_once("@") else {
-        return Err(Fail::new(format_args!("{form} has no middle")));
-    };
-    let Some((middle, behind)) = rest.split_once("@") else {
-        return Err(Fail::new(format_args!("{form} has no end of the middle")));
-    };
     let mut text = Text::new(alloc);
-    for _level in 0..levels {
-        text.push_str(before)?;
-    }
-    text.push_str(middle)?;
-    for _level in 0..levels {
-        text.push_str(behind)?;
+    for (at, part) in form.split('@').enumerate() {
+        let times = if at == 1 || at == 3 { levels } else { 1 };
+        for _level in 0..times {
+            text.push_str(part)?;
+        }
     }
     Ok(text)
 }
 
-/// Whether the form is read with so many levels, and refused with one more.
-fn ends_at(alloc: Global, kind: &str, most: usize, form: &str) -> Tested<()> {
-    let text = nested(alloc, most, form)?;
-    let read = tokens(alloc, 0, text.as_str())?;
-    let text = nested(alloc, most.saturating_add(1), form)?;
-    let deeper = tokens(alloc, 0, text.as_str())?;
-    match kind {
-        "type" => {
-            must_read(parse_type(alloc, &read), form)?;
-            refused(parse_type(alloc, &deeper), form)
-        }
-        "expr" => {
-            must_read(parse_expr(alloc, &read), form)?;
-            refused(parse_expr(alloc, &deeper), form)
-        }
-        _ => no_kind(form),
-    }
+/// How the text is read: the kind of its first meta, or whether its printing is the text.
+fn answer(alloc: Global, kind: &str, text: &str) -> Tested<&'static str> {
+    let told = told(alloc, kind, text)?;
+    Ok(match told.as_str() {
+        told if told.starts_with("refused") => "refused",
+        told if kind == "meta" => if told.starts_with("value") {
+            "value"
+        } else {
+            "bad"
+        },
+        told if told == text => "as it stands",
+        _ => "read",
+    })
 }
 
-#[test]
-fn trees_of_256_levels_are_read_and_deeper_ones_refused(rt: HostRuntime) -> Tested<()> {
-    for row in FORMS.lines() {
+/// Each row is answered so.
+fn hold(alloc: Global, rows: &str) -> Tested<()> {
+    for row in rows.lines() {
         let (kind, rest) = kind_of(row)?;
-        let (most, form) = kind_of(rest)?;
-        let Ok(most) = most.parse::<usize>() else {
-            return no_kind(row);
-        };
-        ends_at(rt.alloc(), kind, most, form)?;
+        let (levels, rest) = kind_of(rest)?;
+        let (form, expected) = row_of(rest);
+        let text = nested(alloc, levels.parse::<usize>().unwrap_or(0), form)?;
+        let found = answer(alloc, kind, text.as_str())?;
+        if found != expected {
+            return Err(Fail::new(format_args!("{row} is {found}")));
+        }
     }
     Ok(())
 }
 
 #[test]
+fn trees_of_256_levels_are_read_and_deeper_ones_refused(rt: HostRuntime) -> Tested<()> {
+    hold(rt.alloc(), ROWS)
+}
+
+#[test]
 fn a_chain_of_a_million_marks_is_refused(rt: HostRuntime) -> Tested<()> {
-    let alloc = rt.alloc();
-    for row in FORMS.lines() {
-        if let Some(form) = row.strip_prefix("expr | 255 | ") {
-            let text = nested(alloc, 100_000, form)?;
-            refused(parse_expr(alloc, &tokens(alloc, 0, text.as_str())?), form)?;
-        }
-    }
-    let text = nested(alloc, 1_000_000, "&@a@")?;
-    let marks = tokens(alloc, 0, text.as_str())?;
-    refused(parse_expr(alloc, &marks), "&")?;
-    refused(parse_type(alloc, &marks), "&")
+    hold(rt.alloc(), MANY)
 }

@@ -1,12 +1,6 @@
-//! The parsers read and refuse expressions.
+//! Expressions: a row is one that is printed as it stands, or `text => printing`; of `NO_EXPRS` it is none.
 
-use std::alloc::Global;
-use std::test::Fail;
-use syn_core::{parse_expr, parse_expr_array, parse_expr_path, parse_expr_range};
-use tests_checks::{Tested, alike, comes_back, is_read, printing, refused, row_of, tokens};
-
-// A row is an expression that is printed as it stands, or an expression and its printing.
-const EXPRS: &str = r##"1
+pub const EXPRS: &str = r##"1
 0x1Fu8
 1.5
 "a"
@@ -115,10 +109,12 @@ a..&&b => a .. & & b
 (a,b,) => (a , b)
 a(b,) => a (b)
 a.b::<>(c) => a . b (c)
-a::<B,> => a :: < B >"##;
+a::<B,> => a :: < B >
+a . b :: < C > (d) ? + - 1
+| a | {b ; c}"##;
 
-// What is no expression; the first row is empty.
-const REFUSED: &str = r#"
+// The first row is empty.
+pub const NO_EXPRS: &str = r#"
 a b
 1 2
 a +
@@ -188,67 +184,3 @@ if a {b}
 let a
 & mut
 fn"#;
-
-fn expr(alloc: Global, text: &str, printed: &str) -> Tested<()> {
-    let here = tokens(alloc, 0, text)?;
-    let there = tokens(alloc, 1, text)?;
-    alike(
-        alloc,
-        parse_expr(alloc, &here),
-        parse_expr(alloc, &there),
-        &here,
-        printed,
-    )?;
-    let printing = printing(alloc, parse_expr(alloc, &here), text)?;
-    comes_back(parse_expr(alloc, &here), parse_expr(alloc, &printing), text)
-}
-
-#[test]
-fn expressions_are_read_and_printed(rt: HostRuntime) -> Tested<()> {
-    for row in EXPRS.lines() {
-        let (text, printed) = row_of(row);
-        expr(rt.alloc(), text, printed)?;
-    }
-    Ok(())
-}
-
-#[test]
-fn what_is_no_expression_is_refused(rt: HostRuntime) -> Tested<()> {
-    for text in REFUSED.lines() {
-        let tokens = tokens(rt.alloc(), 0, text)?;
-        refused(parse_expr(rt.alloc(), &tokens), text)?;
-    }
-    Ok(())
-}
-
-// Expressions with their kind: an array, a path, or a range.
-const KINDS: &str = "[a] => array
-[a ; 2] => none
-a :: b => path
-< A > :: b => path
-a .. b => range
-(a) => none
-a + b => none";
-
-/// Whether the parser of the kind reads the text.
-fn is_of(alloc: Global, kind: &str, text: &str) -> Tested<bool> {
-    let tokens = tokens(alloc, 0, text)?;
-    match kind {
-        "array" => is_read(parse_expr_array(alloc, &tokens)),
-        "path" => is_read(parse_expr_path(alloc, &tokens)),
-        _ => is_read(parse_expr_range(alloc, &tokens)),
-    }
-}
-
-#[test]
-fn expressions_of_one_kind(rt: HostRuntime) -> Tested<()> {
-    for row in KINDS.lines() {
-        let (text, kind) = row_of(row);
-        for asked in ["array", "path", "range"] {
-            if is_of(rt.alloc(), asked, text)? != (kind == asked) {
-                return Err(Fail::new(format_args!("{text} as {asked}")));
-            }
-        }
-    }
-    Ok(())
-}

@@ -1,15 +1,14 @@
-//! The parsers read and refuse items, and lists of them.
+//! Items and lists. A row is an item that is printed as it stands, or `text => printing`; of the tables with
+//! more kinds than one it is `kind | text => answer`. Of a list the number of its items is told, and their printings.
 
+use crate::node::SOURCE;
+use node_core::{Items, TokenStream, TryClone};
 use std::alloc::Global;
 use std::test::Fail;
-use syn_core::{item_front, parse_derive_input, parse_items};
-use tests_checks::{
-    Tested, alike, comes_back, counts, first_prints, printing, refused, row_of, tokens,
-};
-use tok_core::{Items, TokenStream, TryClone};
+use syn_core::{item_front, parse_derive_input};
+use tests_checks::{Tested, row_of, tokens};
 
-// Items that are printed as they stand.
-const ITEMS: &str = r#"struct S ;
+pub const ITEMS: &str = r#"struct S ;
 struct S {}
 struct S () ;
 struct S {a : A}
@@ -54,19 +53,25 @@ struct S < # [a] T , # [b] 'a , # [c] const N : bool = true > ;
 struct S < T > where T : A {a : T}
 struct S < T > (T) where T : A ;
 struct S where ;
-enum E < T > where T : A + B , for < 'a > & 'a T : C < 'a > , 'a : 'b + 'c {A (T)}"#;
-
-// Items that are printed otherwise.
-const PRINTED: &str = "struct S<>; => struct S ;
+enum E < T > where T : A + B , for < 'a > & 'a T : C < 'a > , 'a : 'b + 'c {A (T)}
+# [a (b ,)] pub struct S < T > where T : A {a : T , r#type : u8}
+enum E {A , B (C) , D = 1}
+# [a = 1 2] struct S ;
+# [a = struct] struct S ;
+# [a = , a] struct S ;
+# [a = a b c] struct S ;
+# [a = ..=] struct S ;
+# [a = - a -] struct S ;
+struct S<>; => struct S ;
 struct S<T,>{a:A,} => struct S < T > {a : A}
 struct S(A,); => struct S (A) ;
 enum E{A,B,} => enum E {A , B}
 struct S<T> where T:A,{} => struct S < T > where T : A {}
 #[a=-1]struct S; => # [a = - 1] struct S ;
 #[a(b,)]struct S; => # [a (b ,)] struct S ;
-struct S{a:A<B<C>>} => struct S {a : A < B < C > >}";
+struct S{a:A<B<C>>} => struct S {a : A < B < C > >}"#;
 
-const NO_ITEMS: &str = "struct
+pub const NO_ITEMS: &str = "struct
 struct S
 struct ;
 struct fn ;
@@ -118,157 +123,85 @@ pub (in) struct S;
 #[a =] struct S;
 # struct S;";
 
-/// Whether the text is read as an item that is printed so, and read back from its printing.
-fn item(alloc: Global, text: &str, printed: &str) -> Tested<()> {
-    let here = tokens(alloc, 0, text)?;
-    let there = tokens(alloc, 1, text)?;
-    alike(
-        alloc,
-        parse_derive_input(alloc, &here),
-        parse_derive_input(alloc, &there),
-        &here,
-        printed,
-    )?;
-    let printing = printing(alloc, parse_derive_input(alloc, &here), text)?;
-    comes_back(
-        parse_derive_input(alloc, &here),
-        parse_derive_input(alloc, &printing),
-        text,
-    )
-}
+// Arguments are told with their place where it is not the whole text. Of a front, how many tokens the text has
+// and how many of them the longest front of items.
+pub const LISTS: &str = "items |  => 0
+items | struct S; => 1 ~ struct S ;
+items | struct S; enum E {} #[a] pub union U {} => 3 ~ struct S ; ~ enum E {} ~ # [a] pub union U {}
+items | struct S {} struct T(A); struct U where A: B {} => 3 ~ struct S {} ~ struct T (A) ; ~ struct U where A : B {}
+items | enum E {} struct S; => 2 ~ enum E {} ~ struct S ;
+exprs |  => 0
+exprs | a + b => 1 ~ a + b
+exprs | a, b, => 2 ~ a ~ b
+exprs | a, (b, c), |d| e => 3 ~ a ~ (b , c) ~ | d | e
+idents |  => 0
+idents | a => 1 ~ a
+idents | a, r#fn, => 2 ~ a ~ r#fn
+paths |  => 0
+paths | a::b => 1 ~ a :: b
+paths | A<B, C>, ::d => 2 ~ A < B , C > ~ :: d
+arguments | a: A => a : A
+arguments | a: A, => a : A at a: A
+arguments | _: A, b: B => _ : A , b : B
+arguments | mut a: &A => mut a : & A
+arguments | &a: A => & a : A
+arguments | (a, &mut b): (A, B) => (a , & mut b) : (A , B)
+front |  => 0 0
+front | struct S; => 3 3
+front | struct S; struct => 4 3
+front | struct S; ; => 4 3
+front | struct S {} enum E {} #[a] struct => 9 6
+front | struct S where T: A => 6 0
+front | fn f() {} => 4 0
+front | struct S { a } struct T; => 6 0";
 
-#[test]
-fn items_are_read_and_printed(rt: HostRuntime) -> Tested<()> {
-    let alloc = rt.alloc();
-    for text in ITEMS.lines() {
-        item(alloc, text, text)?;
-    }
-    for row in PRINTED.lines() {
-        let (text, printed) = row_of(row);
-        item(alloc, text, printed)?;
-    }
-    // A comment ends with its line, so no row has it.
-    item(alloc, "/// x\nstruct S;", "# [doc = \" x\"] struct S ;")
-}
+pub const NO_LISTS: &str = "items | struct S; struct
+items | a
+items | struct S;;
+items | struct S; #[a]
+exprs | ,
+exprs | a b
+exprs | a,,
+exprs | a; b
+idents | ,
+idents | a b
+idents | fn
+idents | a::b
+paths | ,
+paths | a b
+paths | a, <A>::b
+paths | 1
+arguments | ,
+arguments | a
+arguments | a: A b: B
+arguments | a::A
+arguments | 1: A
+arguments | a: 
+arguments | self";
 
-#[test]
-fn what_is_no_item_is_refused(rt: HostRuntime) -> Tested<()> {
-    for text in NO_ITEMS.lines() {
-        let tokens = tokens(rt.alloc(), 0, text)?;
-        refused(parse_derive_input(rt.alloc(), &tokens), text)?;
-    }
-    Ok(())
-}
-
-// Lists of items with their number.
-const LISTS: &str = " => 0
-struct S; => 1
-struct S; enum E {} #[a] pub union U {} => 3
-struct S {} struct T(A); struct U where A: B {} => 3";
-
-const NO_LISTS: &str = "struct S; struct
-a
-struct S;;
-struct S; #[a]";
-
-#[test]
-fn lists_of_items(rt: HostRuntime) -> Tested<()> {
-    let alloc = rt.alloc();
-    for row in LISTS.lines() {
-        let (text, number) = row_of(row);
-        counts(parse_items(alloc, &tokens(alloc, 0, text)?), text, number)?;
-    }
-    first_prints(
-        alloc,
-        parse_items(alloc, &tokens(alloc, 0, "enum E {} struct S;")?),
-        "enum E {} struct S;",
-        "enum E {}",
-    )?;
-    for text in NO_LISTS.lines() {
-        refused(parse_items(alloc, &tokens(alloc, 0, text)?), text)?;
-    }
-    Ok(())
-}
-
-// Texts, how many tokens they have, and how many of them the longest front of items has.
-const FRONTS: &str = " => 0 0
-struct S; => 3 3
-struct S; struct => 4 3
-struct S; ; => 4 3
-struct S {} enum E {} #[a] struct => 9 6
-struct S where T: A => 6 0
-fn f() {} => 4 0
-struct S { a } struct T; => 6 0";
-
-#[test]
-fn fronts_of_items(rt: HostRuntime) -> Tested<()> {
-    let alloc = rt.alloc();
-    for row in FRONTS.lines() {
-        let (text, numbers) = row_of(row);
-        let tokens = tokens(alloc, 0, text)?;
-        let front = item_front(alloc, &tokens)?;
-        let found = format!(in alloc; "{} {front}", tokens.trees.len())?;
-        if found.as_str() != numbers {
-            return Err(Fail::new(format_args!("{text} has {}", found.as_str())));
-        }
-    }
-    Ok(())
-}
-
-/// So many of the tokens, from the front on.
-fn cut(alloc: Global, tokens: &TokenStream, length: usize) -> Tested<TokenStream> {
-    let mut trees = Items::new(alloc);
-    for tree in tokens.trees.as_slice().iter().take(length) {
-        trees.push(tree.try_clone(alloc)?)?;
-    }
-    Ok(TokenStream { trees })
-}
-
-/// An item that is cut after any of its tokens is none, and begins no list of items.
+/// An item that is cut after any of its tokens is none, and begins no list of items; whole it does.
 fn cuts_are_refused(alloc: Global, text: &str) -> Tested<()> {
-    let whole = tokens(alloc, 0, text)?;
-    let length = whole.trees.len();
-    for kept in 0..length {
-        let cut = cut(alloc, &whole, kept)?;
-        refused(parse_derive_input(alloc, &cut), text)?;
-        if item_front(alloc, &cut)? != 0 {
-            return Err(Fail::new(format_args!("{text} after {kept}")));
+    let whole = tokens(alloc, SOURCE, text)?;
+    let trees = Items::new(alloc);
+    let mut front = TokenStream { trees };
+    for tree in whole.trees.as_slice() {
+        if item_front(alloc, &front)? != 0 || parse_derive_input(alloc, &front).is_ok() {
+            let kept = front.trees.len();
+            return Err(Fail::new(format_args!("{text} after {kept} tokens")));
         }
+        front.trees.push(tree.try_clone(alloc)?)?;
     }
-    if item_front(alloc, &whole)? != length {
-        return Err(Fail::new(format_args!("{text} is no front")));
+    if item_front(alloc, &front)? == front.trees.len() {
+        return Ok(());
     }
-    Ok(())
+    Err(Fail::new(format_args!("{text} is no front")))
 }
 
 #[test]
 fn cut_items_are_refused(rt: HostRuntime) -> Tested<()> {
-    for text in ITEMS.lines() {
+    for row in ITEMS.lines() {
+        let (text, _) = row_of(row);
         cuts_are_refused(rt.alloc(), text)?;
     }
     Ok(())
-}
-
-// Values of attributes that are no expressions.
-const VALUES: &str = "1 2
-struct
-, a
-a b c
-..=
-- a -";
-
-/// A value that is no expression of at most 256 levels is kept as it stands.
-#[test]
-fn values_of_attributes(rt: HostRuntime) -> Tested<()> {
-    let alloc = rt.alloc();
-    for value in VALUES.lines() {
-        let text = format!(in alloc; "# [a = {value}] struct S ;")?;
-        item(alloc, text.as_str(), text.as_str())?;
-    }
-    let mut deep = String::new(alloc);
-    for _level in 0..300 {
-        deep.push_str("- ")?;
-    }
-    let text = format!(in alloc; "# [a = {deep}a] struct S ;")?;
-    item(alloc, text.as_str(), text.as_str())
 }

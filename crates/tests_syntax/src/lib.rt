@@ -1,9 +1,9 @@
-//! Tests that cross crates: texts are lexed, parsed, copied, compared and printed. Each row is a text
-//! from outside, so what the grammar's definitions say is held against what was meant.
+//! Texts are lexed, parsed, copied, compared, printed and taken apart. Each case is a row of a text, with
+//! an answer from outside, so what the grammar's definitions say is held against what was meant.
 #![tactic(auto)]
 
 #[cfg(test)]
-mod clauses;
+mod calls;
 #[cfg(test)]
 mod deep;
 #[cfg(test)]
@@ -11,8 +11,16 @@ mod exprs;
 #[cfg(test)]
 mod items;
 #[cfg(test)]
-mod lists;
+mod nested;
 #[cfg(test)]
-mod precedence;
+mod node;
+#[cfg(test)]
+mod operators;
+#[cfg(test)]
+mod parts;
+#[cfg(test)]
+mod told;
 #[cfg(test)]
 mod types;
+#[cfg(test)]
+mod walk;

@@ -1,15 +1,7 @@
-//! The parsers read and refuse types, paths and identifiers.
+//! Types, paths, identifiers and parts of items. A row is a type that is printed as it stands, or
+//! `text => printing`; of the tables with more kinds than one it is `kind | text`.
 
-use std::alloc::Global;
-use std::test::Fail;
-use syn_core::{Parse, ParseFail, parse_ident, parse_path, parse_type};
-use tests_checks::{
-    Tested, alike, comes_back, kind_of, no_kind, printing, refused, row_of, tokens,
-};
-use tok_core::Span;
-
-// A row is a type that is printed as it stands, or a type and its printing.
-const TYPES: &str = "()
+pub const TYPES: &str = "()
 (A ,)
 (A , B)
 (A)
@@ -76,10 +68,12 @@ for<'a,>fn() => for < 'a > fn ()
 Fn(A,) => Fn (A)
 &&A => & & A
 A<<B>::C> => A < < B > :: C >
-<A>::B::<C> => < A > :: B < C >";
+<A>::B::<C> => < A > :: B < C >
+& 'a mut [A < B > ; 8]
+dyn for < 'a > A < 'a > + 'static";
 
-// What is no type; the first row is empty.
-const REFUSED: &str = "
+// The first row is empty.
+pub const NO_TYPES: &str = "
 u8 u8
 (,)
 (A B)
@@ -133,50 +127,42 @@ Fn(A) ->
 <A as B>C
 'a";
 
-fn ty(alloc: Global, text: &str, printed: &str) -> Tested<()> {
-    let here = tokens(alloc, 0, text)?;
-    let there = tokens(alloc, 1, text)?;
-    alike(
-        alloc,
-        parse_type(alloc, &here),
-        parse_type(alloc, &there),
-        &here,
-        printed,
-    )?;
-    let printing = printing(alloc, parse_type(alloc, &here), text)?;
-    comes_back(parse_type(alloc, &here), parse_type(alloc, &printing), text)
-}
-
-#[test]
-fn types_are_read_and_printed(rt: HostRuntime) -> Tested<()> {
-    for row in TYPES.lines() {
-        let (text, printed) = row_of(row);
-        ty(rt.alloc(), text, printed)?;
-    }
-    Ok(())
-}
-
-#[test]
-fn what_is_no_type_is_refused(rt: HostRuntime) -> Tested<()> {
-    for text in REFUSED.lines() {
-        let tokens = tokens(rt.alloc(), 0, text)?;
-        refused(parse_type(rt.alloc(), &tokens), text)?;
-    }
-    Ok(())
-}
-
-// Paths and identifiers that are printed as they stand.
-const NAMED: &str = "path | a
+// Paths and identifiers, and parts of items; the first visibility is empty.
+pub const NAMED: &str = "path | a
 path | :: a
 path | a :: b < C > :: d
 path | Fn (A) -> B
 path | Self
 ident | a
 ident | union
-ident | r#fn";
+ident | r#fn
+path | :: a :: B < 'c , D = E , 8 >
+where | where
+where | where T : A
+where | where T : A + B + 'a
+where | where T : ? Sized , U : A
+where | where 'a : 'b
+where | where 'a : 'b + 'c , T : A
+where | where for < 'a > T : A < 'a >
+where | where & A : B , [A ; 8] : C
+where | where < A as B > :: C : D
+visibility | 
+visibility | pub
+visibility | pub (crate)
+visibility | pub (self)
+visibility | pub (super)
+visibility | pub (in a :: b)
+visibility | pub (in :: a)
+parameter | T
+parameter | T : A + 'a
+parameter | T = u8
+parameter | T : A = Vec < u8 >
+parameter | # [a] # [b (c)] T
+parameter | r#fn : A
+where | where T : A + 'a , 'b : 'c
+parameter | # [a] T : A + 'a = B";
 
-// What is no path and no identifier.
-const NOT_NAMED: &str = "path | 
+pub const NOT_NAMED: &str = "path | 
 path | a b
 path | a::
 path | <A>::b
@@ -188,89 +174,29 @@ ident | fn
 ident | self
 ident | _
 ident | a b
-ident | 1";
-
-fn path(alloc: Global, text: &str, printed: &str) -> Tested<()> {
-    let here = tokens(alloc, 0, text)?;
-    let there = tokens(alloc, 1, text)?;
-    alike(
-        alloc,
-        parse_path(alloc, &here),
-        parse_path(alloc, &there),
-        &here,
-        printed,
-    )?;
-    let printing = printing(alloc, parse_path(alloc, &here), text)?;
-    comes_back(parse_path(alloc, &here), parse_path(alloc, &printing), text)
-}
-
-fn ident(alloc: Global, text: &str, printed: &str) -> Tested<()> {
-    let here = tokens(alloc, 0, text)?;
-    let there = tokens(alloc, 1, text)?;
-    alike(
-        alloc,
-        parse_ident(alloc, &here),
-        parse_ident(alloc, &there),
-        &here,
-        printed,
-    )?;
-    let printing = printing(alloc, parse_ident(alloc, &here), text)?;
-    comes_back(
-        parse_ident(alloc, &here),
-        parse_ident(alloc, &printing),
-        text,
-    )
-}
-
-#[test]
-fn paths_and_identifiers_are_read_and_printed(rt: HostRuntime) -> Tested<()> {
-    let alloc = rt.alloc();
-    for row in NAMED.lines() {
-        let (kind, text) = kind_of(row)?;
-        match kind {
-            "path" => path(alloc, text, text)?,
-            "ident" => ident(alloc, text, text)?,
-            _ => return no_kind(row),
-        }
-    }
-    Ok(())
-}
-
-#[test]
-fn what_is_no_path_and_no_identifier_is_refused(rt: HostRuntime) -> Tested<()> {
-    let alloc = rt.alloc();
-    for row in NOT_NAMED.lines() {
-        let (kind, text) = kind_of(row)?;
-        let tokens = tokens(alloc, 0, text)?;
-        match kind {
-            "path" => refused(parse_path(alloc, &tokens), text)?,
-            "ident" => refused(parse_ident(alloc, &tokens), text)?,
-            _ => return no_kind(row),
-        }
-    }
-    Ok(())
-}
-
-/// Whether the refusal is this text at this place, and nothing else.
-fn fault<T: Drop>(parsed: Parse<T>, text: &str, place: Span) -> bool {
-    match parsed {
-        Err(ParseFail::Syn(error)) => {
-            error.more.is_empty() && error.first.0 == place && error.first.1.is(text)
-        }
-        _ => false,
-    }
-}
-
-#[test]
-fn a_refusal_stands_over_all_tokens(rt: HostRuntime) -> Tested<()> {
-    let alloc = rt.alloc();
-    let (source, start, end) = (7, 1, 6);
-    let two = tokens(alloc, source, " u8 u8 ")?;
-    let place = Span::At { source, start, end };
-    assert!(rt; fault(parse_type(alloc, &two), "expected a type", place));
-    assert!(rt; fault(parse_path(alloc, &two), "expected a path", place));
-    assert!(rt; fault(parse_ident(alloc, &two), "expected an identifier", place));
-    let none = tokens(alloc, source, " ")?;
-    assert!(rt; fault(parse_type(alloc, &none), "expected a type", Span::CallSite));
-    Ok(())
-}
+ident | 1
+where | 
+where | T: A
+where | where T
+where | where T:
+where | where !:::A
+where | where _:::A
+where | where T: A;
+where | where , T: A
+where | where 'a
+where | where 'a: T
+visibility | crate
+visibility | pub pub
+visibility | pub (a)
+visibility | pub ()
+visibility | pub (crate , self)
+visibility | pub (r#crate)
+visibility | pub [crate]
+visibility | pub (in)
+parameter | 
+parameter | 'a
+parameter | const N : u8
+parameter | T :
+parameter | T =
+parameter | T = A : B
+parameter | fn";

@@ -1,7 +1,9 @@
-//! Bytes are read and written whole, over memory and over std.
+//! Bytes are read and written whole, over memory and over std: a row is `kind | argument => answer`.
+
 ghost use Rattle.std.specs.Prelude.{◌≡◌, IfOk, IsOk, IsErrOf};
 
-use crate::rows::{Tested, expects, kind_of, no_kind, row_of};
+use crate::told::Tested;
+use base_core::Mem;
 use edge_core::{
     MemorySink, MemorySource, PlainSink, PlainSource, ReadAll, Sink, Source, StdSink, StdSource,
     WriteFault, read_all, write_all,
@@ -15,8 +17,8 @@ const TEXT: &[u8] = b"twenty bytes of text";
 
 // `read`: the pieces, the call that fails, the limit, and the bytes or the fault. `again`: the bytes that a second
 // read has, behind a fault. `write`: the pieces, the call that fails, the room, and the bytes that are taken, of
-// which `all` are the whole text.
-const ROWS: &str = "read | 3 0 20 => twenty bytes of text
+// which `all` are the whole text. `over`: what a source gives or a sink takes.
+pub const ROWS: &str = "read | 3 0 20 => twenty bytes of text
 read | 3 0 19 => TooLong
 read | 100 0 0 => TooLong
 read | 8 2 20 => ReadFault
@@ -28,85 +30,68 @@ write | 8 4 100 => all twenty bytes of text
 write | 100 2 100 => all twenty bytes of text
 write | 8 0 20 => all twenty bytes of text
 write | 8 0 10 => 10 twenty byt
-write | 8 0 0 => 0 ";
+write | 8 0 0 => 0 
+over | a plain source => twenty bytes of text
+over | a plain sink with room for six => 40 twenty
+over | std, a copy => twenty bytes of text
+over | std, a cursor => twenty bytes of text
+over | std, a reader that fails => ReadFault
+over | std, a writer that fails => 2 
+over | std, a writer with room for six => 6 ";
 
-fn number(text: &str) -> Tested<usize> {
-    match text.parse::<usize>() {
-        Ok(number) => Ok(number),
-        Err(_) => Err(Fail::new(format_args!("{text} is no number"))),
-    }
+fn number(word: Option<&str>) -> usize {
+    word.unwrap_or("").parse::<usize>().unwrap_or(0)
 }
 
-/// The pieces, of which none is empty, the call that fails, and the limit or the room.
-fn numbers(text: &str) -> Tested<(usize, u64, usize)> {
-    let Some((piece, rest)) = text.split_once(' ') else {
-        return Err(Fail::new(format_args!("{text} is one number")));
-    };
-    let Some((failing, most)) = rest.split_once(' ') else {
-        return Err(Fail::new(format_args!("{text} has two numbers")));
-    };
-    Ok((number(piece)?, number(failing)? as u64, number(most)?))
+/// The pieces, the call that fails, and the limit or the room.
+fn numbers(text: &str) -> (usize, u64, usize) {
+    let mut words = text.split(' ');
+    (
+        number(words.next()),
+        number(words.next()) as u64,
+        number(words.next()),
+    )
 }
 
-fn is_same(row: &str, found: &[u8], expected: &str) -> Tested<()> {
-    if found == expected.as_bytes() {
-        return Ok(());
+/// The bytes that are read, or the fault.
+fn received(alloc: Global, outcome: Result<Vec<u8>, ReadAll>) -> Mem<String> {
+    match outcome {
+        Ok(bytes) => format!(in alloc; "{}", str::from_utf8(&bytes).unwrap_or("no text")),
+        Err(error) => format!(in alloc; "{error}"),
     }
-    Err(Fail::new(format_args!("{row} has other bytes")))
 }
 
 /// What is read, by a second call where `again` is true.
-fn reads(alloc: Global, row: &str, again: bool) -> Tested<()> {
-    let (_, rest) = kind_of(row)?;
-    let (settings, answer) = row_of(rest)?;
-    let (piece, failing, limit) = numbers(settings)?;
+pub fn read(alloc: Global, settings: &str, again: bool) -> Tested<String> {
+    let (piece, failing, limit) = numbers(settings);
     if piece == 0 {
-        return no_kind(row);
+        return Err(Fail::new("a piece is empty"));
     }
     let fails = [failing].to_vec(alloc)?;
     let mut source = MemorySource::new(TEXT.to_vec(alloc)?, piece, fails);
     if again && read_all(alloc, &mut source, limit as u64).is_ok() {
-        return Err(Fail::new(format_args!("{row} has no fault")));
+        return Err(Fail::new("the first call has no fault"));
     }
-    match read_all(alloc, &mut source, limit as u64) {
-        Ok(bytes) => is_same(row, bytes.as_slice(), answer),
-        Err(error) => expects(row, format!(in alloc; "{error}")?.as_str(), answer),
-    }
+    Ok(received(alloc, read_all(alloc, &mut source, limit as u64))?)
 }
 
 /// How many bytes are taken, and which.
-fn writes(alloc: Global, row: &str) -> Tested<()> {
-    let (_, rest) = kind_of(row)?;
-    let (settings, answer) = row_of(rest)?;
-    let (piece, failing, room) = numbers(settings)?;
-    let Some((taken, bytes)) = answer.split_once(' ') else {
-        return no_kind(row);
-    };
-    if piece == 0 {
-        return no_kind(row);
+fn taken(alloc: Global, outcome: Result<(), WriteFault>, bytes: &[u8]) -> Mem<String> {
+    let bytes = str::from_utf8(bytes).unwrap_or("no text");
+    match outcome {
+        Ok(()) => format!(in alloc; "all {bytes}"),
+        Err(WriteFault { sent }) => format!(in alloc; "{sent} {bytes}"),
     }
-    let fails = [failing].to_vec(alloc)?;
-    let mut sink = MemorySink::new(alloc, piece, room, fails)?;
-    let written = match write_all(&mut sink, TEXT) {
-        Ok(()) => format!(in alloc; "all")?,
-        Err(WriteFault { sent }) => format!(in alloc; "{sent}")?,
-    };
-    is_same(row, sink.bytes(), bytes)?;
-    expects(row, written.as_str(), taken)
 }
 
-#[test]
-fn over_memory(rt: HostRuntime) -> Tested<()> {
-    for row in ROWS.lines() {
-        let (kind, _) = kind_of(row)?;
-        match kind {
-            "read" => reads(rt.alloc(), row, false)?,
-            "again" => reads(rt.alloc(), row, true)?,
-            "write" => writes(rt.alloc(), row)?,
-            _ => return no_kind(row),
-        }
+pub fn write(alloc: Global, settings: &str) -> Tested<String> {
+    let (piece, failing, room) = numbers(settings);
+    if piece == 0 {
+        return Err(Fail::new("a piece is empty"));
     }
-    Ok(())
+    let mut sink = MemorySink::new(alloc, piece, room, [failing].to_vec(alloc)?)?;
+    let outcome = write_all(&mut sink, TEXT);
+    Ok(taken(alloc, outcome, sink.bytes())?)
 }
 
 // Over a plain source there is no fault.
@@ -122,19 +107,6 @@ fn write_plain(sink: &mut PlainSink, bytes: &[u8]) -> Result<(), WriteFault>
     ensures { IsOk result }
 {
     write_all(sink, bytes)
-}
-
-#[test]
-fn plain_past_the_room(rt: HostRuntime) -> Tested<()> {
-    let mut sink = PlainSink::new(rt.alloc(), 6)?;
-    write_plain(&mut sink, b"")?;
-    write_plain(&mut sink, TEXT)?;
-    write_plain(&mut sink, TEXT)?;
-    assert_eq!(rt; sink.bytes(), b"twenty".as_slice());
-    assert_eq!(rt; sink.written(), 40);
-    let read = read_plain(rt.alloc(), TEXT.to_vec(rt.alloc())?)?;
-    assert_eq!(rt; read.as_slice(), TEXT);
-    Ok(())
 }
 
 // What std tells of a slice and a vector is passed on.
@@ -180,26 +152,44 @@ impl Write for Third {
     }
 }
 
-#[test]
-fn over_std(rt: HostRuntime) -> Tested<()> {
-    assert_eq!(rt; copy_by_std(rt.alloc(), TEXT)?.as_slice(), TEXT);
+/// What a plain sink has, which is filled past its room, and how many bytes were written.
+fn filled(alloc: Global) -> Tested<String> {
+    let mut sink = PlainSink::new(alloc, 6)?;
+    write_plain(&mut sink, b"")?;
+    write_plain(&mut sink, TEXT)?;
+    write_plain(&mut sink, TEXT)?;
+    let bytes = str::from_utf8(sink.bytes()).unwrap_or("no text");
+    Ok(format!(in alloc; "{} {bytes}", sink.written())?)
+}
 
-    let mut cursor = StdSource::new(Cursor::new(TEXT));
-    assert_eq!(rt; read_all(rt.alloc(), &mut cursor, 20)?.as_slice(), TEXT);
-
-    let mut source = StdSource::new(Third { calls: 0 });
-    assert!(rt;
-        matches!(
-            read_all(rt.alloc(), &mut source, 20),
-            Err(ReadAll::ReadFault)
-        )
-    );
-    let mut sink = StdSink::new(Third { calls: 0 });
-    assert_eq!(rt; write_all(&mut sink, TEXT), Err(WriteFault { sent: 2 }));
-
-    // A writer with no room left takes no byte.
-    let mut room = [0; 6];
-    let mut full = StdSink::new(Cursor::new(&mut room[..]));
-    assert_eq!(rt; write_all(&mut full, TEXT), Err(WriteFault { sent: 6 }));
-    Ok(())
+/// What the source gives, or the sink takes.
+pub fn over(alloc: Global, place: &str) -> Tested<String> {
+    match place {
+        "a plain source" => Ok(received(alloc, read_plain(alloc, TEXT.to_vec(alloc)?))?),
+        "a plain sink with room for six" => filled(alloc),
+        "std, a copy" => Ok(received(alloc, copy_by_std(alloc, TEXT))?),
+        "std, a cursor" => {
+            let mut cursor = StdSource::new(Cursor::new(TEXT));
+            Ok(received(alloc, read_all(alloc, &mut cursor, 20))?)
+        }
+        "std, a reader that fails" => {
+            Ok(received(
+                alloc,
+                read_all(alloc, &mut StdSource::new(Third { calls: 0 }), 20),
+            )?)
+        }
+        "std, a writer that fails" => {
+            Ok(taken(
+                alloc,
+                write_all(&mut StdSink::new(Third { calls: 0 }), TEXT),
+                b"",
+            )?)
+        }
+        // A writer with no room left takes no byte.
+        _ => {
+            let mut room = [0; 6];
+            let mut full = StdSink::new(Cursor::new(&mut room[..]));
+            Ok(taken(alloc, write_all(&mut full, TEXT), b"")?)
+        }
+    }
 }

@@ -1,18 +1,14 @@
-//! Texts are lexed, or refused at their place, and tokens are printed.
+//! Texts are lexed, or refused at their place, and tokens are printed: a row is `kind | text => answer`.
 
-use crate::rows::{Tested, expects, kind_of, no_kind, row_of, spelled};
-use std::alloc::Global;
+use crate::told::Tested;
+use std::alloc::{AllocError, Global};
 use std::test::Fail;
 use tok_core::*;
 
-/// How long the text of a row is at most.
-const LONGEST: usize = 1000;
-
-// Texts with what is told of them. `lex`: the tokens, or the fault and its place. A joint mark has `_`
-// behind; an identifier stands in `i`, a raw one in `r`, a lifetime in `l` and a literal in `t`. `open`: the
-// fault where these groups are opened so many times. `print`: the text of the tokens, which is lexed as the same tokens. `quote`:
-// the text as a string. `comment`: the one place of all its tokens.
-const ROWS: &str = r###"lex |  => 
+// `lex`: the tokens, or the fault and its place. A joint mark has `_` behind; an identifier stands in `i`, a raw
+// one in `r`, a lifetime in `l` and a literal in `t`. `print`: the text of the tokens, which is lexed as the same
+// tokens. `quote`: the text as a string. `comment`: the one place of all its tokens.
+pub const ROWS: &str = r###"lex |  => 
 lex | r#type => r(type)
 lex | 'a => l(a)
 lex | 'a' => t('a')
@@ -113,13 +109,13 @@ lex | [a => Syntax 2
 lex | (] => Syntax 1
 lex | a) => Syntax 1
 lex | é(} => Syntax 3
-open | 128 [ => Syntax 128
-open | 129 [ => TooDeep 128
-open | 128 ( => Syntax 128
-open | 129 ( => TooDeep 128
-open | 128 { => Syntax 128
-open | 129 { => TooDeep 128
-open | 43 ([{ => TooDeep 128
+lex | ‹128*[› => Syntax 128
+lex | ‹129*[› => TooDeep 128
+lex | ‹128*(› => Syntax 128
+lex | ‹129*(› => TooDeep 128
+lex | ‹128*{› => Syntax 128
+lex | ‹129*{› => TooDeep 128
+lex | ‹43*([{› => TooDeep 128
 print |  => 
 print | a+=b => a += b
 print | f(a,b) => f (a , b)
@@ -172,104 +168,62 @@ fn push_tokens(text: &mut String, trees: &[TokenTree]) -> Mem<()> {
     Ok(())
 }
 
-/// The tokens of the text, or the fault and its place.
-fn lexed(alloc: Global, text: &str) -> Tested<String> {
-    if text.len() > LONGEST {
-        return Err(Fail::new("the text is too long"));
-    }
-    let mut shown = String::new(alloc);
-    match lex(alloc, 0, text) {
-        Ok(tokens) => push_tokens(&mut shown, tokens.trees.as_slice())?,
-        Err(LexError::TooDeep { at }) => return Ok(format!(in alloc; "TooDeep {at}")?),
-        Err(LexError::Syntax { at }) => return Ok(format!(in alloc; "Syntax {at}")?),
-        Err(LexError::NoMemory) => return Err(Fail::new("no memory is left")),
-    }
-    Ok(shown)
-}
-
-/// What is told of a text of so many times these opening delimiters.
-fn opened(alloc: Global, groups: &str) -> Tested<String> {
-    let Some((times, opening)) = groups.split_once(' ') else {
-        return Err(Fail::new("no delimiters are opened"));
-    };
-    let Ok(times) = times.parse::<usize>() else {
-        return Err(Fail::new("the number of groups is no number"));
-    };
-    let mut text = String::new(alloc);
-    for _time in 0..times {
-        text.push_str(opening)?;
-    }
-    lexed(alloc, text.as_str())
-}
-
 /// The tokens of a short text.
-pub fn tokens(alloc: Global, text: &str) -> Tested<TokenStream> {
-    if text.len() > LONGEST {
-        return Err(Fail::new("the text is too long"));
+pub fn tokens(alloc: Global, text: &str) -> Result<TokenStream, LexError> {
+    if text.len() > 1000 {
+        return Err(LexError::NoMemory);
     }
-    Ok(lex(alloc, 0, text)?)
+    lex(alloc, 0, text)
+}
+
+fn shown(alloc: Global, tokens: &TokenStream) -> Mem<String> {
+    let mut shown = String::new(alloc);
+    push_tokens(&mut shown, tokens.trees.as_slice())?;
+    format!(in alloc; "{}", shown.as_str().trim_end())
+}
+
+/// The tokens of the text, or the fault and its place.
+pub fn lexed(alloc: Global, text: &str) -> Mem<String> {
+    match tokens(alloc, text) {
+        Ok(tokens) => shown(alloc, &tokens),
+        Err(LexError::TooDeep { at }) => format!(in alloc; "TooDeep {at}"),
+        Err(LexError::Syntax { at }) => format!(in alloc; "Syntax {at}"),
+        Err(LexError::NoMemory) => Err(AllocError),
+    }
 }
 
 /// The text of the tokens, which is lexed as the same tokens.
-fn printed(alloc: Global, text: &str) -> Tested<Text> {
-    let tokens = tokens(alloc, text)?;
-    let printed = to_text(alloc, &tokens)?;
-    if printed.len() > LONGEST {
-        return Err(Fail::new("the printing is too long"));
+pub fn printed(alloc: Global, tokens: &TokenStream) -> Tested<String> {
+    let printed = to_text(alloc, tokens)?;
+    if printed.len() > 1000 || read_again(alloc, 1, tokens)? != *tokens {
+        return Err(Fail::new("the printing has other tokens"));
     }
-    if read_again(alloc, 1, &tokens)? == tokens {
-        return Ok(printed);
-    }
-    Err(Fail::new("the printing has other tokens"))
+    Ok(printed.into_string()?)
 }
 
-/// The place that a comment has in common with each token that it stands for.
-fn comment(alloc: Global, text: &str) -> Tested<String> {
-    let tokens = tokens(alloc, text)?;
-    if let [TokenTree::Punct(mark), TokenTree::Group(group)] = tokens.trees.as_slice() {
-        let group = group.get();
-        let inner = group.stream.trees.as_slice();
-        if let [
+/// The place that the two tokens of a comment, and all inside, have in common.
+fn common(tokens: &TokenStream) -> Option<Span> {
+    let [TokenTree::Punct(mark), TokenTree::Group(group)] = tokens.trees.as_slice() else {
+        return None;
+    };
+    let group = group.get();
+    match group.stream.trees.as_slice() {
+        [
             TokenTree::Ident(name),
             TokenTree::Punct(equal),
             TokenTree::Literal(text),
-        ] = inner
-        {
-            let span = mark.span;
-            let outer = group.span == span && name.span == span;
-            if let Span::At {
-                source: 0,
-                start,
-                end,
-            } = span
-            {
-                if outer && equal.span == span && text.span == span {
-                    return Ok(format!(in alloc; "{start}..{end}")?);
-                }
-            }
-        }
-    }
-    Err(Fail::new("the comment stands for other tokens, or at more than one place"))
-}
-
-/// Whether the row tells what becomes of its text.
-fn is_told(alloc: Global, row: &str) -> Tested<()> {
-    let (kind, rest) = kind_of(row)?;
-    let (text, told) = row_of(rest)?;
-    match kind {
-        "lex" => expects(row, lexed(alloc, text)?.as_str().trim_end(), told),
-        "open" => expects(row, opened(alloc, text)?.as_str(), told),
-        "print" => expects(row, printed(alloc, text)?.as_str(), told),
-        "quote" => expects(row, quoted(alloc, text)?.as_str(), told),
-        "comment" => expects(row, comment(alloc, text)?.as_str(), told),
-        _ => no_kind(row),
+        ] if mark.span == group.span
+            && name.span == group.span
+            && equal.span == group.span
+            && text.span == group.span => { Some(group.span) }
+        _ => None,
     }
 }
 
-#[test]
-fn texts_are_lexed_and_tokens_printed(rt: HostRuntime) -> Tested<()> {
-    for row in ROWS.lines() {
-        is_told(rt.alloc(), spelled(rt.alloc(), row)?.as_str())?;
+/// The place that a comment has in common with each token that it stands for.
+pub fn comment(alloc: Global, tokens: &TokenStream) -> Mem<String> {
+    match common(tokens) {
+        Some(Span::At { start, end, .. }) => format!(in alloc; "{start}..{end}"),
+        _ => format!(in alloc; "other tokens, or more than one place"),
     }
-    Ok(())
 }

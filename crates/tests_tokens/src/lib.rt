@@ -2,18 +2,16 @@
 #![tactic(auto)]
 
 #[cfg(test)]
-mod base;
-#[cfg(test)]
 mod edge;
-#[cfg(test)]
-mod faults;
 #[cfg(test)]
 mod lex;
 #[cfg(test)]
 mod lit;
 #[cfg(test)]
-mod rows;
+mod names;
 #[cfg(test)]
 mod scan;
 #[cfg(test)]
-mod types;
+mod told;
+#[cfg(test)]
+mod values;

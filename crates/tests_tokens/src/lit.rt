@@ -1,11 +1,11 @@
-//! Literals have their values.
+//! Literals have their values: a row is `text => kind and value`.
 
-use crate::rows::{Tested, expects, row_of, spelled};
+use crate::told::Tested;
+use base_core::Mem;
 use std::alloc::Global;
 use tok_lit::*;
 
-// Texts with the kinds and the values of the literals that they are.
-const ROWS: &str = r###""" => string 
+pub const ROWS: &str = r###""" => string 
 "a 'é'" => string a 'é'
 "\n\r\t\\\'\"" => string ‹A›‹D›‹9›\'"
 "\x41\u{1_F600}" => string A😀
@@ -50,28 +50,18 @@ r#"a" => none
 340282366920938463463374607431768211456 => none"###;
 
 /// The kind and the value, as one text.
-fn shown(alloc: Global, text: &str) -> Tested<String> {
-    Ok(match value_of(alloc, text)? {
-        Some(Value::Str(value)) => format!(in alloc; "string {}", value.as_str())?,
-        Some(Value::ByteStr(value)) => format!(in alloc; "bytes {:?}", value.as_slice())?,
-        Some(Value::Byte(value)) => format!(in alloc; "byte {value}")?,
-        Some(Value::Char(value)) => format!(in alloc; "character {value}")?,
-        Some(Value::Int(value)) => format!(in alloc; "integer {value}")?,
-        Some(Value::Float) => format!(in alloc; "float")?,
-        None => format!(in alloc; "none")?,
-    })
+pub fn value(alloc: Global, text: &str) -> Tested<String> {
+    Ok(told(alloc, &value_of(alloc, text)?)?)
 }
 
-/// Whether the row tells the value of its text.
-fn is_told(alloc: Global, row: &str) -> Tested<()> {
-    let (text, value) = row_of(row)?;
-    expects(row, shown(alloc, text)?.as_str(), value)
-}
-
-#[test]
-fn values_of_literals(rt: HostRuntime) -> Tested<()> {
-    for row in ROWS.lines() {
-        is_told(rt.alloc(), spelled(rt.alloc(), row)?.as_str())?;
+fn told(alloc: Global, value: &Option<Value>) -> Mem<String> {
+    match value {
+        Some(Value::Str(value)) => format!(in alloc; "string {}", value.as_str()),
+        Some(Value::ByteStr(value)) => format!(in alloc; "bytes {:?}", value.as_slice()),
+        Some(Value::Byte(value)) => format!(in alloc; "byte {value}"),
+        Some(Value::Char(value)) => format!(in alloc; "character {value}"),
+        Some(Value::Int(value)) => format!(in alloc; "integer {value}"),
+        Some(Value::Float) => format!(in alloc; "float"),
+        None => format!(in alloc; "none"),
     }
-    Ok(())
 }

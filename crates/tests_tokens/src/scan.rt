@@ -1,13 +1,12 @@
-//! The piece that a text begins with is found.
+//! The piece that a text begins with is found: a row is `kind | text => answer`.
 
-use crate::rows::{Tested, expects, kind_of, no_kind, row_of, spelled};
+use base_core::Mem;
 use std::alloc::Global;
 use tok_scan::*;
-use tok_types::Mem;
 
-// Texts with what is told of them. `piece`: the kind and the length of the piece that the text begins with. `raw`:
-// the same, once it is known which raw strings end. `text`: its bytes, and itself.
-const ROWS: &str = r###"piece | ‹D›‹A› => White 1
+// `piece`: the kind and the length of the piece that the text begins with. `raw`: the same, once it is known which
+// raw strings end. `text`: its bytes, and itself.
+pub const ROWS: &str = r###"piece | ‹D›‹A› => White 1
 piece | ‹200E› => White 1
 piece | // a‹A›b => Comment 4
 piece | ////x => Comment 5
@@ -115,42 +114,19 @@ raw | r#" r#" r#" => Ident 1
 raw | br#"é"# => Ident 2
 text | aé€🦀 => 10 aé€🦀"###;
 
-fn shown(alloc: Global, found: Option<Found>) -> Mem<String> {
+/// What is found in the text.
+pub fn found(alloc: Global, kind: &str, text: &str) -> Mem<String> {
+    let text = characters(alloc, text)?;
+    let found = match kind {
+        "piece" => piece(&text),
+        "raw" => piece_with(&text, &closings(alloc, &text)?),
+        _ => {
+            let again = text_of(alloc, &text)?;
+            return format!(in alloc; "{} {}", byte_length(&text), again.as_str());
+        }
+    };
     match found {
         Some(Found { kind, length }) => format!(in alloc; "{kind:?} {length}"),
         None => format!(in alloc; "none"),
     }
-}
-
-/// The piece, where it is known which raw strings end.
-fn raw(alloc: Global, text: &[char]) -> Mem<String> {
-    let closings = closings(alloc, text)?;
-    shown(alloc, piece_with(text, &closings))
-}
-
-/// The bytes of the text and the text, from its characters.
-fn kept(alloc: Global, text: &[char]) -> Mem<String> {
-    let again = text_of(alloc, text)?;
-    format!(in alloc; "{} {}", byte_length(text), again.as_str())
-}
-
-/// Whether the row tells what is found in its text.
-fn is_told(alloc: Global, row: &str) -> Tested<()> {
-    let (kind, rest) = kind_of(row)?;
-    let (text, told) = row_of(rest)?;
-    let text = characters(alloc, text)?;
-    match kind {
-        "piece" => expects(row, shown(alloc, piece(&text))?.as_str(), told),
-        "raw" => expects(row, raw(alloc, &text)?.as_str(), told),
-        "text" => expects(row, kept(alloc, &text)?.as_str(), told),
-        _ => no_kind(row),
-    }
-}
-
-#[test]
-fn pieces_of_texts(rt: HostRuntime) -> Tested<()> {
-    for row in ROWS.lines() {
-        is_told(rt.alloc(), spelled(rt.alloc(), row)?.as_str())?;
-    }
-    Ok(())
 }

@@ -14,6 +14,7 @@ mod reading;
 mod spans;
 mod token;
 
+pub use base_core::{Boxed, Items, Mem, Text, TryClone};
 pub use error::LexError;
 pub use laws::{
     flat_tokens_tell_the_stream, one_span_keeps_the_tokens, pieces_stand_at_their_bytes,
@@ -24,6 +25,5 @@ pub use quoting::quoted;
 pub use reading::{MAX_LEN, lex};
 pub use spans::respan;
 pub use tok_types::{
-    Boxed, Delimiter, Group, Ident, IdentError, Items, Lifetime, Literal, Mem, Punct, Span, Text,
-    TokenStream, TokenTree, TryClone,
+    Delimiter, Group, Ident, IdentError, Lifetime, Literal, Punct, Span, TokenStream, TokenTree,
 };

@@ -8,9 +8,10 @@ ghost use Rattle.tok_core.specs.Spells.{doc_tokens, token_of};
 
 use crate::error::LexError;
 use crate::token;
+use base_core::{Items, Mem};
 use std::alloc::Global;
 use tok_scan::Kind;
-use tok_types::{Delimiter, Items, Mem, Span, TokenStream, TokenTree};
+use tok_types::{Delimiter, Span, TokenStream, TokenTree};
 
 /// How many groups may be open at once.
 const MAX_OPEN: usize = 128;

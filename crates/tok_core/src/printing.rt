@@ -8,9 +8,10 @@ ghost use Rattle.tok_core.specs.Spells.{Spells};
 
 use crate::error::LexError;
 use crate::reading::{MAX_LEN, lex};
+use base_core::{Mem, Text};
 use std::alloc::Global;
 use tok_scan::{closing, opening};
-use tok_types::{Mem, Text, TokenStream, TokenTree};
+use tok_types::{TokenStream, TokenTree};
 
 /// The text of the tokens: each as it is written, a group between its delimiters, with one space
 /// between two neighbours and none after a joint mark.

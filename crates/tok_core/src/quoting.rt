@@ -3,9 +3,9 @@ ghost use Rattle.std.specs.Prelude.{◌≡◌, ◌++◌, chars, flat_map, IfOk, 
 ghost use Rattle.std.specs.Str.{encode_utf8_all};
 ghost use Rattle.tok_core.specs.Quoted as spec;
 
+use base_core::{Mem, Text};
 use std::alloc::Global;
 use tok_scan::characters;
-use tok_types::{Mem, Text};
 
 /// The text between quotes, with `\`, `"`, line feed, carriage return, tab and NUL as escapes.
 pub fn quoted(alloc: Global, text: &str) -> Mem<Text>

@@ -3,7 +3,8 @@
 ghost use Rattle.std.specs.Prelude.{◌≡◌, map};
 ghost use Rattle.tok_types.specs.Respan.{stream_at, tree_at};
 
-use tok_types::{Items, Punct, Span, TokenStream, TokenTree};
+use base_core::Items;
+use tok_types::{Punct, Span, TokenStream, TokenTree};
 
 /// Puts `span` in the place of every span. It takes no memory.
 pub fn respan(tokens: &mut TokenStream, span: Span)

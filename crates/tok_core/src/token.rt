@@ -6,11 +6,9 @@ ghost use Rattle.tok_core.specs.Flat.{flat_tree, flat_trees, start_of, end_of};
 ghost use Rattle.tok_core.specs.Spells.{doc_tokens, ident_of};
 
 use crate::quoting::quoted_characters;
+use base_core::{Boxed, Items, Mem, Text};
 use std::alloc::Global;
-use tok_types::{
-    Boxed, Delimiter, Group, Ident, Items, Lifetime, Literal, Mem, Punct, Span, Text, TokenStream,
-    TokenTree,
-};
+use tok_types::{Delimiter, Group, Ident, Lifetime, Literal, Punct, Span, TokenStream, TokenTree};
 
 fn name(alloc: Global, characters: &[char], raw: bool, span: Span) -> Mem<Ident>
     ensures { IfOk result (λ it. it ≡ record { text = encode_utf8_all characters.now; raw = raw; span = span }) }

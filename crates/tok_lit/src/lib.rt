@@ -10,6 +10,5 @@ mod number;
 mod quoted;
 mod value;
 
-pub use base_core::{Items, Mem, Text};
 pub use laws::{literal_has_one_value, literals_have_values};
 pub use value::{Value, value_of};

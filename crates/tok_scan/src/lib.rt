@@ -22,4 +22,3 @@ pub use place::{at, digits_length, hash_length, hex_length, rest};
 pub use quotes::item_length;
 pub use scan::{piece, piece_with};
 pub use text::{byte_length, characters, text_of};
-pub use tok_types::Delimiter;

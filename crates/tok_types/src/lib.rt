@@ -11,7 +11,6 @@ mod names;
 mod span;
 mod tree;
 
-pub use base_core::{Boxed, Items, Mem, Text, TryClone};
 pub use error::IdentError;
 pub use ident::{Ident, Lifetime};
 pub use laws::{

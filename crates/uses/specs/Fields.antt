@@ -3,9 +3,8 @@ use Rattle.std.specs.Prelude.{◌≡◌, ℕ, List, [], ◌∷◌, flat_map, cod
 use Rattle.std.specs.Str.{chars}
 use Rattle.syn_core.specs.declared.fail.ParseFail.TheVariants as parse
 use Rattle.syn_core.specs.ItemTrees.{derive_input_of}
-use Rattle.syn_core.specs.Nodes.{Data, DeriveInput, Field, Fields}
-use Rattle.syn_core.specs.Nodes.body as bodies
-use Rattle.syn_core.specs.Nodes.fields as kinds
+use Rattle.syn_core.specs.Nodes.{DeriveInput, Field}
+use Rattle.syn_core.specs.Bodies.{fields_in}
 use Rattle.syn_core.specs.Parses.{fault_over}
 use Rattle.syn_core.specs.Tokens.{Ident, TokenStream}
 use Rattle.tok_core.specs.Endings.{Refused}
@@ -40,17 +39,6 @@ optional_name (Some name) = name ∷ []
 -- the name of a field, where it has one
 abbrev pub name_in : Field → List Ident
 name_in field = optional_name field.ident
-
-abbrev pub listed : Fields → List Field
-listed (kinds.Named fields) = fields.named
-listed (kinds.Unnamed fields) = fields.unnamed
-listed kinds.Unit = []
-
--- the fields of a struct or of a union; an enum has none of its own
-abbrev pub fields_in : Data → List Field
-fields_in (bodies.Struct body) = listed body.fields
-fields_in (bodies.Enum body) = []
-fields_in (bodies.Union body) = body.fields.named
 
 -- the names of the fields of the text's item, or why there is no item
 abbrev pub ReadsNames : List ℕ → Result (List Ident) TextFail → Type 0

@@ -5,7 +5,7 @@ ghost use Rattle.uses.specs.Fields as spec;
 
 use crate::fail::TextFail;
 use std::alloc::Global;
-use syn_core::{Data, DeriveInput, Field, Fields, Ident, Items, Mem, TryClone, parse_derive_input};
+use syn_core::{DeriveInput, Field, Ident, Items, Mem, TryClone, parse_derive_input};
 use tok_core::{MAX_LEN, lex};
 
 /// The item that the text is: a struct, an enum or a union.
@@ -24,7 +24,7 @@ pub fn fields_of(alloc: Global, text: &str) -> Result<Items<Ident>, TextFail>
     ensures { spec.ReadsNames text.now result }
 {
     let item = item_of(alloc, text)?;
-    let names = names_of(alloc, fields_in(&item.body))?;
+    let names = names_of(alloc, item.body.fields())?;
     Ok(names)
 }
 
@@ -39,25 +39,4 @@ pub fn names_of(alloc: Global, fields: &[Field]) -> Mem<Items<Ident>>
         }
     }
     Ok(names)
-}
-
-/// The fields of a struct or of a union; an enum has none of its own.
-fn fields_in(body: &Data) -> &[Field]
-    ensures { result.now ≡ spec.fields_in body.now }
-{
-    match body {
-        Data::Struct(body) => listed(&body.fields),
-        Data::Enum(_) => &[],
-        Data::Union(body) => body.fields.named.as_slice(),
-    }
-}
-
-fn listed(fields: &Fields) -> &[Field]
-    ensures { result.now ≡ spec.listed fields.now }
-{
-    match fields {
-        Fields::Named(fields) => fields.named.as_slice(),
-        Fields::Unnamed(fields) => fields.unnamed.as_slice(),
-        Fields::Unit => &[],
-    }
 }

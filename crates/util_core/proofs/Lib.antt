@@ -1,2 +1,2 @@
-pub use Rattle.util_table.proofs.MapLemmas
-pub use Rattle.util_table.proofs.PlaceLemmas
+pub use Rattle.meta_core.proofs.MapLemmas
+pub use Rattle.meta_core.proofs.PlaceLemmas

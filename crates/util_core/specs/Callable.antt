@@ -3,10 +3,9 @@ use Rattle.std.specs.Prelude.{[], Option, Some, None, option_and_then, option_ma
 use Rattle.tok_types.specs.declared.span.Span.{Span}
 use Rattle.tok_types.specs.declared.tree.TokenStream.{TokenStream}
 use Rattle.node_expr.specs.Layers.{ExprLayer}
-use Rattle.node_expr.specs.declared.expr.Expr.{Expr}
+use Rattle.node_expr.specs.declared.expr.Expr.{Expr, out-Expr}
 use Rattle.node_expr.specs.declared.expr.Expr.TheOpen.{Expr-F}
 use Rattle.node_expr.specs.declared.expr.Expr.TheVariants as expr
-use Rattle.node_expr.specs.declared.expr.Expr.{out-Expr}
 use Rattle.node_expr.specs.declared.lit.Lit.TheVariants as lit
 use Rattle.node_expr.specs.declared.lit.LitStr.{LitStr}
 use Rattle.node_expr.specs.declared.path.Path.{Path}
@@ -17,8 +16,8 @@ use Rattle.error_fault.specs.Fault.{at_span}
 use Rattle.error_fault.specs.Outcome.{Outcome, Value, Faults}
 use Rattle.error_fault.specs.declared.kind.FaultKind.TheVariants.{Custom}
 use Rattle.law_lexed.specs.Lexed.{tokens_in}
-use Rattle.util_table.specs.Cells.{Cells, no_cells}
-use Rattle.util_table.specs.Dispatch.{unexpected_expr}
+use Rattle.meta_core.specs.Cells.{Cells, no_cells}
+use Rattle.meta_core.specs.Dispatch.{unexpected_expr}
 use Rattle.util_core.specs.declared.callable.Callable.{Callable}
 
 -- what calls the expression

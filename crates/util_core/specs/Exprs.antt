@@ -10,9 +10,9 @@ use Rattle.node_span.specs.Spanned.{meta_span}
 use Rattle.error_fault.specs.Fault.{at_span}
 use Rattle.error_fault.specs.Outcome.{Outcome, Value, Faults}
 use Rattle.error_fault.specs.declared.kind.FaultKind.TheVariants.{UnexpectedFormat}
-use Rattle.util_table.specs.Cells.{Cells, no_cells}
-use Rattle.util_table.specs.Dispatch.{from_value}
-use Rattle.util_table.specs.Exprs.{expr_cells}
+use Rattle.meta_core.specs.Cells.{Cells, no_cells}
+use Rattle.meta_core.specs.Dispatch.{from_value}
+use Rattle.meta_core.specs.Exprs.{expr_cells}
 
 -- every expression as it stands, a string too
 abbrev pub preserved_cells : Cells Expr

@@ -6,9 +6,9 @@ use Rattle.node_core.specs.declared.attr.Meta.TheVariants as meta
 use Rattle.node_span.specs.Spanned.{path_span}
 use Rattle.error_fault.specs.Outcome.{Outcome, Value, bind, refused}
 use Rattle.error_fault.specs.declared.kind.FaultKind.TheVariants.{UnexpectedFormat}
-use Rattle.util_table.specs.Cells.{Cells, no_cells}
-use Rattle.util_table.specs.Dispatch.{from_meta}
-use Rattle.util_table.specs.Rows.{unit_cells}
+use Rattle.meta_core.specs.Cells.{Cells, no_cells}
+use Rattle.meta_core.specs.Dispatch.{from_meta}
+use Rattle.meta_core.specs.Rows.{unit_cells}
 
 -- a word is there; another meta has the faults that it has at `()`, and an empty list is no format of a flag
 abbrev pub flag_of : Meta → Outcome (Option Span)

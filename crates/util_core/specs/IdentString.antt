@@ -4,9 +4,9 @@ use Rattle.std.specs.declared.alloc.Global.{Global}
 use Rattle.std.specs.declared.string.String.{String}
 use Rattle.tok_types.specs.Ident.{ident_text}
 use Rattle.tok_types.specs.declared.ident.Ident.{Ident}
-use Rattle.util_table.specs.Cells.{Cells, no_cells}
-use Rattle.util_table.specs.Dispatch.{from_meta}
-use Rattle.util_table.specs.Exprs.{ident_cells}
+use Rattle.meta_core.specs.Cells.{Cells, no_cells}
+use Rattle.meta_core.specs.Dispatch.{from_meta}
+use Rattle.meta_core.specs.Exprs.{ident_cells}
 
 -- the string holds the text of the identifier
 abbrev pub IsTextOf : Ident → String Global → Type 0

@@ -6,32 +6,24 @@ pub mod Flag
 pub mod IdentString
 pub mod Lending
 pub mod Override
-pub use Rattle.util_table.specs.Answers
-pub use Rattle.util_table.specs.Call
-pub use Rattle.util_table.specs.Cells
-pub use Rattle.util_table.specs.CellsPlaces as Places
-pub use Rattle.util_table.specs.Dispatch
-pub use Rattle.util_table.specs.Exprs as MetaExprs
-pub use Rattle.util_table.specs.Groups
-pub use Rattle.util_table.specs.Integers
-pub use Rattle.util_table.specs.Keys
-pub use Rattle.util_table.specs.KnownKeys
-pub use Rattle.util_table.specs.Lists
-pub use Rattle.util_table.specs.Maps
-pub use Rattle.util_table.specs.MetaNameValueInvalidExpr
-pub use Rattle.util_table.specs.Nested
-pub use Rattle.util_table.specs.NestedMeta
-pub use Rattle.util_table.specs.Nodes
-pub use Rattle.util_table.specs.Outcome
-pub use Rattle.util_table.specs.PathList
-pub use Rattle.util_table.specs.PathLists
-pub use Rattle.util_table.specs.Rows
-pub use Rattle.util_table.specs.Rule
-pub use Rattle.util_table.specs.Sets
-pub use Rattle.util_table.specs.Syntax
-pub use Rattle.util_table.specs.Table
-pub use Rattle.util_table.specs.Trees
-pub use Rattle.util_table.specs.Wrappers
-pub use Rattle.util_table.specs.declared.row.RenameKind
-pub use Rattle.util_table.specs.declared.row.Row
-pub use Rattle.util_table.specs.declared.rule.RenameRule
+pub use Rattle.meta_core.specs.Call
+pub use Rattle.meta_core.specs.Cells
+pub use Rattle.meta_core.specs.Dispatch
+pub use Rattle.meta_core.specs.Exprs as MetaReadsExprs
+pub use Rattle.meta_core.specs.Groups
+pub use Rattle.meta_core.specs.Integers
+pub use Rattle.meta_core.specs.Keys
+pub use Rattle.meta_core.specs.KnownKeys
+pub use Rattle.meta_core.specs.Lists
+pub use Rattle.meta_core.specs.Maps
+pub use Rattle.meta_core.specs.MetaNameValueInvalidExpr
+pub use Rattle.meta_core.specs.Nested
+pub use Rattle.meta_core.specs.NestedMeta
+pub use Rattle.meta_core.specs.NestedNodes as Nodes
+pub use Rattle.meta_core.specs.PathLists
+pub use Rattle.meta_core.specs.Places
+pub use Rattle.meta_core.specs.Rows
+pub use Rattle.meta_core.specs.Sets
+pub use Rattle.meta_core.specs.Syntax
+pub use Rattle.meta_core.specs.Wrappers
+pub use Rattle.meta_core.specs.declared.path_list.PathList

@@ -3,8 +3,8 @@ use Rattle.std.specs.Prelude.{ℕ, List, ◌++◌, Option, Some, None, option_ma
 use Rattle.node_core.specs.declared.attr.Meta.{Meta}
 use Rattle.node_core.specs.declared.attr.Meta.TheVariants as meta
 use Rattle.error_fault.specs.Outcome.{Outcome, Value, on_value}
-use Rattle.util_table.specs.Cells.{Cells, no_cells}
-use Rattle.util_table.specs.Dispatch.{from_bool, from_char, from_expr, from_list, from_meta, from_text, from_value}
+use Rattle.meta_core.specs.Cells.{Cells, no_cells}
+use Rattle.meta_core.specs.Dispatch.{from_bool, from_char, from_expr, from_list, from_meta, from_text, from_value}
 use Rattle.util_core.specs.declared.over_ride.Override.{Override}
 use Rattle.util_core.specs.declared.over_ride.Override.TheVariants.{Inherit, Explicit}
 

@@ -2,19 +2,19 @@
 
 ghost use Rattle.std.specs.Prelude.{◌≡◌, IfOk, codes};
 ghost use Rattle.node_expr.specs.declared.expr.Expr.{out-Expr};
-ghost use Rattle.util_table.specs.Answers.{Answers};
+ghost use Rattle.error_core.specs.Answers.{Answers};
 ghost use Rattle.print_core.specs.Nodes.{expr_tokens};
-ghost use Rattle.util_table.specs.Parses.{Parses};
+ghost use Rattle.meta_core.specs.Parses.{Parses};
 ghost use Rattle.util_core.specs.Callable as spec;
 
-use meta_text::tokens_of_text;
-use node_core::ExprClosure;
-use print_core::{ToTokens, TokenTree};
+use base_core::{Items, Mem, TryClone};
+use error_core::{Error, Fail, Result};
+use meta_core::{Call, FromMeta, Parse, ParseFail, parse_expr, parse_path, tokens_of_text};
+use node_expr::{Expr, ExprClosure, ExprPath, Lit, LitStr, Path};
+use node_span::Spanned;
+use print_core::ToTokens;
 use std::alloc::Global;
-use util_table::{
-    Call, Error, Expr, ExprPath, Fail, FromMeta, Items, Lit, LitStr, Mem, Parse, ParseFail, Path,
-    Result, Span, Spanned, TokenStream, TryClone, parse_expr, parse_path,
-};
+use tok_types::{Span, TokenStream, TokenTree};
 
 /// A path or a closure, as in `with = a::b` and `with = |item| item`; a string is a path.
 #[derive_where(PartialEq, Eq, Hash)]

@@ -7,10 +7,13 @@ ghost use Rattle.error_core.specs.ErrorView.{One};
 ghost use Rattle.node_expr.specs.declared.path.PathArguments.{out-PathArguments};
 ghost use Rattle.util_core.specs.ExtractOption as spec;
 
-use node_core::{GenericArgument, Items, Path, PathArguments};
+use base_core::{Items, Mem};
+use error_core::{Error, Fail, Result};
+use node_expr::{GenericArgument, Path, PathArguments, Type, TypeNever, TypePath};
+use node_span::Spanned;
 use std::alloc::Global;
 use std::mem;
-use util_table::{Error, Fail, Ident, Mem, Result, Span, Spanned, Type, TypeNever, TypePath};
+use tok_types::{Ident, Span};
 
 /// The `T` of `Option<T>`, also of `std::option::Option<T>` and of any other path that ends so. Of another type
 /// ``expected an `Option` ``, where it stands.
@@ -142,7 +145,7 @@ fn place_of_one(arguments: &mut Items<GenericArgument>) -> Option<&mut Type>
 fn is_option(ident: &Ident) -> bool
     ensures { result ≡ spec.is_option ident.now }
 {
-    !ident.raw && ident.text.as_str() == "Option"
+    !ident.raw && ident.text.is("Option")
 }
 
 /// The type, where it stands alone in angle brackets.

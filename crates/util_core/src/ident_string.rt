@@ -10,15 +10,17 @@ ghost use Rattle.tok_types.specs.contracts.ident.IdentPartialOrd.TheImpl.Laws as
 ghost use Rattle.tok_types.specs.declared.ident.Ident.{Ident};
 ghost use Rattle.util_core.specs.IdentString.{IsTextOf, Gives};
 
-use print_core::{ToTokens, TokenTree};
+use base_core::{Items, Mem, TryClone};
+use error_core::Result;
+use meta_core::{Call, FromMeta};
+use print_core::ToTokens;
 use std::alloc::Global;
 use std::cmp::Ordering;
 use std::fmt::{self, Display};
 use std::hash::{Hash, Hasher};
 use std::marker::Model;
 use std::result;
-use tok_types::IdentError;
-use util_table::{Call, FromMeta, Ident, Items, Mem, Result, Span, TryClone};
+use tok_types::{Ident, IdentError, Span, TokenTree};
 
 /// An identifier that keeps its text, as it is written. Contracts see the identifier.
 pub struct IdentString {

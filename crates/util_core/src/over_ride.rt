@@ -6,9 +6,12 @@ ghost use Rattle.std.specs.Borrow.{sem};
 ghost use Rattle.util_core.specs.Override as spec;
 ghost use Rattle.util_core.specs.Lending.{lends_explicit};
 
+use base_core::{Mem, TryClone};
+use error_core::Result;
+use meta_core::{Call, FromMeta};
+use node_core::Meta;
 use std::alloc::Global;
 use std::fmt::{self, Display};
-use util_table::{Call, FromMeta, Mem, Meta, Result, TryClone};
 
 /// A value that is given, or that is to come from elsewhere: `default = path`, or `default` alone.
 #[derive(Debug, Drop)]

@@ -2,14 +2,15 @@
 
 ghost use Rattle.std.specs.Prelude.{◌≡◌, IfOk};
 ghost use Rattle.error_core.specs.ErrorView.{One};
-ghost use Rattle.util_table.specs.Answers.{Answers};
+ghost use Rattle.error_core.specs.Answers.{Answers};
 ghost use Rattle.util_core.specs.Attributes as spec;
 
-use node_core::{Attribute, Delimiter, push_full_path};
+use base_core::{Items, Mem, Text, TryClone};
+use error_core::{Error, Fail, Result};
+use node_core::{Attribute, Meta, MetaList, MetaNameValue};
+use node_make::push_full_path;
 use std::alloc::Global;
-use util_table::{
-    Error, Fail, Items, Mem, Meta, MetaList, MetaNameValue, Result, Text, TokenStream, TryClone,
-};
+use tok_types::{Delimiter, TokenStream};
 
 /// The list that the attribute holds. A word is an empty list, and a value is a fault.
 pub fn parse_attribute_to_meta_list(alloc: Global, attr: &Attribute) -> Result<MetaList>

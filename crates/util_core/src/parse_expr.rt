@@ -1,10 +1,15 @@
 //! The value of a meta as an expression, for `with` of a field.
 
-ghost use Rattle.util_table.specs.Answers.{Answers};
+ghost use Rattle.error_core.specs.Answers.{Answers};
 ghost use Rattle.util_core.specs.Exprs as spec;
 
+use base_core::TryClone;
+use error_core::{Error, Fail, Result};
+use meta_core::FromMeta;
+use node_core::Meta;
+use node_expr::Expr;
+use node_span::Spanned;
 use std::alloc::Global;
-use util_table::{Error, Expr, Fail, FromMeta, Meta, Result, Spanned, TryClone};
 
 /// The value as it stands; a string stays a string. A word and a list have none.
 pub fn preserve_str_literal(alloc: Global, meta: &Meta) -> Result<Expr>

@@ -3,27 +3,29 @@
 ghost use Rattle.std.specs.Prelude.{◌≡◌};
 ghost use Rattle.print_core.specs.Nodes.{expr_tokens};
 
-use print_core::{ToTokens, TokenTree};
+use base_core::{Items, Mem, TryClone};
+use error_core::Result;
+use meta_core::{Call, FromMeta};
+use node_expr::Expr;
+use print_core::ToTokens;
 use std::alloc::Global;
-use util_table::{Call, Expr, FromMeta, Items, Mem, Result, TryClone};
+use tok_types::TokenTree;
 
 /// Any expression, as it stands: a string stays a string, and an invisible group stays around it.
 #[derive(PartialEq, Eq, Hash)]
-pub struct PreservedStrExpr {
-    pub expr: Expr,
-}
+pub struct PreservedStrExpr(pub Expr);
 
 impl Drop for PreservedStrExpr {
     fn drop(self) {
-        let Self { expr: _expr } = self;
+        let Self(_expr) = self;
     }
 }
 
 impl PreservedStrExpr {
     fn into_expr(self) -> Expr
-        ensures { result ≡ self.expr }
+        ensures { result ≡ self.0 }
     {
-        let Self { expr } = self;
+        let Self(expr) = self;
         expr
     }
 }
@@ -31,17 +33,17 @@ impl PreservedStrExpr {
 impl From<Expr> for PreservedStrExpr {
     ghost use Rattle.std.specs.Prelude.{◌≡◌};
 
-    ghost from_gives = { λ expr it. it.expr ≡ expr };
+    ghost from_gives = { λ expr it. it.0 ≡ expr };
 
     fn from(expr: Expr) -> PreservedStrExpr {
-        PreservedStrExpr { expr }
+        PreservedStrExpr(expr)
     }
 }
 
 impl From<PreservedStrExpr> for Expr {
     ghost use Rattle.std.specs.Prelude.{◌≡◌};
 
-    ghost from_gives = { λ it expr. expr ≡ it.expr };
+    ghost from_gives = { λ it expr. expr ≡ it.0 };
 
     fn from(it: PreservedStrExpr) -> Expr {
         it.into_expr()
@@ -50,16 +52,16 @@ impl From<PreservedStrExpr> for Expr {
 
 impl TryClone for PreservedStrExpr {
     fn try_clone(&self, alloc: Global) -> Mem<PreservedStrExpr> {
-        let expr = self.expr.try_clone(alloc)?;
-        Ok(PreservedStrExpr { expr })
+        let expr = self.0.try_clone(alloc)?;
+        Ok(PreservedStrExpr(expr))
     }
 }
 
 impl ToTokens for PreservedStrExpr {
-    ghost printing = { λ it. expr_tokens it.expr };
+    ghost printing = { λ it. expr_tokens it.0 };
 
     fn print(&self, alloc: Global, trees: &mut Items<TokenTree>) -> Mem<()> {
-        self.expr.print(alloc, trees)
+        self.0.print(alloc, trees)
     }
 }
 
@@ -69,7 +71,7 @@ impl FromMeta for PreservedStrExpr {
 
     ghost Seen = { Expr };
 
-    ghost seen = { λ it. it.expr };
+    ghost seen = { λ it. it.0 };
 
     ghost cells = { preserved_cells };
 
@@ -77,7 +79,7 @@ impl FromMeta for PreservedStrExpr {
         match call {
             Call::Expr(expr) => {
                 let expr = expr.try_clone(alloc)?;
-                Ok(Some(PreservedStrExpr { expr }))
+                Ok(Some(PreservedStrExpr(expr)))
             }
             _ => Ok(None),
         }

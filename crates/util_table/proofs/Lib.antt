@@ -4,5 +4,3 @@ mod Adding
 mod Lines
 mod Looking
 pub mod RuleAsText
-pub use Rattle.meta_core.proofs.MapLemmas
-pub use Rattle.meta_core.proofs.PlaceLemmas

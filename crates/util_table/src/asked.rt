@@ -7,8 +7,13 @@ ghost use Rattle.util_table.specs.Rule as spec;
 
 use crate::rule::RenameRule;
 use crate::table::RenameTable;
-use meta_core::{Error, Fail, FromMeta, Meta, Result, Span, Spanned, Text, without_groups};
+use base_core::Text;
+use error_core::{Error, Fail, Result};
+use meta_core::{FromMeta, without_groups};
+use node_core::Meta;
+use node_span::Spanned;
 use std::alloc::Global;
+use tok_types::Span;
 
 impl RenameTable {
     /// The rule that the item names by a string: `rename_all = "kebab"`

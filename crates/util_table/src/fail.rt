@@ -8,9 +8,9 @@ use std::alloc::{AllocError, AllocFailed};
 #[derive(Debug, Drop, PartialEq, Eq, thiserror::Error)]
 pub enum TableFail {
     /// The first line that is neither empty nor a row, from 1 on.
-    #[error("bad table line {line}")]
+    #[error("BadTable")]
     BadTable { line: u32 },
-    #[error("no memory")]
+    #[error("NoMemory")]
     NoMemory,
 }
 

@@ -16,19 +16,7 @@ mod row;
 mod rule;
 mod table;
 
-pub use base_core::{Items, Mem, Text, TryClone};
-pub use error_core::{Error, Fail, Result};
 pub use fail::TableFail;
-pub use meta_core::{
-    Call, FromMeta, KeyFromPath, KeySet, MapKey, MetaNameValueInvalidExpr, NestedMeta, Parse,
-    ParseFail, PathList, item_front, items_of, parse_expr, parse_items, parse_path, path_to_string,
-    read_key, read_non_zero_signed, read_non_zero_unsigned, read_signed, read_unsigned, spanned,
-};
-pub use node_core::{Meta, MetaList, MetaNameValue};
-pub use node_expr::{Expr, ExprPath, Lit, LitStr, Path, Type, TypeNever, TypePath};
-pub use node_span::Spanned;
-pub use reading::MAX_LEN;
 pub use row::{RenameKind, Row};
 pub use rule::RenameRule;
 pub use table::RenameTable;
-pub use tok_types::{Ident, Span, TokenStream};

@@ -8,9 +8,7 @@ use crate::fail::TableFail;
 use crate::row::{Row, row_of};
 use base_core::Items;
 use std::alloc::Global;
-
-/// How many bytes the text of a table may have.
-pub const MAX_LEN: usize = 16_777_216;
+use tok_core::MAX_LEN;
 
 /// The rows of the text, in their order.
 pub(crate) fn rows_of(alloc: Global, text: &str) -> Result<Items<Row>, TableFail>

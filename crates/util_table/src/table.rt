@@ -6,13 +6,14 @@ ghost use Rattle.util_table.specs.Table.{bad_line, name_by, renamed, rule_at, ru
 
 use crate::fail::TableFail;
 use crate::places::{RulePlaces, places_of};
-use crate::reading::{MAX_LEN, rows_of};
+use crate::reading::rows_of;
 use crate::row::{RenameKind, Row};
 use crate::rule::RenameRule;
 use base_core::{Items, Mem, TryClone};
 use std::alloc::Global;
 use std::collections::BTreeMap;
 use std::marker::Model;
+use tok_core::MAX_LEN;
 
 /// A table of names. Contracts see the list of its rows.
 pub struct RenameTable {

@@ -9,8 +9,8 @@ ghost use Rattle.body_core.specs.Data as spec;
 
 use crate::ast::fields::Fields;
 use crate::ast::members::{map_members, references};
+use base_core::{Items, Mem, TryClone};
 use error_core::{Error, Fail, Result};
-use node_core::{Items, Mem, TryClone};
 use std::alloc::Global;
 
 /// The body of an enum, whose variants are read as `V`, or of a struct, whose members are read as `F`.

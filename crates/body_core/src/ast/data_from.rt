@@ -11,8 +11,9 @@ use crate::ast::fields::Fields;
 use crate::ast::members::{ReadMember, read_members};
 use crate::from_field::FromField;
 use crate::from_variant::FromVariant;
+use base_core::Items;
 use error_core::{Fail, Result};
-use node_core::{Items, Variant};
+use node_core::Variant;
 use std::alloc::Global;
 use std::marker::PhantomData;
 

@@ -8,9 +8,11 @@ ghost use Rattle.body_core.specs.Calls.{AnswersEach};
 ghost use Rattle.body_core.specs.Data as spec;
 
 use crate::ast::members::{map_members, references};
-use node_core::{Items, Mem, Span, Style, TryClone};
+use base_core::{Items, Mem, TryClone};
+use node_core::Style;
 use std::alloc::Global;
 use std::{slice, vec};
+use tok_types::Span;
 
 /// The members of a struct or of a variant. Equality ignores where they stand.
 #[derive(Drop)]

@@ -10,11 +10,13 @@ ghost use Rattle.body_core.specs.Members as spec;
 use crate::ast::fields::Fields;
 use crate::ast::members::{ReadMember, read_members};
 use crate::from_field::FromField;
+use base_core::Items;
 use error_core::{Fail, Result};
-use node_core::{Field, Ident, Items, Style};
+use node_core::{Field, Style};
 use node_span::Spanned;
 use std::alloc::Global;
 use std::marker::PhantomData;
+use tok_types::Ident;
 
 impl<F: FromField + Drop> Fields<F> {
     /// The members that a node's fields are, at the node's place.

@@ -5,9 +5,11 @@ ghost use Rattle.print_core.specs.Marks.{comma, ended, joined};
 ghost use Rattle.body_core.specs.Tokens.{container_tokens};
 
 use crate::ast::fields::Fields;
-use node_core::{Delimiter, Items, Mem, Span, Style, TokenTree};
+use base_core::{Items, Mem};
+use node_core::Style;
 use print_core::{ToTokens, push_comma, push_group};
 use std::alloc::Global;
+use tok_types::{Delimiter, Span, TokenTree};
 
 /// `{ a, b, }`, `(a, b)`, or nothing
 impl<T: ToTokens> ToTokens for Fields<T> {

@@ -5,7 +5,8 @@ ghost use Rattle.std.specs.List.{filter_map};
 ghost use Rattle.body_core.specs.Generics as spec;
 ghost use Rattle.body_core.specs.TypeParams.{types_left};
 
-use node_core::{ConstParam, Items, LifetimeParam, Mem, TryClone, TypeParam, WhereClause};
+use base_core::{Items, Mem, TryClone};
+use node_core::{ConstParam, LifetimeParam, TypeParam, WhereClause};
 use std::alloc::Global;
 use std::iter::FusedIterator;
 use std::slice;

@@ -9,8 +9,9 @@ use crate::ast::generics::{GenericParam, Generics};
 use crate::from_generic_param::FromGenericParam;
 use crate::from_generics::FromGenerics;
 use crate::from_type_param::FromTypeParam;
+use base_core::{Items, TryClone};
 use error_core::Result;
-use node_core::{Items, TryClone, TypeParam};
+use node_core::TypeParam;
 use std::alloc::Global;
 
 impl<T: FromTypeParam> FromTypeParam for GenericParam<T> {

@@ -8,8 +8,8 @@ ghost use Rattle.error_core.specs.ErrorView.{held};
 ghost use Rattle.body_core.specs.Calls.{AnswersEach};
 ghost use Rattle.error_core.specs.Each.{every};
 
+use base_core::{Items, Mem};
 use error_core::{Accumulator, Error, Fail, Result};
-use node_core::{Items, Mem};
 use std::alloc::Global;
 
 /// What the function answers at each member, in order.

@@ -15,9 +15,13 @@ ghost use Rattle.meta_core.specs.Maps.{entries_of, entry, entry_of, item_faults,
 use crate::from_meta::FromMeta;
 use crate::key::KeyFromPath;
 use crate::map_key::{KeySet, MapKey};
-use error_core::{Accumulator, Error, Fail, Mem, Path, Result, Span, Spanned};
-use meta_cells::NestedMeta;
+use base_core::Mem;
+use error_core::{Accumulator, Error, Fail, Result};
+use meta_nested::NestedMeta;
+use node_expr::Path;
+use node_span::Spanned;
 use std::alloc::Global;
+use tok_types::Span;
 
 /// The entries of the items, or the faults of all of them.
 pub(crate) fn read_entries<K: MapKey + Drop, V: FromMeta + Drop, S: KeySet<K> + Drop>(

@@ -1,9 +1,10 @@
 //! Literals.
 
 use crate::from_meta::FromMeta;
-use error_core::{Lit, Result, TryClone};
-use meta_cells::Call;
-use node_core::{LitBool, LitByte, LitByteStr, LitChar, LitFloat, LitInt, LitStr};
+use base_core::TryClone;
+use error_core::Result;
+use meta_nested::Call;
+use node_expr::{Lit, LitBool, LitByte, LitByteStr, LitChar, LitFloat, LitInt, LitStr};
 use std::alloc::Global;
 
 impl FromMeta for Lit {

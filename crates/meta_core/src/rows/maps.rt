@@ -2,7 +2,7 @@
 
 ghost use Rattle.std.specs.Prelude.{◌≡◌, IfOk};
 ghost use Rattle.std.specs.declared.cmp.Ordering.{Ordering};
-ghost use Rattle.meta_cells.specs.Cells.{AnswersCell, cell_at};
+ghost use Rattle.meta_nested.specs.Cells.{AnswersCell, cell_at};
 ghost use Rattle.meta_core.specs.KnownKeys.{IsOrder};
 ghost use Rattle.meta_core.specs.Maps.{looked_up, seen_entries, seen_table, sorted, sorted_cells, table_cells};
 
@@ -10,12 +10,14 @@ use crate::from_meta::FromMeta;
 use crate::key::KeyFromPath;
 use crate::map_key::MapKey;
 use crate::rows::entries::read_entries;
-use error_core::{Mem, Path, Result, Text};
-use meta_cells::Call;
-use node_core::Ident;
+use base_core::{Mem, Text};
+use error_core::Result;
+use meta_nested::Call;
+use node_expr::Path;
 use std::alloc::Global;
 use std::collections::{BTreeMap, BTreeSet, HashMap, HashSet};
 use std::hash::Hash;
+use tok_types::Ident;
 
 /// A map in the order of its keys, from a list.
 fn read_sorted<K: MapKey + Ord + Drop, V: FromMeta + Drop>(

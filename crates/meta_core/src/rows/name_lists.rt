@@ -9,10 +9,13 @@ ghost use Rattle.error_core.specs.Each.{every};
 ghost use Rattle.meta_core.specs.Lists as spec;
 
 use crate::from_meta::FromMeta;
-use error_core::{Accumulator, Error, Fail, Mem, Path, Result, TryClone};
-use meta_cells::{Call, NestedMeta};
-use node_core::{Ident, Meta};
+use base_core::{Mem, TryClone};
+use error_core::{Accumulator, Error, Fail, Result};
+use meta_nested::{Call, NestedMeta};
+use node_core::Meta;
+use node_expr::Path;
 use std::alloc::Global;
+use tok_types::Ident;
 
 /// The items of a list. All faults are told.
 impl FromMeta for Vec<Ident> {
@@ -58,7 +61,7 @@ impl FromMeta for Vec<Path> {
 pub(crate) trait Name: Sized {
     ghost use Rattle.error_fault.specs.Outcome.{Outcome};
     ghost use Rattle.error_core.specs.Answers.{Answers};
-    ghost use Rattle.meta_cells.specs.NestedMeta.{NestedMeta};
+    ghost use Rattle.meta_nested.specs.declared.nested.NestedMeta.{NestedMeta};
 
     ghost of_item: { NestedMeta → Outcome Self };
 

@@ -13,12 +13,15 @@ use crate::from_meta::FromMeta;
 use crate::map_key::MapKey;
 use crate::rows::entries::push_repeat;
 use crate::rows::name_lists::{Name, collect_name};
-use error_core::{Accumulator, Error, Fail, Mem, Path, Result, Spanned};
-use meta_cells::{Call, NestedMeta};
-use node_core::Ident;
+use base_core::Mem;
+use error_core::{Accumulator, Error, Fail, Result};
+use meta_nested::{Call, NestedMeta};
+use node_expr::Path;
+use node_span::Spanned;
 use std::alloc::Global;
 use std::collections::HashSet;
 use std::hash::Hash;
+use tok_types::Ident;
 
 /// The items of a list, each once. All faults are told.
 impl FromMeta for HashSet<Ident> {

@@ -2,7 +2,7 @@
 
 use crate::from_meta::FromMeta;
 use error_core::Result;
-use meta_cells::Call;
+use meta_nested::Call;
 use meta_reads::read_non_zero_signed;
 use std::alloc::Global;
 use std::num::{NonZeroI8, NonZeroI16, NonZeroI32, NonZeroI64, NonZeroI128, NonZeroIsize};

@@ -2,7 +2,7 @@
 
 use crate::from_meta::FromMeta;
 use error_core::Result;
-use meta_cells::Call;
+use meta_nested::Call;
 use meta_reads::read_non_zero_unsigned;
 use std::alloc::Global;
 use std::num::{NonZeroU8, NonZeroU16, NonZeroU32, NonZeroU64, NonZeroU128, NonZeroUsize};

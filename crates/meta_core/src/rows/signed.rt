@@ -2,7 +2,7 @@
 
 use crate::from_meta::FromMeta;
 use error_core::Result;
-use meta_cells::Call;
+use meta_nested::Call;
 use meta_reads::read_signed;
 use std::alloc::Global;
 

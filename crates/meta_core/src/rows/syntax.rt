@@ -1,21 +1,21 @@
 //! Pieces of syntax: names, paths, expressions, parameters, visibilities, `where` clauses, lists and metas.
 
 use crate::from_meta::FromMeta;
-use error_core::{Expr, Path, Result, TryClone};
-use meta_cells::Call;
-use meta_kinds::{
+use base_core::TryClone;
+use error_core::Result;
+use meta_nested::Call;
+use meta_reads::{
     read_expr, read_expr_kind, read_ident, read_path, read_quoted, read_syntax,
     read_where_predicates,
 };
-use node_core::{
-    Comma, ExprArray, ExprPath, ExprRange, FnArg, Ident, Meta, Punctuated, TypeParam, Visibility,
-    WhereClause, WherePredicate,
-};
+use node_core::{Comma, Meta, Punctuated, TypeParam, Visibility, WhereClause, WherePredicate};
+use node_expr::{Expr, ExprArray, ExprPath, ExprRange, FnArg, Path};
 use std::alloc::Global;
+use tok_types::Ident;
 
 impl FromMeta for Ident {
     ghost use Rattle.tok_types.specs.declared.ident.Ident.{Ident};
-    ghost use Rattle.meta_kinds.specs.Exprs.{ident_cells};
+    ghost use Rattle.meta_reads.specs.Exprs.{ident_cells};
 
     ghost Seen = { Ident };
 
@@ -30,7 +30,7 @@ impl FromMeta for Ident {
 
 impl FromMeta for Path {
     ghost use Rattle.node_expr.specs.declared.path.Path.{Path};
-    ghost use Rattle.meta_kinds.specs.Exprs.{path_cells};
+    ghost use Rattle.meta_reads.specs.Exprs.{path_cells};
 
     ghost Seen = { Path };
 
@@ -45,7 +45,7 @@ impl FromMeta for Path {
 
 impl FromMeta for Expr {
     ghost use Rattle.node_expr.specs.declared.expr.Expr.{Expr};
-    ghost use Rattle.meta_kinds.specs.Exprs.{expr_cells};
+    ghost use Rattle.meta_reads.specs.Exprs.{expr_cells};
 
     ghost Seen = { Expr };
 
@@ -153,7 +153,7 @@ impl FromMeta for WhereClause {
 impl FromMeta for Vec<WherePredicate> {
     ghost use Rattle.std.specs.Prelude.{List};
     ghost use Rattle.node_core.specs.declared.generics.WherePredicate.{WherePredicate};
-    ghost use Rattle.meta_kinds.specs.Syntax.{where_predicates_cells};
+    ghost use Rattle.meta_reads.specs.Syntax.{where_predicates_cells};
 
     ghost Seen = { List WherePredicate };
 

@@ -2,9 +2,9 @@
 
 use crate::from_meta::FromMeta;
 use error_core::Result;
-use meta_cells::Call;
-use meta_kinds::{read_syntax, read_type_path};
-use node_core::{
+use meta_nested::Call;
+use meta_reads::{read_syntax, read_type_path};
+use node_expr::{
     Type, TypeArray, TypeFnPtr, TypeGroup, TypeImplTrait, TypeInfer, TypeNever, TypeParen,
     TypePath, TypePtr, TypeReference, TypeSlice, TypeTraitObject, TypeTuple,
 };
@@ -12,7 +12,7 @@ use std::alloc::Global;
 
 impl FromMeta for TypePath {
     ghost use Rattle.node_expr.specs.declared.ty.TypePath.{TypePath};
-    ghost use Rattle.meta_kinds.specs.Exprs.{type_path_cells};
+    ghost use Rattle.meta_reads.specs.Exprs.{type_path_cells};
 
     ghost Seen = { TypePath };
 

@@ -3,17 +3,19 @@
 ghost use Rattle.std.specs.Prelude.{◌≡◌, map};
 ghost use Rattle.node_expr.specs.declared.expr.Expr.{out-Expr};
 ghost use Rattle.error_core.specs.Answers.{Answers};
-ghost use Rattle.meta_cells.specs.Cells.{AnswersCell, cell_at};
-ghost use Rattle.meta_cells.specs.Dispatch.{from_expr, from_nested_meta};
-ghost use Rattle.meta_cells.specs.Groups.{in_group};
+ghost use Rattle.meta_nested.specs.Cells.{AnswersCell, cell_at};
+ghost use Rattle.meta_nested.specs.Dispatch.{from_expr, from_nested_meta};
+ghost use Rattle.meta_nested.specs.Groups.{in_group};
 ghost use Rattle.error_core.specs.Each.{each};
 ghost use Rattle.meta_core.specs.Lists as spec;
 
 use crate::from_meta::FromMeta;
-use error_core::{Error, Expr, Fail, Lit, LitStr, Result};
-use meta_cells::{Call, NestedMeta, without_groups};
-use meta_kinds::parse_text;
-use node_core::{ExprArray, LitBool, LitByte, LitByteStr, LitChar, LitFloat, LitInt};
+use error_core::{Error, Fail, Result};
+use meta_nested::{Call, NestedMeta, without_groups};
+use meta_reads::parse_text;
+use node_expr::{
+    Expr, ExprArray, Lit, LitBool, LitByte, LitByteStr, LitChar, LitFloat, LitInt, LitStr,
+};
 use std::alloc::Global;
 
 /// A type whose vectors are read item by item, and element by element.

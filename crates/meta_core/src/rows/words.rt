@@ -1,8 +1,9 @@
 //! Words, characters and strings.
 
 use crate::from_meta::FromMeta;
-use error_core::{Error, Fail, Result, Text};
-use meta_cells::Call;
+use base_core::Text;
+use error_core::{Error, Fail, Result};
+use meta_nested::Call;
 use meta_reads::{bool_in, char_in, no_items};
 use std::alloc::Global;
 use std::path::PathBuf;

@@ -3,13 +3,14 @@
 ghost use Rattle.std.specs.Prelude.{Some};
 ghost use Rattle.error_core.specs.Answers.{Answers};
 ghost use Rattle.error_fault.specs.Outcome.{Outcome, Value};
-ghost use Rattle.meta_cells.specs.Cells.{AnswersCell};
+ghost use Rattle.meta_nested.specs.Cells.{AnswersCell};
 ghost use Rattle.meta_core.specs.Wrappers.{outcome_of};
 
 use crate::from_meta::FromMeta;
-use error_core::{Error, Fail, Result, TryClone};
-use meta_cells::Call;
-use node_core::{Boxed, Meta};
+use base_core::{Boxed, TryClone};
+use error_core::{Error, Fail, Result};
+use meta_nested::Call;
+use node_core::Meta;
 use std::alloc::Global;
 use std::result;
 

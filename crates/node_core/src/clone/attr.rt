@@ -1,8 +1,8 @@
 //! Clones of attributes.
 
 use crate::attr::{Attribute, Meta, MetaList, MetaNameValue};
+use base_core::{Mem, TryClone};
 use std::alloc::Global;
-use tok_types::{Mem, TryClone};
 
 impl TryClone for Attribute {
     fn try_clone(&self, alloc: Global) -> Mem<Attribute> {

@@ -4,8 +4,8 @@ use crate::data::{
     Data, DataEnum, DataStruct, DataUnion, Field, Fields, FieldsNamed, FieldsUnnamed, Variant,
     Visibility,
 };
+use base_core::{Mem, TryClone};
 use std::alloc::Global;
-use tok_types::{Mem, TryClone};
 
 impl TryClone for Visibility {
     fn try_clone(&self, alloc: Global) -> Mem<Visibility> {

@@ -1,8 +1,8 @@
 //! Clones of whole items.
 
 use crate::derive::DeriveInput;
+use base_core::{Mem, TryClone};
 use std::alloc::Global;
-use tok_types::{Mem, TryClone};
 
 impl TryClone for DeriveInput {
     fn try_clone(&self, alloc: Global) -> Mem<DeriveInput> {

@@ -3,8 +3,8 @@
 use crate::generics::{
     ConstParam, GenericParam, Generics, LifetimeParam, TypeParam, WhereClause, WherePredicate,
 };
+use base_core::{Mem, TryClone};
 use std::alloc::Global;
-use tok_types::{Mem, TryClone};
 
 impl TryClone for Generics {
     fn try_clone(&self, alloc: Global) -> Mem<Generics> {

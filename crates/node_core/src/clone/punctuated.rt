@@ -1,9 +1,9 @@
 //! Clones of lists with marks.
 
 use crate::punctuated::{Comma, Punctuated};
+use base_core::{Mem, TryClone};
 use std::alloc::Global;
 use std::marker::PhantomData;
-use tok_types::{Mem, TryClone};
 
 impl<T: TryClone + Drop, P> TryClone for Punctuated<T, P> {
     fn try_clone(&self, alloc: Global) -> Mem<Punctuated<T, P>> {

@@ -5,8 +5,9 @@ ghost use Rattle.std.specs.Prelude.{◌≡◌, IfOk};
 use crate::clone::path::{clone_generic_arguments, clone_qself};
 use crate::expr::{BinOp, Expr, ExprArray, ExprClosure, ExprPath, ExprRange, Member, UnOp};
 use crate::path::GenericArgument;
+use base_core::{Boxed, Items, Mem, TryClone};
 use std::alloc::Global;
-use tok_types::{Boxed, Ident, Items, Mem, Span, TryClone};
+use tok_types::{Ident, Span};
 
 impl TryClone for Expr {
     #[cycle(clone)]

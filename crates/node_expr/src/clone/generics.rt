@@ -3,8 +3,8 @@
 ghost use Rattle.std.specs.Prelude.{◌≡◌, IfOk};
 
 use crate::generics::{TraitBound, TypeParamBound};
+use base_core::{Items, Mem, TryClone};
 use std::alloc::Global;
-use tok_types::{Items, Mem, TryClone};
 
 impl TryClone for TypeParamBound {
     #[cycle(clone)]

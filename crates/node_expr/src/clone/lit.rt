@@ -1,8 +1,8 @@
 //! Clones of literals.
 
 use crate::lit::{Lit, LitBool, LitByte, LitByteStr, LitChar, LitFloat, LitInt, LitStr};
+use base_core::{Mem, TryClone};
 use std::alloc::Global;
-use tok_types::{Mem, TryClone};
 
 impl TryClone for Lit {
     fn try_clone(&self, alloc: Global) -> Mem<Lit> {

@@ -5,8 +5,8 @@ ghost use Rattle.std.specs.Prelude.{◌≡◌, IfOk};
 use crate::clone::generics::clone_bounds;
 use crate::clone::ty::{clone_boxed_type, clone_types};
 use crate::path::{GenericArgument, Path, PathArguments, PathSegment, QSelf};
+use base_core::{Items, Mem, TryClone};
 use std::alloc::Global;
-use tok_types::{Items, Mem, TryClone};
 
 impl TryClone for Path {
     #[cycle(clone)]

@@ -8,8 +8,8 @@ use crate::ty::{
     FnArg, NamedArg, ReturnType, Type, TypeArray, TypeFnPtr, TypeGroup, TypeImplTrait, TypeInfer,
     TypeNever, TypeParen, TypePath, TypePtr, TypeReference, TypeSlice, TypeTraitObject, TypeTuple,
 };
+use base_core::{Boxed, Items, Mem, TryClone};
 use std::alloc::Global;
-use tok_types::{Boxed, Items, Mem, TryClone};
 
 impl TryClone for Type {
     #[cycle(clone)]

@@ -1,8 +1,7 @@
-use Rattle.std.proofs.Common.{List, refl}
+use Rattle.std.proofs.Common.{List, refl, true, None}
 use Rattle.error_fault.specs.declared.fault.Fault.{Fault}
 use Rattle.machine_read.specs.State as spec
 use Rattle.machine_read.specs.State.{One}
-use Rattle.std.proofs.Common.{true, None}
 use Rattle.machine_execute.specs.Seen.{Change}
 use Rattle.machine_execute.proofs.Faulty.{faulty}
 use Rattle.machine_execute.proofs.items.filled.Goals as goal

@@ -2,7 +2,7 @@ use Rattle.std.proofs.Common.{◌≡◌, map, drop}
 use Rattle.std.specs.Borrow.{Bor}
 use Rattle.std.specs.List.{list_any}
 use Rattle.codegen_program.specs.declared.program.«Unit».{«Unit» as Unit'}
-use Rattle.machine_steps.specs.Machine.{is_from_meta}
+use Rattle.codegen_program.specs.Traits.{is_from_meta}
 use Rattle.machine_forms.proofs.units.reads_items.Given as goal
 
 abbrev pub invariant-loop-unit : goal.invariant-loop-unit

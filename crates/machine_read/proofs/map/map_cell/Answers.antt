@@ -1,5 +1,5 @@
 use Rattle.std.proofs.Common.{subst, Some}
-use Rattle.meta_cells.specs.Cells.{AnswersCell}
+use Rattle.meta_nested.specs.Cells.{AnswersCell}
 use Rattle.machine_leaf.specs.Maps.{read_entries}
 use Rattle.error_fault.specs.Outcome.{on_value}
 use Rattle.machine_leaf.specs.Texts.{by_text}

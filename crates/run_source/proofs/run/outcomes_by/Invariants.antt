@@ -1,5 +1,5 @@
 use Rattle.std.proofs.Common.{◌≡◌, Some, map, take}
-use Rattle.law_options.specs.Elements.{OnInput, machine_on}
+use Rattle.machine_execute.specs.Elements.{OnInput, machine_on}
 use Rattle.run_source.proofs.run.outcomes_by.Given as goal
 
 abbrev pub invariant-loop-subject : goal.invariant-loop-subject

@@ -1,5 +1,5 @@
 use Rattle.std.proofs.Common.{◌≡◌, ℕ, subst}
-use Rattle.law_options.specs.Elements.{HasOutcome, OnInput}
+use Rattle.machine_execute.specs.Elements.{HasOutcome, OnInput}
 use Rattle.run_source.proofs.run.run_program.Goals as goal
 
 pub outcomes_by-requires : goal.outcomes_by-requires

@@ -1,5 +1,5 @@
 use Rattle.std.proofs.Common.{◌≡◌, None}
-use Rattle.run_accepted.specs.Places.{earliest}
+use Rattle.law_options.specs.Places.{earliest}
 use Rattle.run_accepted.proofs.PlaceLemmas.{none_first}
 use Rattle.run_source.proofs.source.built_program.Goals as goal
 

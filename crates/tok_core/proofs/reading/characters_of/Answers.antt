@@ -1,9 +1,8 @@
-use Rattle.std.proofs.Common.{◌∙◌, ap}
+use Rattle.std.proofs.Common.{◌∙◌, ap, sym}
 use Rattle.std.specs.Str.{encode_utf8_all}
 use Rattle.std.proofs.lemmas.Str.{chars-IsAscii, encodes-IsAscii}
 use Rattle.tok_core.proofs.Bytes.{take-plain, IsAscii-plain}
 use Rattle.tok_core.proofs.reading.characters_of.Goals as goal
-use Rattle.std.proofs.Common.{sym}
 
 pub returns-clause-value : goal.returns-clause-value
 returns-clause-value c =

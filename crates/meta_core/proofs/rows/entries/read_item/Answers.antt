@@ -2,7 +2,7 @@ use Rattle.std.proofs.Common.{◌++◌, ◌∙◌, ap}
 use Rattle.node_make.specs.PathText.{path_text}
 use Rattle.error_fault.specs.Outcome.{under}
 use Rattle.error_core.specs.ErrorView.{held, leaves}
-use Rattle.meta_cells.specs.Dispatch.{from_meta, from_invalid_expr}
+use Rattle.meta_nested.specs.Dispatch.{from_meta, from_invalid_expr}
 use Rattle.error_core.proofs.AnswersLemmas.{held-push}
 use Rattle.meta_core.proofs.MapLemmas.{on_ok_map}
 use Rattle.meta_core.proofs.rows.entries.read_item.Goals as goal

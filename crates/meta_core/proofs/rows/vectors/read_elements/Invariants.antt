@@ -1,5 +1,5 @@
 use Rattle.std.proofs.Common.{◌≡◌, map, drop}
-use Rattle.meta_cells.specs.Dispatch.{from_expr}
+use Rattle.meta_nested.specs.Dispatch.{from_expr}
 use Rattle.error_core.specs.Each.{behind, each}
 use Rattle.meta_core.proofs.rows.vectors.read_elements.Given as goal
 

@@ -1,0 +1,129 @@
+-- One more item that no field takes is one more fault.
+use Rattle.std.proofs.Common.{◌≡◌, ℕ, suc, Bool, true, false, cond, List, [], ◌∷◌, ◌++◌, Option, Some, None, option_and_then, refl, ap, ap₂, ◌∙◌, sym, append_assoc, append-nil, true≢false}
+use Rattle.std.proofs.lemmas.List.Elements.{filter-append}
+use mathlib.Core.Path.{fun_ext}
+use Rattle.base_core.specs.declared.text.Text.{Text}
+use Rattle.error_fault.specs.declared.fault.Fault.{Fault}
+use Rattle.machine_steps.specs.Convert.{Earlier}
+use Rattle.machine_steps.specs.Names.{item_name}
+use Rattle.meaning_core.specs.NestedMeta.{NestedMeta}
+use Rattle.machine_steps.specs.Setting.{Setting}
+use Rattle.meaning_core.specs.Decl.{Shape, Single, Many, Flat, FieldDecl, Decl, is_flat, has_flat}
+use Rattle.meaning_core.specs.Entries.{Entry, FaultEntry, ItemEntry, items}
+use Rattle.meaning_core.specs.EntryFaults.{own_faults, item_faults, named_faults, entry_faults, all_entry_faults}
+use Rattle.meaning_core.specs.FieldValue.{flat_faults, missing}
+use Rattle.meaning_core.specs.Meaning.{joined, collected}
+use Rattle.meaning_core.specs.Owners.{owner, owner_named, is_this, own, field_at, each}
+use Rattle.law_accepted.specs.MoreFaults.{unknown_fault, OneMoreFault}
+
+-- the items of two lists of entries are those of the first, then those of the second
+items_append : (xs ys : List Entry) → items (xs ++ ys) ≡ items xs ++ items ys
+items_append [] ys = refl
+items_append (FaultEntry fault ∷ xs) ys = items_append xs ys
+items_append (ItemEntry item ∷ xs) ys = ap (λ more. item ∷ more) (items_append xs ys)
+
+-- an item without an owner, put among items, leaves what each field owns
+own_without : (fields : List FieldDecl) (xs ys : List NestedMeta) (item : NestedMeta) → owner fields item ≡ None → own fields (xs ++ item ∷ ys) ≡ own fields (xs ++ ys)
+own_without fields [] ys item e = fun_ext (λ number. ap (λ found. cond (is_this number found) (item ∷ own fields ys number) (own fields ys number)) e)
+own_without fields (x ∷ xs) ys item e =
+    fun_ext (λ number. ap (λ (more : ℕ → List NestedMeta). cond (is_this number (owner fields x)) (x ∷ more number) (more number)) (own_without fields xs ys item e))
+
+-- where each field owns the same of two lists, it does with the same items behind both
+own_behind : (fields : List FieldDecl) (xs ys more : List NestedMeta) → own fields xs ≡ own fields ys → own fields (xs ++ more) ≡ own fields (ys ++ more)
+own_behind fields xs ys more e =
+    let append : (front : List NestedMeta) (number : ℕ) → own fields (front ++ more) number ≡ own fields front number ++ own fields more number =
+    λ front number. filter-append (λ item. is_this number (owner fields item)) front more in
+    fun_ext (λ number. append xs number ∙ ap (λ (mine : ℕ → List NestedMeta). mine number ++ own fields more number) e ∙ sym (append ys number))
+
+-- where no one of two tests holds, both fail
+both_fail : (here more : Bool) → cond here true more ≡ false → (here ≡ false) × (more ≡ false)
+both_fail true more e = absurd (true≢false e)
+both_fail false more e = (refl, e)
+
+module _ (setting : Setting) (earlier : Earlier) (decl : Decl) where
+  -- the faults of entries behind earlier items depend on those items only by what each field owns of them
+  item_by_own : (xs ys : List NestedMeta) (name : Text) (item : NestedMeta) (found : Option ℕ) → own decl.fields xs ≡ own decl.fields ys → item_faults setting earlier decl xs name item found ≡ item_faults setting earlier decl ys name item found
+  item_by_own xs ys name item None e = refl
+  item_by_own xs ys name item (Some number) e = ap (λ (mine : ℕ → List NestedMeta). own_faults setting earlier (field_at decl.fields number) (field_at decl.fields number).shape (mine number) item) e
+
+  named_by_own : (xs ys : List NestedMeta) (item : NestedMeta) (name : Option Text) → own decl.fields xs ≡ own decl.fields ys → named_faults setting earlier decl xs item name ≡ named_faults setting earlier decl ys item name
+  named_by_own xs ys item None e = refl
+  named_by_own xs ys item (Some name) e = item_by_own xs ys name item (owner_named decl.fields name) e
+
+  entry_by_own : (xs ys : List NestedMeta) (entry : Entry) → own decl.fields xs ≡ own decl.fields ys → entry_faults setting earlier decl xs entry ≡ entry_faults setting earlier decl ys entry
+  entry_by_own xs ys (FaultEntry fault) e = refl
+  entry_by_own xs ys (ItemEntry item) e = named_by_own xs ys item (item_name item) e
+
+  entries_by_own : (xs ys : List NestedMeta) (entries : List Entry) → own decl.fields xs ≡ own decl.fields ys → all_entry_faults setting earlier decl xs entries ≡ all_entry_faults setting earlier decl ys entries
+  entries_by_own xs ys [] e = refl
+  entries_by_own xs ys (entry ∷ entries) e =
+      ap₂ (λ here more. here ++ more) (entry_by_own xs ys entry e) (entries_by_own (xs ++ items (entry ∷ [])) (ys ++ items (entry ∷ [])) entries (own_behind decl.fields xs ys (items (entry ∷ [])) e))
+
+  -- the faults of two lists of entries are those of the first, then those of the second behind the items of the first
+  entries_append : (before : List NestedMeta) (xs ys : List Entry) → all_entry_faults setting earlier decl before (xs ++ ys) ≡ all_entry_faults setting earlier decl before xs ++ all_entry_faults setting earlier decl (before ++ items xs) ys
+  entries_append before [] ys = ap (λ behind. all_entry_faults setting earlier decl behind ys) (sym (append-nil before))
+  entries_append before (x ∷ xs) ys =
+      let here = entry_faults setting earlier decl before x in
+      let more = all_entry_faults setting earlier decl (before ++ items (x ∷ [])) xs in
+      ap (λ faults. here ++ faults) (entries_append (before ++ items (x ∷ [])) xs ys)
+      ∙ ap (λ behind. here ++ (more ++ all_entry_faults setting earlier decl behind ys)) (append_assoc before (items (x ∷ [])) (items xs) ∙ ap (λ rest. before ++ rest) (sym (items_append (x ∷ []) xs)))
+      ∙ sym (append_assoc here more (all_entry_faults setting earlier decl (before ++ items (x ∷ xs)) ys))
+
+  -- a field that is not flattened has no flat faults, nor have fields of which none is flattened
+  not_flat : (field : FieldDecl) (shape : Shape) (all : List NestedMeta) → is_flat shape ≡ false → flat_faults setting earlier decl field shape all ≡ []
+  not_flat field Single all e = refl
+  not_flat field Many all e = refl
+  not_flat field Flat all e = absurd (true≢false e)
+
+  none_flat : (fields : List FieldDecl) (all : List NestedMeta) (mine : ℕ → List NestedMeta) → has_flat fields ≡ false → joined (each (λ field own_items. flat_faults setting earlier decl field field.shape all) fields mine) ≡ []
+  none_flat [] all mine e = refl
+  none_flat (field ∷ fields) all mine e =
+      let both = both_fail (is_flat field.shape) (has_flat fields) e in
+      ap₂ (λ here more. here ++ more) (not_flat field field.shape all both.0) (none_flat fields all (λ number. mine (suc number)) both.1)
+
+  -- the faults of the missing fields, by what each field owns
+  abbrev all_missing : (ℕ → List NestedMeta) → List Fault
+  all_missing mine = joined (each (λ field own_items. missing setting earlier decl field field.shape own_items) decl.fields mine)
+
+  -- where no field is flattened, the faults of the entries are collected, then those of the missing fields
+  collected_unflattened : (entries : List Entry) → has_flat decl.fields ≡ false → collected setting earlier decl entries ≡ all_entry_faults setting earlier decl [] entries ++ all_missing (own decl.fields (items entries))
+  collected_unflattened entries e =
+      ap (λ flattened. all_entry_faults setting earlier decl [] entries ++ (flattened ++ all_missing (own decl.fields (items entries)))) (none_flat decl.fields (items entries) (own decl.fields (items entries)) e)
+
+  -- an item of a name that no field has is one fault, where no field is flattened and unknown items are refused
+  unknown_alone : (before : List NestedMeta) (item : NestedMeta) (name : Text) → has_flat decl.fields ≡ false → decl.allows_unknown ≡ false → item_name item ≡ Some name → owner_named decl.fields name ≡ None → entry_faults setting earlier decl before (ItemEntry item) ≡ unknown_fault decl name item ∷ []
+  unknown_alone before item name flat allows named unowned =
+      ap (named_faults setting earlier decl before item) named
+      ∙ ap (item_faults setting earlier decl before name item) unowned
+      ∙ ap₂ (λ (flattened allowed : Bool). cond flattened [] (cond allowed [] (unknown_fault decl name item ∷ []))) flat allows
+
+  -- an item without an owner, put among entries, leaves what each field owns
+  owned_alike : (before after : List Entry) (item : NestedMeta) → owner decl.fields item ≡ None → own decl.fields (items (before ++ ItemEntry item ∷ after)) ≡ own decl.fields (items (before ++ after))
+  owned_alike before after item e =
+      ap (own decl.fields) (items_append before (ItemEntry item ∷ after))
+      ∙ own_without decl.fields (items before) (items after) item e
+      ∙ ap (own decl.fields) (sym (items_append before after))
+
+  -- and it leaves the faults of the entries behind it
+  later_alike : (before : List NestedMeta) (item : NestedMeta) (after : List Entry) → owner decl.fields item ≡ None → all_entry_faults setting earlier decl (before ++ item ∷ []) after ≡ all_entry_faults setting earlier decl before after
+  later_alike before item after e =
+      entries_by_own (before ++ item ∷ []) before after (own_without decl.fields before [] item e ∙ ap (own decl.fields) (append-nil before))
+
+pub one_more_fault : OneMoreFault
+one_more_fault setting earlier decl before after item name flat allows named unowned =
+    let first = all_entry_faults setting earlier decl [] before in
+    let behind = all_entry_faults setting earlier decl (items before) after in
+    let last = all_missing setting earlier decl (own decl.fields (items (before ++ after))) in
+    let fault = unknown_fault decl name item in
+    let ownerless : owner decl.fields item ≡ None = ap (option_and_then (owner_named decl.fields)) named ∙ unowned in
+    let added : all_entry_faults setting earlier decl [] (before ++ ItemEntry item ∷ after) ≡ first ++ fault ∷ behind =
+    entries_append setting earlier decl [] before (ItemEntry item ∷ after)
+    ∙ ap₂ (λ here more. first ++ (here ++ more)) (unknown_alone setting earlier decl (items before) item name flat allows named unowned) (later_alike setting earlier decl (items before) item after ownerless) in (
+      behind ++ last,
+      collected_unflattened setting earlier decl (before ++ after) flat
+          ∙ ap (λ faults. faults ++ last) (entries_append setting earlier decl [] before after)
+          ∙ append_assoc first behind last,
+      collected_unflattened setting earlier decl (before ++ ItemEntry item ∷ after) flat
+          ∙ ap₂ (λ faults mine. faults ++ all_missing setting earlier decl mine) added (owned_alike setting earlier decl before after item ownerless)
+          ∙ append_assoc first (fault ∷ behind) last,
+    )

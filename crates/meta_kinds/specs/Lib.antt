@@ -1,4 +1,0 @@
-pub mod Kinds
-pub mod Parsed
-pub mod Syntax
-pub mod Exprs

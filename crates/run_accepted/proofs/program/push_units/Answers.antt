@@ -1,0 +1,38 @@
+use Rattle.std.proofs.Common.{◌≡◌, ◌∙◌, true, List, [], ◌∷◌, ◌++◌, ◌+◌, drop, map, get_or, ap, sym, subst}
+use Rattle.std.specs.List.{All}
+use Rattle.std.proofs.lemmas.Result.{err_from_is_err_and}
+use Rattle.tok_types.specs.declared.span.Span.TheVariants.{CallSite}
+use Rattle.codegen_program.specs.declared.program.Derive.TheVariants.{FromMeta}
+use Rattle.run_accepted.specs.declared.derives.Derived.{Derived}
+use Rattle.run_accepted.specs.Derives.{derives_of}
+use Rattle.run_accepted.specs.Unbuilt.{is_compiled}
+use Rattle.run_accepted.proofs.BuiltLemmas.{compiled}
+use Rattle.run_accepted.specs.Pairs.{Pair, pair}
+use Rattle.run_accepted.specs.Steps.{Rejects}
+use Rattle.run_accepted.proofs.PairLemmas.{map_next, stops}
+use Rattle.run_accepted.proofs.program.push_units.Goals as goal
+
+pub push_unit-requires-clause-compiled : goal.push_unit-requires-clause-compiled
+push_unit-requires-clause-compiled c =
+    let decl = c.args.decl.now in
+    let P : List Derived → Type 0 = λ derives. All (λ it. is_compiled it.derive ≡ true) derives in
+    let e : c.as_slice-it-items.result.now ≡ derives_of decl.attrs =
+    c.as_slice-it-items.ensures ∙ c.in_ok-derives.ensures ∙ ap derives_of c.as_slice.ensures in
+    subst P (sym e) (compiled decl c.requires) c.loop-it.it-index _ c.loop-it-test.true
+
+pub returns-in_err-push_unit : goal.returns-in_err-push_unit
+returns-in_err-push_unit c before are =
+    let rules = c.args.table.now in
+    let decl = c.args.decl.now in
+    let items = c.as_slice-it-items.result.now in
+    let i = c.loop-it.it-index in
+    let other : Derived = record { derive = FromMeta; span = CallSite } in
+    let with : Derived → Pair = λ it. pair c.args.number decl it.derive in
+    let e : items ≡ derives_of decl.attrs = c.as_slice-it-items.ensures ∙ c.in_ok-derives.ensures ∙ ap derives_of c.as_slice.ensures in
+    let fail = c.in_err-push_unit.field-0.0 in
+    let P : List Derived → Type 0 = λ derives. Rejects rules (before ++ map with derives) fail in
+    let p = err_from_is_err_and c.from_residual-in_err-push_unit.result c.from_residual-in_err-push_unit.ensures.1 in
+    rw (p.1, p.2)
+    (subst P e
+    (stops rules (before ++ map with items) (map with (drop i items)) (with (get_or items i other) ∷ []) (map with (drop (i + 1) items))
+    c.loop-it.units fail (map_next with items i other c.loop-it-test.true) c.in_err-push_unit.ensures (c.loop-it.invariant before are)))

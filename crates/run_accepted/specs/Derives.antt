@@ -1,0 +1,81 @@
+-- The derives that the attributes of a declaration name.
+use Rattle.std.specs.Prelude.{ℕ, Bool, if◌then◌else◌, List, [], ◌∷◌, ◌++◌, flat_map, codes, Option, Some, None}
+use Rattle.std.specs.List.{list_any}
+use Rattle.std.specs.Str.{bytes_eq}
+use Rattle.tok_core.specs.Tokens.{Span}
+use Rattle.node_expr.specs.declared.path.Path.{Path}
+use Rattle.node_make.specs.PathText.{path_text}
+use Rattle.node_core.specs.declared.attr.Attribute.{Attribute}
+use Rattle.node_core.specs.declared.attr.Meta.{Meta}
+use Rattle.node_core.specs.declared.attr.Meta.TheVariants as meta
+use Rattle.node_span.specs.Spanned.{path_span}
+use Rattle.error_fault.specs.Outcome.{Outcome, Value, Faults}
+use Rattle.meta_nested.specs.Dispatch.{items_of}
+use Rattle.meta_nested.specs.declared.nested.NestedMeta.{NestedMeta}
+use Rattle.meta_nested.specs.declared.nested.NestedMeta.TheVariants as nested
+use Rattle.codegen_program.specs.declared.program.Derive.{Derive}
+use Rattle.codegen_program.specs.declared.program.Derive.TheVariants as derive
+use Rattle.run_accepted.specs.declared.derives.Derived.{Derived}
+
+-- the traits that receivers derive, by their names
+abbrev pub traits : List (List ℕ × Derive)
+traits =
+    (codes "FromMeta", derive.FromMeta) ∷
+    (codes "FromAttributes", derive.FromAttributes) ∷
+    (codes "FromDeriveInput", derive.FromDeriveInput) ∷
+    (codes "FromField", derive.FromField) ∷
+    (codes "FromTypeParam", derive.FromTypeParam) ∷
+    (codes "FromVariant", derive.FromVariant) ∷
+    []
+
+-- what may stand in front of a trait's name: nothing, or the name of a crate that has it
+abbrev pub fronts : List (List ℕ)
+fronts = [] ∷ codes "darling::" ∷ codes "darling_core::" ∷ []
+
+-- the first trait whose name passes the test
+abbrev pub trait_by : (List ℕ → Bool) → List (List ℕ × Derive) → Option Derive
+trait_by test [] = None
+trait_by test (row ∷ rows) = if test row.0 then Some row.1 else trait_by test rows
+
+-- the trait of this name
+abbrev pub trait_named : List ℕ → Option Derive
+trait_named text = trait_by (λ name. bytes_eq name text) traits
+
+-- the text is the name behind one of the fronts
+abbrev pub is_behind_front : List ℕ → List ℕ → Bool
+is_behind_front text name = list_any (λ front. bytes_eq (front ++ name) text) fronts
+
+-- the trait whose name the text is, behind one of the fronts
+abbrev pub derive_named : List ℕ → Option Derive
+derive_named text = trait_by (is_behind_front text) traits
+
+-- the derive, where there is one, at this place
+abbrev pub derived_at : Span → Option Derive → List Derived
+derived_at span None = []
+derived_at span (Some derive) = record { derive = derive; span = span } ∷ []
+
+-- the derive that a word names by its path's text
+abbrev pub word_derives : Path → List Derived
+word_derives path = derived_at (path_span path) (derive_named (path_text path))
+
+-- no other item than a word names a derive
+abbrev pub item_derives : NestedMeta → List Derived
+item_derives (nested.Meta (meta.Path path)) = word_derives path
+item_derives _ = []
+
+-- the derives of the items that the tokens of a list are; tokens that are no items name none
+abbrev pub list_derives : Outcome (List NestedMeta) → List Derived
+list_derives (Value items) = flat_map item_derives items
+list_derives (Faults fault more) = []
+
+-- the derives of a list whose path's text is `derive`
+abbrev pub meta_derives : Meta → List Derived
+meta_derives (meta.«List» list) = if bytes_eq (path_text list.path) (codes "derive") then list_derives (items_of list.tokens) else []
+meta_derives _ = []
+
+abbrev pub attribute_derives : Attribute → List Derived
+attribute_derives it = meta_derives it.meta
+
+-- the derives that the attributes name, in order
+abbrev pub derives_of : List Attribute → List Derived
+derives_of attributes = flat_map attribute_derives attributes

@@ -1,0 +1,45 @@
+-- Declarations with their derives, and the first of these whose options have faults.
+use Rattle.std.specs.Prelude.{ℕ, suc, List, [], ◌∷◌, ◌++◌, map, Option, Some, None}
+use Rattle.std.specs.Option.{option_or}
+use Rattle.node_core.specs.declared.derive.DeriveInput.{DeriveInput}
+use Rattle.error_fault.specs.declared.fault.Fault.{Fault}
+use Rattle.codegen_program.specs.declared.program.Derive.{Derive}
+use Rattle.codegen_program.specs.declared.program.Derive.TheVariants as derive
+use Rattle.options_rows.specs.Values.{Rules}
+use Rattle.options_core.specs.Stages.{fdi_reader, meta_reader, option_faults}
+use Rattle.run_accepted.specs.Derives.{derives_of}
+use Rattle.run_accepted.specs.declared.rejected.Rejected.{Rejected}
+
+-- a declaration, its number among all, and one of its derives
+pub record Pair : Type 0 where
+  pub number : ℕ
+  pub decl : DeriveInput
+  pub derive : Derive
+
+abbrev pub pair : ℕ → DeriveInput → Derive → Pair
+pair number decl derive = record { number = number; decl = decl; derive = derive }
+
+-- the declaration with each of its derives, in the order of the text
+abbrev pub pairs_of : ℕ → DeriveInput → List Pair
+pairs_of number decl = map (λ it. pair number decl it.derive) (derives_of decl.attrs)
+
+-- the same of declarations that are numbered from here on
+abbrev pub pairs_from : ℕ → List DeriveInput → List Pair
+pairs_from number [] = []
+pairs_from number (decl ∷ decls) = pairs_of number decl ++ pairs_from (suc number) decls
+
+-- the faults of a declaration's options under a derive
+abbrev pub faults_under : Rules → DeriveInput → Derive → List Fault
+faults_under rules decl derive.FromMeta = option_faults (meta_reader rules decl) decl
+faults_under rules decl derive.FromDeriveInput = option_faults (fdi_reader rules decl) decl
+faults_under rules decl _ = []
+
+-- a declaration and its derive with these faults, where there are some
+abbrev pub rejected_with : DeriveInput → Derive → List Fault → Option Rejected
+rejected_with decl derive [] = None
+rejected_with decl derive (fault ∷ more) = Some (record { decl = decl.ident; derive = derive; faults = fault ∷ more })
+
+-- the first pair whose options have faults, with all of these
+abbrev pub rejected : Rules → List Pair → Option Rejected
+rejected rules [] = None
+rejected rules (it ∷ pairs) = option_or (rejected_with it.decl it.derive (faults_under rules it.decl it.derive)) (rejected rules pairs)

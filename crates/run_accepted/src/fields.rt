@@ -1,0 +1,81 @@
+//! Fields that take a part of the item that is read.
+
+ghost use Rattle.std.specs.Prelude.{◌≡◌, ◌++◌, flat_map, OnOk};
+ghost use Rattle.tok_types.specs.Ident.{ident_text};
+ghost use Rattle.options_rows.specs.Members.{fields_of};
+ghost use Rattle.run_accepted.specs.Unbuilt as spec;
+
+use crate::Derived;
+use base_core::{Items, Mem};
+use codegen_program::Derive;
+use node_core::{Data, Field};
+use tok_types::{Ident, Span};
+
+/// Adds the names of the fields that take a part of the item, where `FromDeriveInput` is derived.
+pub(crate) fn push_parts(derives: &[Derived], body: &Data, spans: &mut Items<Span>) -> Mem<()>
+    ensures { OnOk result (spans.new ≡ spans.old ++ spec.part_places derives.now body.now) }
+{
+    if derives_input(derives) {
+        return push_fields(fields_of(body), spans);
+    }
+    Ok(())
+}
+
+fn derives_input(derives: &[Derived]) -> bool
+    ensures { result ≡ spec.derives_input derives.now }
+{
+    derives
+        .iter()
+        .any(|it| it.derive == Derive::FromDeriveInput)
+}
+
+/// The fields of a struct.
+fn fields_of(body: &Data) -> &[Field]
+    ensures { result.now ≡ fields_of body.now }
+{
+    match body {
+        Data::Struct(it) => it.fields.as_slice(),
+        Data::Enum(_) => &[],
+        Data::Union(_) => &[],
+    }
+}
+
+fn push_fields(fields: &[Field], spans: &mut Items<Span>) -> Mem<()>
+    ensures { OnOk result (spans.new ≡ spans.old ++ flat_map spec.field_places fields.now) }
+{
+    for field in fields {
+        push_field(field, spans)?;
+    }
+    Ok(())
+}
+
+fn push_field(field: &Field, spans: &mut Items<Span>) -> Mem<()>
+    ensures { OnOk result (spans.new ≡ spans.old ++ spec.field_places field.now) }
+{
+    match &field.ident {
+        Some(ident) => push_name(ident, spans),
+        None => Ok(()),
+    }
+}
+
+fn push_name(ident: &Ident, spans: &mut Items<Span>) -> Mem<()>
+    ensures { OnOk result (spans.new ≡ spans.old ++ spec.name_places (Some ident.now)) }
+{
+    if is_part_name(ident) {
+        return spans.push(ident.span);
+    }
+    Ok(())
+}
+
+/// No raw identifier is the name of a part.
+fn is_part_name(ident: &Ident) -> bool
+    ensures { result ≡ spec.is_part_name (ident_text ident.now) }
+{
+    !ident.raw && is_plain_name(ident.text.as_str())
+}
+
+fn is_plain_name(name: &str) -> bool
+    ensures { result ≡ spec.is_part_name name.now }
+{
+    matches!(name, "ident" | "attrs" | "vis" | "data" | "generics")
+}

@@ -1,4 +1,0 @@
-pub mod PairLemmas
-pub mod PlainLemmas
-pub mod OutcomeLemmas
-pub use Rattle.run_unbuilt.proofs.BuiltLemmas

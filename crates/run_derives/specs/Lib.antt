@@ -1,3 +1,0 @@
-pub mod Attributes
-pub mod Derives
-pub mod Repeated

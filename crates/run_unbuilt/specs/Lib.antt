@@ -1,9 +1,0 @@
-pub mod Unbuilt
-pub use Rattle.options_rows.specs.AstData
-pub use Rattle.options_rows.specs.Entries
-pub use Rattle.options_rows.specs.RowLaws
-pub use Rattle.options_rows.specs.Rows
-pub use Rattle.options_rows.specs.Values
-pub use Rattle.run_derives.specs.Attributes
-pub use Rattle.run_derives.specs.Derives
-pub use Rattle.run_derives.specs.declared.derives.Derived

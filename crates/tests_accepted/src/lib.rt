@@ -1,7 +1,0 @@
-//! Which declarations can be run.
-#![tactic(auto)]
-
-#[cfg(test)]
-mod rows;
-#[cfg(test)]
-mod told;

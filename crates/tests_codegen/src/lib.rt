@@ -1,7 +1,0 @@
-//! Programs that declarations compile to.
-#![tactic(auto)]
-
-#[cfg(test)]
-mod shown;
-#[cfg(test)]
-mod units;
