@@ -34,7 +34,7 @@ const NESTED: &str =
 #[derive(FromMeta)] struct Inner { b: Option<u8> } #[derive(FromDeriveInput)] #[darling(attributes(my))] struct Opts { #[darling(flatten)] o: Option<Inner> } / %% / struct S; => err S 1 / - Unexpected meta-item format `list`
 #[derive(FromMeta)] struct A { x: u8 } #[derive(FromMeta)] struct B { a: A } #[derive(FromDeriveInput)] #[darling(attributes(my))] struct Opts { b: Box<B> } / %% / #[my(b(a(x = "y")))] struct S; => err S 1 / 13..16 Unknown value: `y` at b/a/x
 #[derive(FromMeta)] struct Inner { x: u8, y: String } #[derive(FromDeriveInput)] #[darling(attributes(my))] struct Opts { #[darling(default)] a: Inner } / %% / struct S; => ok S Opts {a: Inner {x: 0, y: ""}}
-#[derive(FromMeta)] struct Inner { a: u8, b: u8 } #[derive(FromDeriveInput)] #[darling(attributes(my))] struct Opts { r: Result<Inner> } / %% / #[my(r(b = "\n"))] struct S; => ok S Opts {r: Result::Err(faults[13..17 Unknown value: `\n` at b; - Missing field `a`])}
+#[derive(FromMeta)] struct Inner { a: u8, b: u8 } #[derive(FromDeriveInput)] #[darling(attributes(my))] struct Opts { r: Result<Inner> } / %% / #[my(r(b = "\n"))] struct S; => ok S Opts {r: Result::Err(faults[11..15 Unknown value: `\n` at b; - Missing field `a`])}
 #[derive(FromDeriveInput)] struct A { n: u8 } #[derive(FromDeriveInput)] struct B {} / %% / enum S { T } union U { a: u8 } => ok S B {} / ok U B {}"#;
 
 // Options, and what they make of an item.
