@@ -19,6 +19,7 @@ const ONE: &str = r#"#[derive(FromDeriveInput)] struct A { n: u8 } / %% => nothi
 #[derive(FromDeriveInput)] #[darling(map = "_darling::f")] struct A {} / %% => refused: unsupported generated name at 43..56
 #[derive(FromDeriveInput)] struct A { n: f32 } / %% => refused: unknown type at 41..44
 #[derive(FromDeriveInput)] struct A { n: Vec<bool> } / %% => refused: unknown type at 41..50
+#[derive(FromDeriveInput)] struct A { #[darling(skip)] n: Ident } / %% => refused: unknown type at 58..63
 #[derive(FromDeriveInput)] struct A { #[darling(map = "other")] n: u8 } / %% => nothing
 #[derive(FromDeriveInput)] #[darling(attributes(my))] struct A { #[darling(map = "other")] n: u8 } / %% => refused: unknown callable at 81..88
 #[derive(FromDeriveInput)] #[darling(and_then = "other")] struct A { n: u8 } / %% => refused: unknown callable at 48..55
@@ -30,6 +31,10 @@ struct A {} / %% => refused: no receiver
 #[derive(FromDeriveInput)] struct A<T> { b: u8 } / %% / struct S; => refused: unsupported generics at 34..35
 #[derive(FromDeriveInput)] struct A { __err: u8 } / %% / struct S; => refused: unsupported generated name at 38..43
 #[derive(FromDeriveInput)] struct A(u8); / %% / struct S; => refused: unbuilt at 34..35
+#[derive(FromMeta)] enum E { A } / %% => refused: unbuilt at 25..26
+#[derive(FromMeta)] union U { a: u8 } / %% => refused: unbuilt at 26..27
+#[derive(FromMeta)] #[darling(derive_syn_parse)] struct A { n: u8 } / %% => refused: unbuilt at 30..46
+#[derive(FromDeriveInput)] struct A { ident: Ident } / %% => refused: unbuilt at 38..43
 #[derive(FromDeriveInput)] struct A {} / %% / struct S => refused: syntax in part 2 at 0
 struct A { b: B / %% / struct S => refused: syntax in part 1 at 16
 #[derive(FromDeriveInput)] #[darling(attributes(my))] struct A { #[darling(default, default)] n: u8 } / %% / struct S; => refused: options of A under FromDeriveInput: 84..91 Duplicate field `default`
@@ -64,6 +69,7 @@ const OPTIONS: &str =
 #[derive(FromMeta)] struct A { n: u8 } #[derive(FromMeta)] struct B { #[darling(aa)] n: u8 } #[derive(FromMeta)] struct C { #[darling(bb)] n: u8 } / %% => refused: options of B under FromMeta: 80..82 Unknown field: `aa`
 #[derive(FromMeta)] struct C { #[darling(bb)] n: u8 } #[derive(FromMeta)] struct B { #[darling(aa)] n: u8 } / %% => refused: options of C under FromMeta: 41..43 Unknown field: `bb`
 #[darling(nonsense)] struct A { #[darling(default, default)] n: u8 } #[derive(FromMeta)] struct r#B { #[darling(aa)] n: u8 } / %% => refused: options of r#B under FromMeta: 112..114 Unknown field: `aa`
+#[derive(FromMeta)] struct B { #[darling(flatten, skip)] n: u8 } / %% => refused: options of B under FromMeta: 50..54 `flatten` and `skip` cannot be used together
 #[derive(FromMeta)] #[darling(rename_all = "Pescal", default, default)] struct A { #[darling(aa)] n: u8 } / %% => refused: options of A under FromMeta: 43..51 Unknown value: `Pescal`; 62..69 Duplicate field `default`"#;
 
 #[test]

@@ -42,8 +42,12 @@ const COMPILED: &str =
     r#"#[derive(FromDeriveInput)] #[darling(attributes(my))] struct A { #[darling(default)] name: String } / %% / #[my(name = "a")] struct S; => ok S A {name: "a"}
 #[derive(FromDeriveInput)] #[darling(attributes(my))] struct A { #[darling(default)] name: String } / %% / #[my] struct S; => ok S A {name: ""}
 #[derive(FromDeriveInput)] #[darling(attributes(my), rename_all = "Pascal")] struct A { one_two: u8 } / %% / #[my(OneTwo = 1)] struct S; / %% / Pascal field one_two OneTwo => ok S A {one_two: 1}
+#[derive(FromDeriveInput)] / #[darling(attributes(my), rename_all = "camelCase")] / struct Opts { base_url: String, max_retries: u8, use_proxy: bool } / %% / #[my(baseUrl = "x", maxRetries = 3, useProxy)] struct S; / %% / camelCase field base_url baseUrl / camelCase field max_retries maxRetries / camelCase field use_proxy useProxy => ok S Opts {base_url: "x", max_retries: 3, use_proxy: true}
 #[derive(FromDeriveInput)] #[darling(attributes(my), rename_all = "Pascal")] struct A { #[darling(rename = "b")] one_two: u8 } / %% / #[my(b = 1, OneTwo = 2)] struct S; / %% / Pascal field one_two OneTwo => err S 1 / 12..22 Unknown field: `OneTwo`. Available values: `b`
 #[derive(FromDeriveInput)] #[darling(attributes(my), attributes(a, other::mine), allow_unknown_fields)] struct A { n: u8, m: u8 } / %% / #[a(n = 1, k = 2)] #[my(n = 2)] #[other::mine(m = 3)] struct S; => ok S A {n: 1, m: 3}
+#[derive(FromDeriveInput)] #[darling(attributes(my), bound = "T: Copy", crate = my::darling, forward_attrs(doc))] struct A { n: u8 } / %% / #[my(n = 1)] #[doc = "x"] struct S; => ok S A {n: 1}
+#[derive(Debug, FromDeriveInput)] struct A {} / %% / struct S; => ok S A {}
+#[derive(FromMeta)] struct A { ident: String } #[derive(FromDeriveInput)] #[darling(attributes(my))] struct B { a: A } / %% / #[my(a(ident = "x"))] struct S; => ok S B {a: A {ident: "x"}}
 #[derive(FromDeriveInput)] #[darling(attributes(my), default)] struct A { n: u8, m: u8 } / %% / #[my(m = 1)] struct S; => ok S A {n: 0, m: 1}
 #[derive(FromDeriveInput)] struct A { n: u8 } / %% / #[my(n = 1)] struct S; => err S 1 / - Missing field `n`
 #[derive(FromMeta)] struct B { x: u8, #[darling(default)] y: u8 } #[derive(FromDeriveInput)] #[darling(attributes(my))] struct A { b: B, #[darling(flatten)] c: B } / %% / #[my(b(x = 1), x = 2, y = 3)] struct S; => ok S A {b: B {x: 1, y: 0}, c: B {x: 2, y: 3}}

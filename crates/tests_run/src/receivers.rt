@@ -6,6 +6,7 @@ use tests_checks::Tested;
 
 // Attributes and items of all kinds.
 const ITEMS: &str = r##"name: String | #[my(name = "a")] struct S; => ok S Opts {name: "a"}
+#[doc = "x"] pub name: String | #[my(name = "a")] struct S; => ok S Opts {name: "a"}
 name: String | #[my] struct S; => err S 1 / - Missing field `name`
 name: String | #[my(name = "a", name = 5, nom = "b")] struct S; => err S 2 / 17..25 Duplicate field `name` / 27..36 Unknown field: `nom`. Available values: `name`
 name: String | #[my(name = 5)] struct S; => err S 1 / 12..13 Unexpected type `int` at name
@@ -27,11 +28,12 @@ name: String | #[my(name = "a")] #[other(name = 1)] #[my("b")] struct S; => err 
 name: String | #[my(name = )] struct S; => err S 1 / 10..11 expected an expression at name
  | #[other] struct S; => ok S Opts {}"##;
 
-// Fields that share a name, and fields of many items.
+// Fields of another name, fields that share one, and fields of many items.
 const MANY: &str =
     r#"#[darling(multiple)] n: Vec<u8> | #[my(n = 300, n = 1, n = 301, n = "x")] struct S; => err S 3 / 9..12 number too large to fit in target type at n[0] / 25..28 number too large to fit in target type at n[1] / 34..37 Unknown value: `x` at n[1]
 #[darling(multiple)] n: Vec<u8>, a: u8 | #[my(n = 1, n = 1, n = 1, n = 1, n = 1, n = 1, n = 1, n = 1, n = 1, n = 1, n = 1, n = 1, n = 1, n = 1, n = 1, a = 1, a = 2, m = 3, m = 4)] struct S; => err S 3 / 117..122 Duplicate field `a` / 124..129 Unknown field: `m`. Available values: `a`, `n` / 131..136 Unknown field: `m`. Available values: `a`, `n`
 #[darling(multiple)] n: Vec<u8>, a: u8 | #[my(n = 1, n = 1, n = 1, n = 1, n = 1, n = 1, n = 1, n = 1, n = 1, n = 1, n = 1, n = 1, n = 1, n = 1, n = 1, n = 1, a = 7)] struct S; => ok S Opts {n: [1, 1, 1, 1, 1, 1, 1, 1, 1, 1, 1, 1, 1, 1, 1, 1], a: 7}
+#[darling(rename = "name")] title: String | #[my(name = "a")] struct S; => ok S Opts {title: "a"}
 #[darling(rename = "x")] a: u8, #[darling(rename = "x")] b: String | #[my(x = 1, x = 2)] struct S; => err S 2 / 12..17 Duplicate field `x` / - Missing field `x`
 #[darling(multiple)] n: Vec<u8> | #[my(n = 3, n = "4")] struct S; => ok S Opts {n: [3, 4]}
 #[darling(multiple)] n: Vec<u8> | struct S; => ok S Opts {n: []}"#;
@@ -47,6 +49,7 @@ const FUNCTIONS: &str =
 #[darling(default, and_then = "text::nonempty")] s: String | struct S; => ok S Opts {s: ""}
 #[darling(and_then = "text::nonempty")] s: String | #[my(s = "")] struct S; => err S 1 / 5..11 must not be empty at s
 #[darling(with = meta::path_text)] s: String | #[my(s = 1)] struct S; => ok S Opts {s: "s"}
+#[darling(skip, multiple)] c: Vec<String> | struct S; => ok S Opts {c: []}
 #[darling(skip, default)] n: u8, o: Option<u8>, f: Flag | struct S; => ok S Opts {n: 0, o: none, f: none}"#;
 
 // Types of the table.
@@ -58,6 +61,9 @@ flag: Flag | #[my(flag())] struct S; => err S 1 / 5..11 Unexpected meta-item for
 n: u128 | #[my(n = 340282366920938463463374607431768211455)] struct S; => ok S Opts {n: 340282366920938463463374607431768211455}
 n: u128 | #[my(n = 340282366920938463463374607431768211456)] struct S; => refused: syntax in part 2 at 9
 x: String, y: u8 | #[my(x = a b, y = 1)] struct S; => err S 1 / 9..10 expected an expression at x
+v: Visibility | #[my(v = pub(crate))] struct S; => ok S Opts {v: `pub (crate)`}
+v: Option<Visibility> | #[my(v = pub(crate))] struct S; => err S 1 / 9..12 expected an expression at v
+v: Option<Visibility> | #[my(v = "pub(crate)")] struct S; => ok S Opts {v: some(`pub (crate)`)}
 m: BTreeMap<String, bool> | #[my(m(hello, hello = 3, hello = false))] struct S; => err S 3 / 14..19 Duplicate field `hello` at m / 22..23 Unexpected type `int` at m/hello / 25..30 Duplicate field `hello` at m
 t: Tag, #[darling(multiple)] u: Vec<Tag> | #[my(t = "a", u = "b", u(c))] struct S; => err S 1 / 23..27 Unexpected meta-item format `list` at u[1]
 t: Tag | #[my(t = "a")] struct S; => ok S Opts {t: host(Tag, "a")}
