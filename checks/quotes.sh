@@ -1,6 +1,7 @@
 #!/bin/sh
 # Each block of Rust in README.md and docs/CALLERS.md stands in crates/uses/src, function by function. Each other block of
-# README.md is an example, or what the tool writes of it behind the command.
+# README.md is an example, or what the tool writes of it behind the command. checks/pages.py holds each example of
+# docs/DECLARATIONS.md against the rows of the tests, and looks at the links and at the length of README.md.
 set -eu
 cd "$(dirname "$0")/.."
 cat crates/uses/src/*.rt examples/*.txt examples/*.out | awk '
@@ -22,3 +23,4 @@ cat crates/uses/src/*.rt examples/*.txt examples/*.out | awk '
     inside { text = text $0 "\n" }
     END { print count + 0 " quotes, " bad + 0 " wrong"; exit bad > 0 }
 ' - README.md docs/CALLERS.md
+python3 checks/pages.py

@@ -1,0 +1,102 @@
+#!/usr/bin/env python3
+"""Checks the pages: README.md has at most 8,192 bytes; each link of README.md and of docs/*.md leads to a file and, behind `#`, to a
+heading; each page that is named in backquotes is there, with the section that is named behind it; and each example of
+docs/DECLARATIONS.md is a row of the tests in crates/tests_run/src.
+
+An example is a line ` => ` of a block, or a block of whole lines with a line `=>` between the input and its answer."""
+import glob
+import os
+import re
+import sys
+
+TOP = os.path.join(os.path.dirname(os.path.abspath(__file__)), "..")
+LIMIT = 8192
+
+
+def read(*path):
+    with open(os.path.join(TOP, *path), encoding="utf-8") as file:
+        return file.read()
+
+
+def pages():
+    return ["README.md", *sorted(os.path.relpath(it, TOP) for it in glob.glob(os.path.join(TOP, "docs", "*.md")))]
+
+
+def blocks(page):
+    """The blocks between lines of three backquotes."""
+    return re.findall(r"^```[^\n]*\n(.*?)^```$", read(page), re.M | re.S)
+
+
+def prose(page):
+    return re.sub(r"^```.*?^```$", "", read(page), flags=re.M | re.S)
+
+
+def headings(page):
+    return [it.strip() for it in re.findall(r"^#+ (.*)$", prose(page), re.M)]
+
+
+def anchor(heading):
+    """What a link to a heading has behind its `#`."""
+    return re.sub(r"[^\w\- ]", "", heading.lower()).replace(" ", "-")
+
+
+def size():
+    count = len(read("README.md").encode())
+    if count > LIMIT:
+        yield f"README.md has {count} bytes, {count - LIMIT} too many"
+
+
+def links(page):
+    """The links that lead nowhere."""
+    for target in re.findall(r"\]\(([^)\s]+)\)", prose(page)):
+        if re.match(r"[a-z]+:", target):
+            continue
+        path, _, part = target.partition("#")
+        there = os.path.normpath(os.path.join(os.path.dirname(page), path)) if path else page
+        if not os.path.exists(os.path.join(TOP, there)):
+            yield f"{page}: no file for the link {target}"
+        elif part and part not in map(anchor, headings(there)):
+            yield f"{page}: no heading for the link {target}"
+
+
+def named(page):
+    """The pages and sections that are named and are not there."""
+    for name, section in re.findall(r"`((?:docs/)?[A-Z]+\.md)`(?:,\s\"([^\"]+)\")?", prose(page)):
+        path = name if os.path.exists(os.path.join(TOP, name)) else os.path.join("docs", name)
+        if not os.path.exists(os.path.join(TOP, path)):
+            yield f"{page}: there is no page {name}"
+        elif section and re.sub(r"\s", " ", section) not in headings(path):
+            yield f"{page}: {name} has no section {section}"
+
+
+def rows():
+    """The lines of the tests' tables."""
+    found = set()
+    for path in glob.glob(os.path.join(TOP, "crates", "tests_run", "src", "*.rt")):
+        for line in read(path).splitlines():
+            found.add(re.sub(r'"#*;$', "", re.sub(r'^(const \w+: &str =)? *r#+"', "", line)))
+    return found
+
+
+def examples(page):
+    """The examples of a page, each as a row."""
+    for block in blocks(page):
+        given, mark, wanted = block.partition("\n=>\n")
+        if mark:
+            lines = [re.sub("^  ", "", it) for it in wanted.splitlines()]
+            yield " / ".join(given.splitlines()) + " => " + " / ".join(lines)
+        else:
+            yield from block.splitlines()
+
+
+def main():
+    wrong = [*size()]
+    for page in pages():
+        wrong += [*links(page), *named(page)]
+    shown = [*examples("docs/DECLARATIONS.md")]
+    wrong += [f"docs/DECLARATIONS.md: no row of a test: {it}" for it in shown if it not in rows()]
+    print("\n".join([*wrong, f"{len(pages())} pages, {len(shown)} examples, {len(wrong)} wrong"]))
+    sys.exit(bool(wrong))
+
+
+main()
