@@ -2,7 +2,7 @@
 """Counts what one reads to know what a call promises: the definitions that its contract cites, and
 those that these cite in turn.
 
-usage: checks/count-definitions.py [CRATE::CALL | CRATE/specs/NAME ..]; with no words, the rows of the README.
+usage: checks/count-definitions.py [CRATE::CALL | CRATE/specs/NAME ..]; with no words, the rows of docs/PROVED.md and more.
 Of a file of definitions it counts that file and those that it cites.
 
 The contract is what stands between the head of `pub fn CALL` and its body. A word of it that an

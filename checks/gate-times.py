@@ -3,7 +3,8 @@
 
     gate-times.py --run LOG [NAME..]     runs `rt ci` (over these crates alone), with what it says in LOG, and there, for each crate,
                                          lines `time: CRATE KIND SECONDS`; KIND is `proof`, `tests` or `edits`
-    gate-times.py LOG [CRATES.TXT]       prints docs/GATE.md of that log: each crate, each kind, and the longest chain
+    gate-times.py LOG [CRATES.TXT]       prints the section "Times" of docs/GATE.md by that log: each crate, each kind, and the longest chain
+    gate-times.py --write LOG            puts that section in the place of the page's
 """
 import os
 import re
@@ -13,7 +14,8 @@ import time
 
 KINDS = ("proof", "tests", "edits")
 TICKS = os.sysconf("SC_CLK_TCK")
-HEAD = """# What the gate costs
+PAGE = os.path.join(os.path.dirname(os.path.abspath(__file__)), "..", "docs", "GATE.md")
+HEAD = """## Times
 
 Processor seconds of a run of `rt ci`, by `checks/gate-times.py`: the proof of a crate, its tests with their proofs, and its wrong
 bodies. What an earlier run on the machine had passed is not proved again and has no time here. A chain is crates of
@@ -70,8 +72,8 @@ def watch(log, names):
     return gate.returncode
 
 
-def table(log, crates):
-    """Prints the times of the log."""
+def section(log, crates):
+    """The section "Times" of the page, by the log."""
     times, below = {}, {}
     with open(crates) as it:
         for line in it:
@@ -91,19 +93,35 @@ def table(log, crates):
             chains[name] = (longest[0] + proof, [*longest[1], name])
         return chains[name]
 
-    print(HEAD)
-    print("| crate | proof | tests | wrong bodies |\n|---|---|---|---|")
+    lines = [HEAD, "| crate | proof | tests | wrong bodies |\n|---|---|---|---|"]
     for crate, own in sorted(times.items(), key=lambda it: -sum(it[1].values())):
-        print(f"| `{crate}` | " + " | ".join(f"{own[kind]:.0f}" if own[kind] else "" for kind in KINDS) + " |")
+        lines.append(f"| `{crate}` | " + " | ".join(f"{own[kind]:.0f}" if own[kind] else "" for kind in KINDS) + " |")
     sums = [sum(own[kind] for own in times.values()) / 60 for kind in KINDS]
     seconds, names = max((chain(it) for it in below), default=(0.0, []))
-    print("\nIn all {:.0f} minutes: proofs {:.0f}, tests {:.0f}, wrong bodies {:.0f}.".format(sum(sums), *sums))
-    print(f"\nThe longest chain of proofs is {seconds / 60:.0f} minutes: " + ", ".join(f"`{it}`" for it in names) + ".")
+    lines.append("\nIn all {:.0f} minutes: proofs {:.0f}, tests {:.0f}, wrong bodies {:.0f}.".format(sum(sums), *sums))
+    lines.append(f"\nThe longest chain of proofs is {seconds / 60:.0f} minutes: " + ", ".join(f"`{it}`" for it in names) + ".")
+    return "\n".join(lines) + "\n"
+
+
+def write(made):
+    """Puts the section in the place of the page's; what follows it stays."""
+    with open(PAGE, encoding="utf-8") as it:
+        page = it.read()
+    before, _, old = page.partition("## Times\n")
+    _, mark, after = old.partition("\n## ")
+    with open(PAGE, "w", encoding="utf-8") as it:
+        it.write(before + made + mark + after)
+
+
+def main(words):
+    if words[:1] == ["--run"] and len(words) > 1:
+        sys.exit(watch(words[1], words[2:]))
+    if words[:1] == ["--write"] and len(words) > 1:
+        return write(section(words[1], os.path.join(os.path.dirname(PAGE), "..", "crates.txt")))
+    if not words or words[0].startswith("--"):
+        sys.exit(__doc__)
+    print(section(words[0], words[1] if len(words) > 1 else "crates.txt"), end="")
 
 
 if __name__ == "__main__":
-    if len(sys.argv) > 2 and sys.argv[1] == "--run":
-        sys.exit(watch(sys.argv[2], sys.argv[3:]))
-    if len(sys.argv) < 2:
-        sys.exit(__doc__)
-    table(sys.argv[1], sys.argv[2] if len(sys.argv) > 2 else "crates.txt")
+    main(sys.argv[1:])
