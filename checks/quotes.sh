@@ -1,10 +1,15 @@
 #!/bin/sh
-# Each block of Rust in README.md and docs/CALLERS.md stands in crates/uses/src, function by function. Each other block of
+# Each block of Rust in README.md and docs/CALLERS.md stands in crates/uses/src, function by function, or is a type of one of
+# the files below, without its attributes. Each other block of
 # README.md is an example, or what the tool writes of it behind the command. checks/pages.py holds each example of
 # docs/DECLARATIONS.md against the rows of the tests, and looks at the links and at the length of README.md.
 set -eu
 cd "$(dirname "$0")/.."
-cat crates/uses/src/*.rt examples/*.txt examples/*.out | awk '
+types="node_core/src/derive node_core/src/data node_core/src/attr node_expr/src/path meta_nested/src/nested meta_nested/src/call"
+{
+    cat crates/uses/src/*.rt examples/*.txt examples/*.out
+    for type in $types; do sed '/^ *#\[/d' "crates/$type.rt"; done
+} | awk '
     FILENAME == "-" { all = all $0 "\n"; next }
     /^```rust/ { inside = 1; text = ""; next }
     /^```$/ && !inside && FILENAME == "README.md" { inside = 2; text = ""; next }
