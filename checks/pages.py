@@ -1,7 +1,7 @@
 #!/usr/bin/env python3
 """Checks the pages: README.md has at most 8,192 bytes; each link of README.md and of docs/*.md leads to a file and, behind `#`, to a
-heading; each page that is named in backquotes is there, with the section that is named behind it; and each example of
-docs/DECLARATIONS.md is a row of the tests in crates/tests_run/src.
+heading; each page that is named in backquotes is there, with the section that is named behind it, and so is each file of a crate;
+and each example of docs/DECLARATIONS.md is a row of the tests in crates/tests_run/src.
 
 An example is a line ` => ` of a block, or a block of whole lines with a line `=>` between the input and its answer."""
 import glob
@@ -69,6 +69,23 @@ def named(page):
             yield f"{page}: {name} has no section {section}"
 
 
+def spelled_out(path):
+    """`a/{b,c}` as the paths that it stands for."""
+    found = re.search(r"\{([^}]*)\}", path)
+    if not found:
+        return [path]
+    return [it for word in found[1].split(",") for it in spelled_out(path[: found.start()] + word.strip() + path[found.end() :])]
+
+
+def files(page):
+    """The files of crates that are named, with or without their ending, and are not there."""
+    for named_so in re.findall(r"`(?:crates/)?([a-z_]+/[^`\s]*)`", prose(page)):
+        for path in spelled_out(named_so):
+            is_crate = os.path.isdir(os.path.join(TOP, "crates", path.split("/")[0])) and "/out/" not in path
+            if is_crate and not any(os.path.exists(os.path.join(TOP, top, path + end)) for top in ("crates", "") for end in ("", ".antt", ".rt")):
+                yield f"{page}: there is no file {path}"
+
+
 def rows():
     """The lines of the tests' tables."""
     found = set()
@@ -92,7 +109,7 @@ def examples(page):
 def main():
     wrong = [*size()]
     for page in pages():
-        wrong += [*links(page), *named(page)]
+        wrong += [*links(page), *named(page), *files(page)]
     shown = [*examples("docs/DECLARATIONS.md")]
     wrong += [f"docs/DECLARATIONS.md: no row of a test: {it}" for it in shown if it not in rows()]
     print("\n".join([*wrong, f"{len(pages())} pages, {len(shown)} examples, {len(wrong)} wrong"]))
