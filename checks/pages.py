@@ -1,9 +1,6 @@
 #!/usr/bin/env python3
 """Checks the pages: README.md has at most 8,192 bytes; each link of README.md and of docs/*.md leads to a file and, behind `#`, to a
-heading; each page that is named in backquotes is there, with the section that is named behind it, and so is each file of a crate;
-and each example of docs/DECLARATIONS.md is a row of the tests in crates/tests_run/src.
-
-An example is a line ` => ` of a block, or a block of whole lines with a line `=>` between the input and its answer."""
+heading; each page that is named in backquotes is there, with the section that is named behind it, and so is each file of a crate."""
 import glob
 import os
 import re
@@ -20,11 +17,6 @@ def read(*path):
 
 def pages():
     return ["README.md", *sorted(os.path.relpath(it, TOP) for it in glob.glob(os.path.join(TOP, "docs", "*.md")))]
-
-
-def blocks(page):
-    """The blocks between lines of three backquotes."""
-    return re.findall(r"^```[^\n]*\n(.*?)^```$", read(page), re.M | re.S)
 
 
 def prose(page):
@@ -86,33 +78,11 @@ def files(page):
                 yield f"{page}: there is no file {path}"
 
 
-def rows():
-    """The lines of the tests' tables."""
-    found = set()
-    for path in glob.glob(os.path.join(TOP, "crates", "tests_run", "src", "*.rt")):
-        for line in read(path).splitlines():
-            found.add(re.sub(r'"#*;$', "", re.sub(r'^(const \w+: &str =)? *r#+"', "", line)))
-    return found
-
-
-def examples(page):
-    """The examples of a page, each as a row."""
-    for block in blocks(page):
-        given, mark, wanted = block.partition("\n=>\n")
-        if mark:
-            lines = [re.sub("^  ", "", it) for it in wanted.splitlines()]
-            yield " / ".join(given.splitlines()) + " => " + " / ".join(lines)
-        else:
-            yield from block.splitlines()
-
-
 def main():
     wrong = [*size()]
     for page in pages():
         wrong += [*links(page), *named(page), *files(page)]
-    shown = [*examples("docs/DECLARATIONS.md")]
-    wrong += [f"docs/DECLARATIONS.md: no row of a test: {it}" for it in shown if it not in rows()]
-    print("\n".join([*wrong, f"{len(pages())} pages, {len(shown)} examples, {len(wrong)} wrong"]))
+    print("\n".join([*wrong, f"{len(pages())} pages, {len(wrong)} wrong"]))
     sys.exit(bool(wrong))
 
 

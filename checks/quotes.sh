@@ -1,10 +1,11 @@
 #!/bin/sh
 # Each block of Rust in README.md and docs/CALLERS.md stands in crates/uses/src, function by function, or is a type of one of
 # the files below, without its attributes. Each other block of
-# README.md is an example, or what the tool writes of it behind the command. checks/pages.py holds each example of
-# docs/DECLARATIONS.md against the rows of the tests, and looks at the links and at the length of README.md.
-set -eu
-cd "$(dirname "$0")/.."
+# README.md is an example, or what the tool writes of it behind the command. checks/declarations.py holds docs/DECLARATIONS.md
+# against the tests and the sources, and checks/pages.py looks at all links and at the length of README.md.
+set -u
+wrong=0
+cd "$(dirname "$0")/.." || exit 1
 types="node_core/src/derive node_core/src/data node_core/src/attr node_expr/src/path meta_nested/src/nested meta_nested/src/call"
 {
     cat crates/uses/src/*.rt examples/*.txt examples/*.out
@@ -27,5 +28,7 @@ types="node_core/src/derive node_core/src/data node_core/src/attr node_expr/src/
     inside == 2 && /^\$ \.\/darling run < / { next }
     inside { text = text $0 "\n" }
     END { print count + 0 " quotes, " bad + 0 " wrong"; exit bad > 0 }
-' - README.md docs/CALLERS.md
-python3 checks/pages.py
+' - README.md docs/CALLERS.md || wrong=1
+python3 checks/declarations.py || wrong=1
+python3 checks/pages.py || wrong=1
+exit "$wrong"
