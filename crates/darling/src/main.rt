@@ -1,7 +1,11 @@
 //! The program: the tool over standard input and output.
 #![tactic(auto)]
 
-use darling_run::{StdHost, StdSink, StdSource, run_tool};
+mod diagnostic;
+
+use crate::diagnostic::diagnostic;
+use darling_run::{Status, StdHost, StdSink, StdSource, run_tool};
+use run_diagnostic::KeepingSource;
 use std::env::Env;
 use std::process::ExitCode;
 use std::{env, io};
@@ -37,6 +41,10 @@ Status: 0 done, 2 usage, 3 refused, 4 read fault, 5 write fault, 6 out of memory
 ";
 
 const VERSION: &str = "darling 0.1.0\n";
+
+const NO_MEMORY_TEXT: &str = "\
+error: out of memory, or declarations are flattened into each other in more than 512 levels
+";
 
 /// How many bytes of stack the deepest tree takes, and some more.
 const DEEPEST: usize = 2 << 20;
@@ -74,10 +82,31 @@ fn main(rt: HostRuntime) -> ExitCode {
     let Ok(host) = StdHost::new(rt.alloc()) else {
         return ExitCode::from(NO_MEMORY);
     };
-    let mut source = StdSource::new(rt.stdin());
+    let mut source = KeepingSource::new(rt.alloc(), StdSource::new(rt.stdin()));
     let mut sink = StdSink::new(rt.stdout());
     let ended = run_tool(rt.alloc(), words.as_slice(), &mut source, &mut sink, &host);
+    tell(&rt, source.kept(), &ended.status);
     ExitCode::from(ended.status.exit_code())
+}
+
+/// Writes to standard error what a person is told of how the run ended. The status stays as it is where that fails.
+fn tell<R: Eprint + AllocGlobal>(rt: &R, input: Option<&[u8]>, status: &Status) {
+    let constant = match status {
+        Status::Usage => "error: the one command is `run`; `darling --help` has an example\n",
+        Status::ReadFault => "error: standard input could not be read to its end\n",
+        Status::TooLong => "error: an input has at most 16,777,216 bytes\n",
+        Status::NoMemory => NO_MEMORY_TEXT,
+        _ => "",
+    };
+    let written = match input {
+        Some(input) if constant.is_empty() => match diagnostic(rt.alloc(), input, status) {
+            Ok(text) => eprint!(rt; "{}", text.as_str()),
+            Err(_) => Ok(()),
+        },
+        _ => eprint!(rt; "{constant}"),
+    };
+    // Who closes standard error is told nothing.
+    let _written = written;
 }
 
 /// The words behind the program's name.

@@ -1,0 +1,96 @@
+//! Forms of declarations that no run reads, and names that stand twice.
+
+use crate::place::{bytes_of, first_word, last_word, push_all, push_place, text_at};
+use base_core::{Mem, Text};
+use run_parts::Parts;
+use std::alloc::Global;
+use tok_types::Span;
+
+/// Adds what is told of a form that no run reads yet.
+pub fn push_unbuilt(alloc: Global, out: &mut Text, parts: &Parts<'_>, span: Span) -> Mem<()> {
+    let form = text_at(parts.declarations, span);
+    let word = name_of(form);
+    let (title, help) = match word {
+        "ident" | "attrs" | "vis" | "data" | "generics" => (
+            "is not read yet: a field of this name takes that part of the item",
+            "for an option of the name, call the field otherwise and give the name by `rename`",
+        ),
+        "FromAttributes" | "FromField" | "FromTypeParam" | "FromVariant" => (
+            "is no derive that is read yet",
+            "`FromDeriveInput` and `FromMeta` are",
+        ),
+        _ if is_option(word) => (
+            "is no option that is read yet",
+            "leave it out; `docs/DECLARATIONS.md` has those that are read",
+        ),
+        _ => (
+            "is no struct with named fields",
+            "other forms of declarations are not read yet",
+        ),
+    };
+    push_all(out, &["error: `", word, "` ", title, "\n"])?;
+    push_place(alloc, out, parts, 1, bytes_of(span))?;
+    push_all(out, &["  = help: ", help, "\n"])
+}
+
+fn is_option(word: &str) -> bool {
+    matches!(
+        word,
+        "transparent"
+            | "supports"
+            | "from_ident"
+            | "from_word"
+            | "from_none"
+            | "from_expr"
+            | "derive_syn_parse"
+    )
+}
+
+/// The name of a form: its first word, but of a derive behind `darling::` the last.
+fn name_of(form: &str) -> &str {
+    match first_word(form) {
+        "darling" | "darling_core" | "" => last_word(form),
+        word => word,
+    }
+}
+
+/// Adds what is told of a name, or a derive, that stands a second time.
+pub fn push_duplicate(alloc: Global, out: &mut Text, parts: &Parts<'_>, span: Span) -> Mem<()> {
+    let name = text_at(parts.declarations, span);
+    push_all(out, &["error: `", name, "` stands a second time\n"])?;
+    push_place(alloc, out, parts, 1, bytes_of(span))?;
+    out.push_str(
+        "  = help: declarations differ in their names, and so do the fields of one; it names a derive once\n",
+    )
+}
+
+/// Adds what is told of a declaration with parameters.
+pub fn push_generics(alloc: Global, out: &mut Text, parts: &Parts<'_>, span: Span) -> Mem<()> {
+    let name = text_at(parts.declarations, span);
+    push_all(out, &["error: `", name, "` has parameters or a `where`\n"])?;
+    push_place(alloc, out, parts, 1, bytes_of(span))?;
+    out.push_str("  = help: a declaration that is run has neither\n")
+}
+
+/// Adds what is told of a name that the generated code has for itself.
+pub fn push_generated(alloc: Global, out: &mut Text, parts: &Parts<'_>, span: Span) -> Mem<()> {
+    let name = text_at(parts.declarations, span);
+    push_all(
+        out,
+        &["error: `", name, "` is a name of the generated code\n"],
+    )?;
+    push_place(alloc, out, parts, 1, bytes_of(span))?;
+    out.push_str("  = help: call it otherwise; `rename` keeps the name that items use\n")
+}
+
+/// Adds what is told where the last declaration reads no items.
+pub fn push_no_receiver(out: &mut Text, parts: &Parts<'_>) -> Mem<()> {
+    if parts.declarations.trim().is_empty() {
+        out.push_str("error: the first part has no declaration\n")?;
+    } else {
+        out.push_str("error: the last declaration does not derive `FromDeriveInput`\n")?;
+    }
+    out.push_str(
+        "  = help: the last declaration reads the items: `#[derive(FromDeriveInput)]` stands before it\n",
+    )
+}
