@@ -26,7 +26,7 @@ pub struct StdHost {
 }
 
 impl StdHost {
-    /// The host of the functions that `docs/HOST.md` lists.
+    /// The host of the functions that `docs/DECLARATIONS.md` lists.
     pub fn new(alloc: Global) -> Mem<StdHost> {
         let text = named_type(alloc, "String")?;
         Ok(StdHost { text })
