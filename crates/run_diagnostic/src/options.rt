@@ -28,7 +28,10 @@ const OF_DECLARATIONS: [(&str, &str); 9] = [
     ("map", "`map = FUNCTION`"),
     ("and_then", "`and_then = FUNCTION`"),
     ("bound", "`bound = \"T: TRAIT\"`"),
-    ("allow_unknown_fields", "`allow_unknown_fields`"),
+    (
+        "allow_unknown_fields",
+        "`allow_unknown_fields`, `allow_unknown_fields = true` or `allow_unknown_fields = false`",
+    ),
     ("crate", "`crate = PATH`"),
 ];
 
@@ -39,8 +42,11 @@ const OF_FIELDS: [(&str, &str); 8] = [
     ("with", "`with = FUNCTION`"),
     ("map", "`map = FUNCTION`"),
     ("and_then", "`and_then = FUNCTION`"),
-    ("skip", "`skip`"),
-    ("multiple", "`multiple`"),
+    ("skip", "`skip`, `skip = true` or `skip = false`"),
+    (
+        "multiple",
+        "`multiple`, `multiple = true` or `multiple = false`",
+    ),
     ("flatten", "`flatten`"),
 ];
 

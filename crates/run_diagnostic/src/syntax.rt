@@ -66,10 +66,14 @@ fn push_no_tokens(
     let text = part_text(parts, part);
     let front = text.get(..at).unwrap_or("");
     let rest = text.get(at..).unwrap_or("");
-    let open = open_in(alloc, front)?;
     push_title(out, rest)?;
     push_place(alloc, out, parts, part, (at, at.saturating_add(1)))?;
-    match open {
+    if !rest.is_empty() && !begins_closing(rest) {
+        return out.push_str(
+            "  = help: a text, a character or a comment that begins here is not closed, or has an escape that is none\n",
+        );
+    }
+    match open_in(alloc, front)? {
         Some((open, close)) => push_all(
             out,
             &[
@@ -80,10 +84,7 @@ fn push_no_tokens(
                 "` closes\n",
             ],
         ),
-        None if begins_closing(rest) => out.push_str("  = help: no delimiter is open here\n"),
-        None => out.push_str(
-            "  = help: a text, a character or a comment that begins here is not closed, or has an escape that is none\n",
-        ),
+        None => out.push_str("  = help: no delimiter is open here\n"),
     }
 }
 
