@@ -24,7 +24,7 @@ pub fn push_unknown_function(
     parts: &Parts<'_>,
     span: Span,
 ) -> Mem<()> {
-    let name = text_at(parts.declarations, span);
+    let name = unquoted(text_at(parts.declarations, span));
     push_all(out, &["error: no function `", name, "` is offered here\n"])?;
     push_place(alloc, out, parts, 1, bytes_of(span))?;
     out.push_str("  = help: ")?;
@@ -34,6 +34,14 @@ pub fn push_unknown_function(
         }
     }
     push_offers(out)
+}
+
+/// The path that is named, by itself or in a string.
+fn unquoted(text: &str) -> &str {
+    match text.strip_prefix('"') {
+        Some(text) => text.strip_suffix('"').unwrap_or(text),
+        None => text,
+    }
 }
 
 /// Adds all that is offered.
