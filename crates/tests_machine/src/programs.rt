@@ -1,7 +1,7 @@
 //! Programs of texts of declarations, and what is told of them.
 
 ghost use Rattle.std.specs.List.{All};
-ghost use Rattle.run_compile.specs.Unbuilt.{IsBuilt};
+ghost use Rattle.run_accepted.specs.Unbuilt.{IsBuilt};
 
 use crate::ask::places;
 use crate::sources::{derive_name, item_of, items_of};
