@@ -222,20 +222,9 @@ fn push_unknown_name(out: &mut Text, decls: &[DeriveInput], here: usize, name: &
             &["no type is named `", name, "`; `", meant, "` is one\n"],
         );
     }
-    for decl in decls.iter().take(here) {
-        if is_misspelled(name, decl.ident.text.as_str()) {
-            let meant = decl.ident.text.as_str();
-            return push_all(
-                out,
-                &[
-                    "no type is named `",
-                    name,
-                    "`; `",
-                    meant,
-                    "` is declared above\n",
-                ],
-            );
-        }
+    if let Some(meant) = declared_as(decls, here, name) {
+        push_all(out, &["no type is named `", name, "`; `"])?;
+        return push_all(out, &[meant, "` is declared above\n"]);
     }
     if is_among(name) {
         return push_all(
@@ -255,6 +244,16 @@ fn push_unknown_name(out: &mut Text, decls: &[DeriveInput], here: usize, name: &
             "` is neither declared above nor among the types that are read\n",
         ],
     )
+}
+
+/// The name of a declaration above that this one may be meant as.
+fn declared_as<'d>(decls: &'d [DeriveInput], here: usize, name: &str) -> Option<&'d str> {
+    for (number, decl) in decls.iter().enumerate() {
+        if number < here && is_misspelled(name, decl.ident.text.as_str()) {
+            return Some(decl.ident.text.as_str());
+        }
+    }
+    None
 }
 
 fn is_among(name: &str) -> bool {
