@@ -2,7 +2,7 @@
 
 use crate::place::{bytes_of, first_word, last_word, push_all, push_place};
 use crate::renames::push_first_row;
-use crate::similar::meant_among;
+use crate::similar::is_misspelled;
 use crate::types::declarations;
 use base_core::{Mem, Text};
 use error_fault::{Fault, FaultKind, kind_text};
@@ -134,7 +134,7 @@ fn is_within(attr: &Attribute, span: Span) -> bool {
 /// Adds the option that an unknown one may be meant as, else all options.
 fn push_known(out: &mut Text, options: &[(&'static str, &'static str)], name: &str) -> Mem<()> {
     for (option, form) in options {
-        if meant_among(name, &[option]).is_some() {
+        if is_misspelled(name, option) {
             return push_all(
                 out,
                 &[

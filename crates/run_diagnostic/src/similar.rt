@@ -38,13 +38,3 @@ fn differ_first(name: &[u8], meant: &[u8]) -> bool {
         _ => false,
     }
 }
-
-/// The first of the names that this one may be meant as.
-pub(crate) fn meant_among<'n>(name: &str, names: &[&'n str]) -> Option<&'n str> {
-    for meant in names {
-        if is_misspelled(name, meant) {
-            return Some(meant);
-        }
-    }
-    None
-}

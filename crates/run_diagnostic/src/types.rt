@@ -1,7 +1,7 @@
 //! Types that do not fit their place.
 
 use crate::place::{bytes_of, push_all, push_place, text_at};
-use crate::similar::{is_misspelled, meant_among};
+use crate::similar::is_misspelled;
 use base_core::{Items, Mem, Text};
 use codegen_program::Derive;
 use machine_rows::{Row, row_among};
@@ -216,7 +216,7 @@ fn push_unknown_name(out: &mut Text, decls: &[DeriveInput], here: usize, name: &
             "floats are not read; a `LitFloat` is, as the literal that is written\n",
         );
     }
-    if let Some(meant) = meant_among(name, &NAMES) {
+    if let Some(meant) = meant_by(name) {
         return push_all(
             out,
             &["no type is named `", name, "`; `", meant, "` is one\n"],
@@ -244,6 +244,16 @@ fn push_unknown_name(out: &mut Text, decls: &[DeriveInput], here: usize, name: &
             "` is neither declared above nor among the types that are read\n",
         ],
     )
+}
+
+/// The name of the table that this one may be meant as.
+fn meant_by(name: &str) -> Option<&'static str> {
+    for known in NAMES {
+        if is_misspelled(name, known) {
+            return Some(known);
+        }
+    }
+    None
 }
 
 /// The name of a declaration above that this one may be meant as.
