@@ -135,21 +135,14 @@ fn is_within(attr: &Attribute, span: Span) -> bool {
 fn push_known(out: &mut Text, options: &[(&'static str, &'static str)], name: &str) -> Mem<()> {
     for (option, form) in options {
         if is_misspelled(name, option) {
-            return push_all(
-                out,
-                &[
-                    "  = help: `",
-                    option,
-                    "` is an option, written ",
-                    form,
-                    "\n",
-                ],
-            );
+            push_all(out, &["  = help: `", option, "` is an option, written "])?;
+            return push_all(out, &[form, "\n"]);
         }
     }
     let mut before = "  = help: the options here are ";
     for (option, _) in options {
-        push_all(out, &[before, "`", option, "`"])?;
+        push_all(out, &[before, "`"])?;
+        push_all(out, &[option, "`"])?;
         before = ", ";
     }
     out.push_str("\n")

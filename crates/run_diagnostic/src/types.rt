@@ -217,10 +217,8 @@ fn push_unknown_name(out: &mut Text, decls: &[DeriveInput], here: usize, name: &
         );
     }
     if let Some(meant) = meant_by(name) {
-        return push_all(
-            out,
-            &["no type is named `", name, "`; `", meant, "` is one\n"],
-        );
+        push_all(out, &["no type is named `", name, "`; `"])?;
+        return push_all(out, &[meant, "` is one\n"]);
     }
     if let Some(meant) = declared_as(decls, here, name) {
         push_all(out, &["no type is named `", name, "`; `"])?;
@@ -278,7 +276,10 @@ fn is_among(name: &str) -> bool {
 /// Adds a sentence on the declaration of the number.
 fn push_named(out: &mut Text, decls: &[DeriveInput], number: usize, sentence: &str) -> Mem<()> {
     match decls.get(number) {
-        Some(decl) => push_all(out, &["`", decl.ident.text.as_str(), "`", sentence, "\n"]),
+        Some(decl) => {
+            push_all(out, &["`", decl.ident.text.as_str(), "`"])?;
+            push_all(out, &[sentence, "\n"])
+        }
         None => Ok(()),
     }
 }
