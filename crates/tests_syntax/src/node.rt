@@ -124,9 +124,40 @@ impl Node for TypeParam {
     }
 }
 
-impl Node for Punctuated<FnArg, Comma> {
+/// What stands in a list, with commas between.
+pub trait Listed: TryClone + PartialEq + Hash + Spanned + ToTokens + Drop + Sized {
+    fn list(alloc: Global, tokens: &TokenStream) -> Parse<Items<Self>>;
+
+    /// The items that are nodes by themselves, beside those of another reading.
+    fn each(items: &Items<Self>, others: &Items<Self>, walk: &mut Walk) -> Tested<()>;
+}
+
+impl Listed for FnArg {
+    fn list(alloc: Global, tokens: &TokenStream) -> Parse<Items<Self>> {
+        parse_fn_args(alloc, tokens)
+    }
+
+    fn each(items: &Items<Self>, others: &Items<Self>, walk: &mut Walk) -> Tested<()> {
+        walk.each(items, others)
+    }
+}
+
+impl Listed for Ident {
+    fn list(alloc: Global, tokens: &TokenStream) -> Parse<Items<Self>> {
+        parse_idents(alloc, tokens)
+    }
+
+    fn each(_items: &Items<Self>, _others: &Items<Self>, _walk: &mut Walk) -> Tested<()> {
+        Ok(())
+    }
+}
+
+// For each item by name, `impl Node for Punctuated<Ident, Comma>`, the prover of 13f stops with a fault of its own.
+impl<T: Listed> Node for Punctuated<T, Comma> {
     fn read(alloc: Global, tokens: &TokenStream) -> Parse<Self> {
-        listed(parse_fn_args(alloc, tokens))
+        let items = T::list(alloc, tokens)?;
+        let by = PhantomData;
+        Ok(Punctuated { items, by })
     }
 
     fn again(&self, alloc: Global) -> Parse<Self> {
@@ -135,29 +166,8 @@ impl Node for Punctuated<FnArg, Comma> {
 
     fn parts(&self, other: &Self, walk: &mut Walk) -> Tested<()> {
         walk.part(self, other)?;
-        walk.each(&self.items, &other.items)
+        T::each(&self.items, &other.items, walk)
     }
-}
-
-impl Node for Punctuated<Ident, Comma> {
-    fn read(alloc: Global, tokens: &TokenStream) -> Parse<Self> {
-        listed(parse_idents(alloc, tokens))
-    }
-
-    fn again(&self, alloc: Global) -> Parse<Self> {
-        Self::read(alloc, &self.to_token_stream(alloc)?)
-    }
-
-    fn parts(&self, other: &Self, walk: &mut Walk) -> Tested<()> {
-        walk.part(self, other)
-    }
-}
-
-/// A parsed list as it is printed.
-fn listed<T: Drop>(parsed: Parse<Items<T>>) -> Parse<Punctuated<T, Comma>> {
-    let items = parsed?;
-    let by = PhantomData;
-    Ok(Punctuated { items, by })
 }
 
 /// The tree of the text, at other places, two bytes later.
