@@ -82,16 +82,21 @@ fn answer(alloc: Global, kind: &str, text: &str) -> Tested<&'static str> {
 /// Each row is answered so.
 fn hold(alloc: Global, rows: &str) -> Tested<()> {
     for row in rows.lines() {
-        let (kind, rest) = kind_of(row)?;
-        let (levels, rest) = kind_of(rest)?;
-        let (form, expected) = row_of(rest);
-        let text = nested(alloc, levels.parse::<usize>().unwrap_or(0), form)?;
-        let found = answer(alloc, kind, text.as_str())?;
-        if found != expected {
-            return Err(Fail::new(format_args!("{row} is {found}")));
-        }
+        holds(alloc, row)?;
     }
     Ok(())
+}
+
+fn holds(alloc: Global, row: &str) -> Tested<()> {
+    let (kind, rest) = kind_of(row)?;
+    let (levels, rest) = kind_of(rest)?;
+    let (form, expected) = row_of(rest);
+    let text = nested(alloc, levels.parse::<usize>().unwrap_or(0), form)?;
+    let found = answer(alloc, kind, text.as_str())?;
+    if found == expected {
+        return Ok(());
+    }
+    Err(Fail::new(format_args!("{row} is {found}")))
 }
 
 #[test]
