@@ -65,9 +65,9 @@ fn nested(alloc: Global, levels: usize, form: &str) -> Tested<Text> {
 }
 
 /// How the text is read: the kind of its first meta, or whether its printing is the text.
-fn answer(alloc: Global, kind: &str, text: &str) -> Tested<&'static str> {
+fn answer(alloc: Global, kind: &str, text: &str) -> Tested<Text> {
     let told = told(alloc, kind, text)?;
-    Ok(match told.as_str() {
+    let answer = match told.as_str() {
         told if told.starts_with("refused") => "refused",
         told if kind == "meta" => if told.starts_with("value") {
             "value"
@@ -76,7 +76,8 @@ fn answer(alloc: Global, kind: &str, text: &str) -> Tested<&'static str> {
         },
         told if told == text => "as it stands",
         _ => "read",
-    })
+    };
+    Ok(Text::from_str(alloc, answer)?)
 }
 
 /// Each row is answered so.
@@ -93,10 +94,10 @@ fn holds(alloc: Global, row: &str) -> Tested<()> {
     let (form, expected) = row_of(rest);
     let text = nested(alloc, levels.parse::<usize>().unwrap_or(0), form)?;
     let found = answer(alloc, kind, text.as_str())?;
-    if found == expected {
+    if found.is(expected) {
         return Ok(());
     }
-    Err(Fail::new(format_args!("{row} is {found}")))
+    Err(Fail::new(format_args!("{row} is {}", found.as_str())))
 }
 
 #[test]
