@@ -2,7 +2,7 @@
 
 ghost use Rattle.std.specs.Prelude.{◌≡◌, true, IfOk};
 ghost use Rattle.syn_grammar.specs.Token.{is_equals};
-ghost use Rattle.syn_items.specs.Lists.{Flat};
+ghost use Rattle.syn_grammar.specs.Reads.{Gives};
 ghost use Rattle.meta_nested.specs.Angles.{Tells, TellsHere};
 ghost use Rattle.meta_nested.specs.Nested as spec;
 
@@ -13,10 +13,9 @@ use node_core::Meta;
 use node_expr::{Lit, LitBool, Path};
 use std::alloc::Global;
 use syn_grammar::{
-    Cursor, Word, after_one, is_equals, is_group, is_mark, lit_of, literal_of, next_word,
+    Cursor, ReadFail, Word, after_one, is_equals, is_group, is_mark, lit_of, literal_of, next_word,
 };
 use syn_items::{delimiter_of, meta_list, meta_path, signed};
-use syn_lists::Parsed;
 use tok_types::{Delimiter, Span, TokenTree};
 
 /// What stands in a list.
@@ -68,21 +67,21 @@ fn bool_of(word: Word, span: Span) -> Lit
 }
 
 #[tactic(auto, unfolding(crate::specs::Nested::boolean))]
-fn boolean(tokens: &mut Cursor<'_>) -> Parsed<Lit>
-    ensures { Flat (spec.boolean tokens.old) result tokens.new }
+fn boolean(tokens: &mut Cursor<'_>) -> Result<Lit, ReadFail>
+    ensures { Gives (spec.boolean tokens.old) result tokens.new }
 {
     let span = tokens.here();
     let lit = bool_of(next_word(tokens.rest()), span);
     tokens.skip();
-    Ok((lit, 0))
+    Ok(lit)
 }
 
 #[tactic(auto, unfolding(crate::specs::Nested::literal))]
-fn literal(alloc: Global, tokens: &mut Cursor<'_>) -> Parsed<Lit>
-    ensures { Flat (spec.literal tokens.old) result tokens.new }
+fn literal(alloc: Global, tokens: &mut Cursor<'_>) -> Result<Lit, ReadFail>
+    ensures { Gives (spec.literal tokens.old) result tokens.new }
 {
     let token = tokens.take_literal(alloc)?;
-    Ok((lit_of(alloc, token)?, 0))
+    Ok(lit_of(alloc, token)?)
 }
 
 fn is_attribute(trees: &[TokenTree]) -> bool
@@ -92,12 +91,12 @@ fn is_attribute(trees: &[TokenTree]) -> bool
 }
 
 #[tactic(auto, unfolding(crate::specs::Nested::attribute_item))]
-fn attribute_item(tokens: &mut Cursor<'_>) -> Parsed<Found>
-    ensures { Flat (spec.attribute_item tokens.old) result tokens.new }
+fn attribute_item(tokens: &mut Cursor<'_>) -> Result<Found, ReadFail>
+    ensures { Gives (spec.attribute_item tokens.old) result tokens.new }
 {
     let place = tokens.here();
     tokens.skip_by(tokens.left());
-    Ok((Found::Attribute(place), 0))
+    Ok(Found::Attribute(place))
 }
 
 #[tactic(auto, unfolding(crate::specs::Nested::value_item))]
@@ -108,14 +107,14 @@ fn value_item(
     start: Span,
     path: Path,
     eq_span: Span,
-) -> Parsed<Found>
+) -> Result<Found, ReadFail>
     requires { TellsHere closings.now tokens.old.rest }
-    ensures { Flat (spec.value_item start path eq_span tokens.old) result tokens.new }
+    ensures { Gives (spec.value_item start path eq_span tokens.old) result tokens.new }
 {
-    let (value, _) = take_value(alloc, tokens, closings, eq_span)?;
+    let value = take_value(alloc, tokens, closings, eq_span)?;
     let span = tokens.upto(start);
     let item = value.into_item(alloc, path, eq_span, span)?;
-    Ok((Found::Item(item), 0))
+    Ok(Found::Item(item))
 }
 
 /// `=` and what stands behind it.
@@ -126,10 +125,10 @@ fn name_value(
     closings: &[bool],
     start: Span,
     path: Path,
-) -> Parsed<Found>
+) -> Result<Found, ReadFail>
     requires tells { Tells closings.now tokens.old.rest }
     requires equals { is_equals tokens.old.rest ≡ true }
-    ensures { Flat (spec.name_value start path tokens.old) result tokens.new }
+    ensures { Gives (spec.name_value start path tokens.old) result tokens.new }
 {
     let eq_span = tokens.here();
     tokens.skip();
@@ -142,20 +141,20 @@ fn name_value(
 
 /// `path`, `path(tokens)`, `path = value`
 #[tactic(auto, unfolding(crate::specs::Nested::path_item))]
-fn path_item(alloc: Global, tokens: &mut Cursor<'_>, closings: &[bool]) -> Parsed<Found>
+fn path_item(alloc: Global, tokens: &mut Cursor<'_>, closings: &[bool]) -> Result<Found, ReadFail>
     requires { Tells closings.now tokens.old.rest }
-    ensures { Flat (spec.path_item tokens.old) result tokens.new }
+    ensures { Gives (spec.path_item tokens.old) result tokens.new }
 {
     let start = tokens.here();
-    let (path, _) = meta_path(alloc, tokens)?;
+    let path = meta_path(alloc, tokens)?;
     if let Some(delimiter) = delimiter_of(tokens.rest()) {
-        let (list, _) = meta_list(alloc, tokens, start, path, delimiter)?;
-        return Ok((Found::Item(NestedMeta::Meta(list)), 0));
+        let list = meta_list(alloc, tokens, start, path, delimiter)?;
+        return Ok(Found::Item(NestedMeta::Meta(list)));
     }
     if is_equals(tokens.rest()) {
         return name_value(alloc, tokens, closings, start, path);
     }
-    Ok((Found::Item(NestedMeta::Meta(Meta::Path(path))), 0))
+    Ok(Found::Item(NestedMeta::Meta(Meta::Path(path))))
 }
 
 fn is_truth(word: Word) -> bool
@@ -186,15 +185,19 @@ fn item_start(trees: &[TokenTree]) -> ItemStart
 
 /// One item. `closings` says of each value whether its angles close.
 #[tactic(auto, unfolding(crate::specs::Nested::item))]
-pub(crate) fn item(alloc: Global, tokens: &mut Cursor<'_>, closings: &[bool]) -> Parsed<Found>
+pub(crate) fn item(
+    alloc: Global,
+    tokens: &mut Cursor<'_>,
+    closings: &[bool],
+) -> Result<Found, ReadFail>
     requires { Tells closings.now tokens.old.rest }
-    ensures { Flat (spec.item tokens.old) result tokens.new }
+    ensures { Gives (spec.item tokens.old) result tokens.new }
 {
-    let (lit, _) = match item_start(tokens.rest()) {
+    let lit = match item_start(tokens.rest()) {
         ItemStart::Literal => literal(alloc, tokens)?,
         ItemStart::Boolean => boolean(tokens)?,
         ItemStart::Minus => signed(alloc, tokens)?,
         ItemStart::Path => return path_item(alloc, tokens, closings),
     };
-    Ok((Found::Item(NestedMeta::Lit(lit)), 0))
+    Ok(Found::Item(NestedMeta::Lit(lit)))
 }

@@ -2,7 +2,7 @@
 
 ghost use Rattle.std.specs.Prelude.{◌≡◌, [], IfOk};
 ghost use Rattle.syn_grammar.specs.Input as input;
-ghost use Rattle.syn_items.specs.Lists.{Flat};
+ghost use Rattle.syn_grammar.specs.Reads.{Gives};
 ghost use Rattle.meta_nested.specs.Answers.{ParsesNested};
 ghost use Rattle.meta_nested.specs.Nested as spec;
 
@@ -16,7 +16,7 @@ use node_span::Spanned;
 use std::alloc::Global;
 use syn_core::{Parse, ParseFail};
 use syn_grammar::{Cursor, ReadFail};
-use syn_lists::{Parsed, all_of};
+use syn_lists::all_of;
 use tok_types::{Span, TokenStream};
 
 /// One item of the list in an attribute.
@@ -63,23 +63,23 @@ impl NestedMeta {
     }
 }
 
-fn list(alloc: Global, tokens: &mut Cursor<'_>) -> Parsed<Items<Found>>
-    ensures { Flat (input.items_after spec.item [] tokens.old) result tokens.new }
+fn list(alloc: Global, tokens: &mut Cursor<'_>) -> Result<Items<Found>, ReadFail>
+    ensures { Gives (input.items_after spec.item [] tokens.old) result tokens.new }
 {
     let closings = closings_of(alloc, tokens.rest())?;
     let mut found = Items::new(alloc);
     for _turn in 0..tokens.left() {
         if tokens.at_end() {
-            return Ok((found, 0));
+            return Ok(found);
         }
-        let (next, _) = item(alloc, tokens, closings.as_slice())?;
+        let next = item(alloc, tokens, closings.as_slice())?;
         found.push(next)?;
         if !tokens.eat_mark(',') {
-            return Ok((found, 0));
+            return Ok(found);
         }
     }
     if tokens.at_end() {
-        Ok((found, 0))
+        Ok(found)
     } else {
         Err(ReadFail::Syntax)
     }
@@ -89,7 +89,9 @@ fn list(alloc: Global, tokens: &mut Cursor<'_>) -> Parsed<Items<Found>>
 fn found_of(alloc: Global, tokens: &TokenStream) -> Mem<Option<Items<Found>>>
     ensures { IfOk result (λ found. found ≡ spec.found_of tokens.now) }
 {
-    all_of(alloc, tokens.trees.as_slice(), list)
+    let mut cursor = Cursor::new(tokens.trees.as_slice());
+    let read = list(alloc, &mut cursor);
+    all_of(read, &cursor)
 }
 
 /// The items, or where the attribute stands that is among them.

@@ -3,7 +3,7 @@
 ghost use Rattle.std.specs.Prelude.{◌≡◌, IfOk};
 ghost use Rattle.law_prefix.specs.SameLookahead.{stops};
 ghost use Rattle.syn_items.specs.Attributes.{number_in};
-ghost use Rattle.syn_items.specs.Lists.{Flat};
+ghost use Rattle.syn_grammar.specs.Reads.{Gives};
 ghost use Rattle.meta_nested.specs.Angles.{TellsHere};
 ghost use Rattle.meta_nested.specs.Nested.{expected_expression, with_value};
 ghost use Rattle.meta_nested.specs.Values as spec;
@@ -16,7 +16,6 @@ use node_expr::{Expr, Lit, Path};
 use std::alloc::{AllocError, Global};
 use syn_grammar::{Cursor, ReadFail, is_comma, span_of};
 use syn_items::{number_of, stream_of};
-use syn_lists::Parsed;
 use syn_rules::read_expr;
 use syn_types::{ANY_LEVEL, MAX_DEPTH};
 use tok_types::{Span, TokenStream, TokenTree};
@@ -134,13 +133,13 @@ fn bad_place(eq_span: Span, trees: &[TokenTree]) -> Span
 }
 
 #[tactic(auto, unfolding(crate::specs::Values::bad_value))]
-fn bad_value(alloc: Global, tokens: &mut Cursor<'_>, eq_span: Span) -> Parsed<Value>
-    ensures { Flat (spec.bad_value eq_span tokens.old) result tokens.new }
+fn bad_value(alloc: Global, tokens: &mut Cursor<'_>, eq_span: Span) -> Result<Value, ReadFail>
+    ensures { Gives (spec.bad_value eq_span tokens.old) result tokens.new }
 {
     let trees = before_comma(tokens.rest());
     let kept = stream_of(alloc, trees)?;
     tokens.skip_by(trees.len());
-    Ok((Value::Bad(kept, bad_place(eq_span, trees)), 0))
+    Ok(Value::Bad(kept, bad_place(eq_span, trees)))
 }
 
 /// The value behind the `=` that stands at `eq_span`. Where its angles do not close it is a bad one, and
@@ -151,9 +150,9 @@ pub(crate) fn take_value(
     tokens: &mut Cursor<'_>,
     closings: &[bool],
     eq_span: Span,
-) -> Parsed<Value>
+) -> Result<Value, ReadFail>
     requires { TellsHere closings.now tokens.old.rest }
-    ensures { Flat (spec.value eq_span tokens.old) result tokens.new }
+    ensures { Gives (spec.value eq_span tokens.old) result tokens.new }
 {
     if !closings[tokens.left()] {
         return bad_value(alloc, tokens, eq_span);
@@ -161,7 +160,7 @@ pub(crate) fn take_value(
     match shortest_run(alloc, tokens.rest())? {
         Some((expr, count)) => {
             tokens.skip_by(count);
-            Ok((Value::Expr(expr), 0))
+            Ok(Value::Expr(expr))
         }
         None => bad_value(alloc, tokens, eq_span),
     }

@@ -5,14 +5,9 @@ use Rattle.tok_types.specs.declared.tree.TokenTree.{TokenTree}
 use Rattle.syn_grammar.specs.declared.fail.ReadFail.{ReadFail}
 use Rattle.syn_grammar.specs.declared.fail.ReadFail.TheVariants.{Syntax, NoMemory}
 use Rattle.syn_grammar.specs.Input.{Input, Outcome, Parser, ◌>>=◌, ◌>>◌, pure, refuse, test, at_end, is_end, by_turns, skipped}
-use Rattle.syn_grammar.specs.Reads.{Reads}
 use Rattle.syn_grammar.specs.Token.{is_mark}
 use Rattle.syn_items.specs.declared.lists.While.{While}
 use Rattle.syn_items.specs.declared.lists.While.TheVariants as while
-
--- The tree of the outcome, for which no depth is counted; or that there is none, or want of memory.
-abbrev pub Flat : {A : Type 0} → Outcome A → Result (A × ℕ) ReadFail → Input → Type 0
-Flat = Reads (λ it. 0) 0
 
 -- What is left behind the tree of the outcome, of which nothing is kept; or that there is none, or want of memory.
 abbrev pub Passes : {A : Type 0} → Outcome A → Result (Unit {0}) ReadFail → Input → Type 0

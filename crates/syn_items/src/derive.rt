@@ -2,7 +2,8 @@
 
 ghost use Rattle.std.specs.Prelude.{◌≡◌, IfOk};
 ghost use Rattle.syn_items.specs.Items as spec;
-ghost use Rattle.syn_items.specs.Lists.{Flat, Passes};
+ghost use Rattle.syn_grammar.specs.Reads.{Gives};
+ghost use Rattle.syn_items.specs.Lists.{Passes};
 ghost use Rattle.syn_items.specs.Trees.{IsItemFront};
 
 use crate::attr::attributes;
@@ -18,7 +19,7 @@ use node_core::{
 };
 use std::alloc::{AllocError, Global};
 use syn_grammar::{Cursor, ReadFail, is_group};
-use syn_lists::{Parsed, inside};
+use syn_lists::ReadItem;
 use tok_types::{Delimiter, TokenStream};
 
 /// A body, and the `where` clause that stands before or in it.
@@ -26,58 +27,62 @@ type Body = (Option<WhereClause>, Data);
 
 /// `(A, B) where ..;`
 #[tactic(auto, unfolding(crate::specs::Items::tuple_struct))]
-fn tuple_struct(alloc: Global, tokens: &mut Cursor<'_>) -> Parsed<Body>
-    ensures { Flat (spec.tuple_struct tokens.old) result tokens.new }
+fn tuple_struct(alloc: Global, tokens: &mut Cursor<'_>) -> Result<Body, ReadFail>
+    ensures { Gives (spec.tuple_struct tokens.old) result tokens.new }
 {
     let start = tokens.here();
-    let (unnamed, _) = fields_unnamed(alloc, tokens)?;
-    let (clause, _) = maybe_where(alloc, tokens)?;
+    let unnamed = fields_unnamed(alloc, tokens)?;
+    let clause = maybe_where(alloc, tokens)?;
     tokens.expect_mark(';')?;
     let span = tokens.upto(start);
     let fields = Fields::Unnamed(unnamed);
-    Ok(((clause, Data::Struct(DataStruct { fields, span })), 0))
+    Ok((clause, Data::Struct(DataStruct { fields, span })))
 }
 
 /// `{ a: A }`, or `;`
 #[tactic(auto, unfolding(crate::specs::Items::other_struct))]
-fn other_struct(alloc: Global, tokens: &mut Cursor<'_>) -> Parsed<Data>
-    ensures { Flat (spec.other_struct tokens.old) result tokens.new }
+fn other_struct(alloc: Global, tokens: &mut Cursor<'_>) -> Result<Data, ReadFail>
+    ensures { Gives (spec.other_struct tokens.old) result tokens.new }
 {
     let span = tokens.here();
     if is_group(Delimiter::Brace, tokens.rest()) {
-        let (named, _) = fields_named(alloc, tokens)?;
+        let named = fields_named(alloc, tokens)?;
         let fields = Fields::Named(named);
-        return Ok((Data::Struct(DataStruct { fields, span }), 0));
+        return Ok(Data::Struct(DataStruct { fields, span }));
     }
     tokens.expect_mark(';')?;
     let fields = Fields::Unit;
-    Ok((Data::Struct(DataStruct { fields, span }), 0))
+    Ok(Data::Struct(DataStruct { fields, span }))
 }
 
 /// `{ A, B(T) }`
 #[tactic(auto, unfolding(crate::specs::Items::enum_body))]
-fn enum_body(alloc: Global, tokens: &mut Cursor<'_>) -> Parsed<Data>
-    ensures { Flat (spec.enum_body tokens.old) result tokens.new }
+fn enum_body(alloc: Global, tokens: &mut Cursor<'_>) -> Result<Data, ReadFail>
+    ensures { Gives (spec.enum_body tokens.old) result tokens.new }
 {
     let span = tokens.here();
-    let (variants, _) = inside(tokens, Delimiter::Brace, |tokens: &mut Cursor<'_>| {
-        variants(alloc, tokens)
-    })?;
-    Ok((Data::Enum(DataEnum { variants, span }), 0))
+    if !is_group(Delimiter::Brace, tokens.rest()) {
+        return Err(ReadFail::Syntax);
+    }
+    let mut inner = tokens.contents();
+    let variants = variants(alloc, &mut inner)?;
+    inner.finish()?;
+    tokens.skip();
+    Ok(Data::Enum(DataEnum { variants, span }))
 }
 
 #[tactic(auto, unfolding(crate::specs::Items::union_body))]
-fn union_body(alloc: Global, tokens: &mut Cursor<'_>) -> Parsed<Data>
-    ensures { Flat (spec.union_body tokens.old) result tokens.new }
+fn union_body(alloc: Global, tokens: &mut Cursor<'_>) -> Result<Data, ReadFail>
+    ensures { Gives (spec.union_body tokens.old) result tokens.new }
 {
     let span = tokens.here();
-    let (fields, _) = fields_named(alloc, tokens)?;
-    Ok((Data::Union(DataUnion { fields, span }), 0))
+    let fields = fields_named(alloc, tokens)?;
+    Ok(Data::Union(DataUnion { fields, span }))
 }
 
 /// A body that stands behind its clause.
-fn data(alloc: Global, tokens: &mut Cursor<'_>, begins: ItemStart) -> Parsed<Data>
-    ensures { Flat (spec.data_by begins tokens.old) result tokens.new }
+fn data(alloc: Global, tokens: &mut Cursor<'_>, begins: ItemStart) -> Result<Data, ReadFail>
+    ensures { Gives (spec.data_by begins tokens.old) result tokens.new }
 {
     match begins {
         ItemStart::Struct => other_struct(alloc, tokens),
@@ -99,30 +104,30 @@ fn is_tuple_struct(tokens: &Cursor<'_>, begins: ItemStart) -> bool
 
 /// The body of an item and its `where` clause.
 #[tactic(auto, unfolding(crate::specs::Items::body_of))]
-fn body(alloc: Global, tokens: &mut Cursor<'_>, begins: ItemStart) -> Parsed<Body>
-    ensures { Flat (spec.body_of begins tokens.old) result tokens.new }
+fn body(alloc: Global, tokens: &mut Cursor<'_>, begins: ItemStart) -> Result<Body, ReadFail>
+    ensures { Gives (spec.body_of begins tokens.old) result tokens.new }
 {
     if is_tuple_struct(tokens, begins) {
         return tuple_struct(alloc, tokens);
     }
-    let (clause, _) = maybe_where(alloc, tokens)?;
-    let (data, _) = data(alloc, tokens, begins)?;
-    Ok(((clause, data), 0))
+    let clause = maybe_where(alloc, tokens)?;
+    let data = data(alloc, tokens, begins)?;
+    Ok((clause, data))
 }
 
 /// `#[attr] pub struct Name<T> where .. { a: T }`
 #[tactic(auto, unfolding(crate::specs::Items::item))]
-pub fn item(alloc: Global, tokens: &mut Cursor<'_>) -> Parsed<DeriveInput>
-    ensures { Flat (spec.item tokens.old) result tokens.new }
+pub fn item(alloc: Global, tokens: &mut Cursor<'_>) -> Result<DeriveInput, ReadFail>
+    ensures { Gives (spec.item tokens.old) result tokens.new }
 {
     let start = tokens.here();
-    let (attrs, _) = attributes(alloc, tokens)?;
-    let (vis, _) = visibility(alloc, tokens)?;
+    let attrs = attributes(alloc, tokens)?;
+    let vis = visibility(alloc, tokens)?;
     let begins = item_start(tokens.rest());
     tokens.skip();
     let ident = tokens.take_name(alloc)?;
-    let ((params, params_span), _) = params(alloc, tokens)?;
-    let ((where_clause, body), _) = body(alloc, tokens, begins)?;
+    let (params, params_span) = params(alloc, tokens)?;
+    let (where_clause, body) = body(alloc, tokens, begins)?;
     let span = tokens.upto(start);
     let generics = Generics {
         params,
@@ -137,20 +142,26 @@ pub fn item(alloc: Global, tokens: &mut Cursor<'_>) -> Parsed<DeriveInput>
         body,
         span,
     };
-    Ok((found, 0))
+    Ok(found)
+}
+
+/// Reads an item.
+#[derive(Drop)]
+struct DeriveInputReader(Global);
+
+impl ReadItem<DeriveInput> for DeriveInputReader {
+    ghost reader = { λ it. spec.item };
+
+    fn read(&mut self, tokens: &mut Cursor<'_>) -> Result<DeriveInput, ReadFail> {
+        item(self.0, tokens)
+    }
 }
 
 /// Items, to the end.
-pub fn items(alloc: Global, tokens: &mut Cursor<'_>) -> Parsed<Items<DeriveInput>>
-    ensures { Flat (spec.items tokens.old) result tokens.new }
+pub fn items(alloc: Global, tokens: &mut Cursor<'_>) -> Result<Items<DeriveInput>, ReadFail>
+    ensures { Gives (spec.items tokens.old) result tokens.new }
 {
-    let (found, _) = each_while(
-        alloc,
-        tokens,
-        While::Token,
-        |tokens: &mut Cursor<'_>| item(alloc, tokens),
-    )?;
-    Ok((found, 0))
+    each_while(alloc, tokens, While::Token, &mut DeriveInputReader(alloc))
 }
 
 /// Takes one item and keeps nothing of it.

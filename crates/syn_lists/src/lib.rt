@@ -1,11 +1,11 @@
-//! What reads tokens without the rules of types and expressions: lists of anything, groups, and
-//! patterns, which are kept as tokens.
+//! What reads tokens without the rules of types and expressions: lists of anything, and patterns,
+//! which are kept as tokens.
 #![tactic(auto)]
 
 mod list;
 mod patterns;
 mod whole;
 
-pub use list::{Joint, Parsed, items_after, joined_by, until};
+pub use list::{Deepest, Joint, Parsed, ReadDeepItem, ReadItem, items_after, joined_by, until};
 pub use patterns::{MAX_PATTERN, pattern};
-pub use whole::{all_of, inside};
+pub use whole::all_of;

@@ -1,10 +1,10 @@
 //! Lists of anything.
 
-ghost use Rattle.std.specs.Prelude.{◌≡◌, ◌≤◌, ℕ, Some};
+ghost use Rattle.std.specs.Prelude.{◌≡◌, ◌≤◌, ◌∷◌, ◌++◌, [], ℕ, List, Some, IfOk};
 ghost use Rattle.syn_grammar.specs.Input as input;
 ghost use Rattle.syn_grammar.specs.Input.{Parser};
-ghost use Rattle.syn_grammar.specs.Reads.{Reads};
-ghost use Rattle.syn_lists.specs.Lists.{ReadsItems, all_depth, eat_joint};
+ghost use Rattle.syn_grammar.specs.Reads.{Gives, Reads};
+ghost use Rattle.syn_lists.specs.Lists.{CountsDepth, eat_joint};
 
 use base_core::Items;
 use std::alloc::Global;
@@ -13,90 +13,139 @@ use syn_grammar::{Cursor, ReadFail};
 /// A tree and its depth, or why there is none.
 pub type Parsed<A> = Result<(A, usize), ReadFail>;
 
+/// What reads the items of a list.
+pub trait ReadItem<T> {
+    /// The rule of the grammar that an item is read by.
+    ghost reader: { Self → Parser T };
+
+    /// Whether it may read: always, where an `impl` does not say.
+    ghost ready: { Self → Type 0 } = { λ it. Unit {0} };
+
+    /// What it knows of the items that were read since it was the first of two: nothing, where an
+    /// `impl` does not say.
+    ghost knows: { Self → Self → List T → Type 0 } = { λ begun it found. Unit {0} };
+
+    /// One item.
+    fn read(&mut self, tokens: &mut Cursor<'_>) -> Result<T, ReadFail>
+        requires { ready self.old }
+        ensures gives { Gives (reader self.old tokens.old) result tokens.new }
+        ensures same { reader self.new ≡ reader self.old }
+        ensures ready { ready self.new }
+        ensures knows { IfOk result (λ item. (begun : Self) (found : List T) → knows begun self.old found → knows begun self.new (found ++ item ∷ [])) };
+}
+
+/// What reads the items of a list, which have a depth.
+pub trait ReadDeepItem<T> {
+    /// The rule of the grammar that an item is read by.
+    ghost reader: { Self → Parser T };
+
+    /// Whether it may read.
+    ghost ready: { Self → Type 0 };
+
+    /// How deep an item is.
+    ghost size: { Self → T → ℕ };
+
+    /// How deep it may be.
+    ghost limit: { Self → ℕ };
+
+    /// One item and its depth.
+    fn read(&self, tokens: &mut Cursor<'_>) -> Parsed<T>
+        requires { ready self.now }
+        ensures { Reads (size self.now) (limit self.now) (reader self.now tokens.old) result tokens.new };
+}
+
+/// Reads the items of a list and keeps how deep the deepest of them is.
+#[derive(Drop)]
+pub struct Deepest<'a, P> {
+    pub inner: &'a P,
+    pub depth: usize,
+}
+
+impl<T: Drop, P: ReadDeepItem<T>> ReadItem<T> for Deepest<'_, P> {
+    ghost reader = { λ it. P.reader it.inner.now };
+
+    ghost ready = { λ it. P.ready it.inner.now };
+
+    ghost knows = { λ begun it found. CountsDepth P.size P.limit begun.inner.now it.inner.now it.depth found };
+
+    fn read(&mut self, tokens: &mut Cursor<'_>) -> Result<T, ReadFail> {
+        let (item, depth) = self.inner.read(tokens)?;
+        self.depth = self.depth.max(depth);
+        Ok(item)
+    }
+}
+
 /// More items of a list that ends with its tokens, behind those that are `found`, with at most one
 /// comma at its end.
-pub fn items_after<A: Drop, P: Fn(&mut Cursor<'_>) -> Parsed<A>>(
+pub fn items_after<T: Drop, P: ReadItem<T>>(
     tokens: &mut Cursor<'_>,
-    item: P,
-    mut found: Items<A>,
-    mut depth: usize,
-) -> Parsed<Items<A>>
-where
-    P: Drop,
-    requires { P.IsAlwaysCallable item }
-    ensures { (size : A → ℕ) (limit : ℕ) (reader : Parser A) → ReadsItems size limit reader (P.post item)
-        → depth ≡ all_depth size found → depth ≤ limit
-        → Reads (all_depth size) limit (input.items_after reader found tokens.old) result tokens.new }
+    item: &mut P,
+    mut found: Items<T>,
+) -> Result<Items<T>, ReadFail>
+    requires { P.ready item.old }
+    ensures gives { Gives (input.items_after (P.reader item.old) found tokens.old) result tokens.new }
+    ensures knows { IfOk result (λ all. P.knows item.old item.old found → P.knows item.old item.new all) }
 {
     for _turn in 0..tokens.left() {
         if tokens.at_end() {
-            return Ok((found, depth));
+            return Ok(found);
         }
-        let (next, next_depth) = item(tokens)?;
+        let next = item.read(tokens)?;
         found.push(next)?;
-        depth = depth.max(next_depth);
         if !tokens.eat_mark(',') {
-            return Ok((found, depth));
+            return Ok(found);
         }
     }
     if tokens.at_end() {
-        Ok((found, depth))
+        Ok(found)
     } else {
         Err(ReadFail::Syntax)
     }
 }
 
 /// What is left of a list that the mark `closing` ends, with at most one comma before it.
-pub fn until<A: Drop, P: Fn(&mut Cursor<'_>) -> Parsed<A>>(
+pub fn until<T: Drop, P: ReadItem<T>>(
     alloc: Global,
     tokens: &mut Cursor<'_>,
     closing: char,
-    item: P,
-) -> Parsed<Items<A>>
-where
-    P: Drop,
-    requires { P.IsAlwaysCallable item }
-    ensures { (size : A → ℕ) (limit : ℕ) (reader : Parser A) → ReadsItems size limit reader (P.post item)
-        → Reads (all_depth size) limit (input.until closing reader tokens.old) result tokens.new }
+    item: &mut P,
+) -> Result<Items<T>, ReadFail>
+    requires { P.ready item.old }
+    ensures gives { Gives (input.until closing (P.reader item.old) tokens.old) result tokens.new }
+    ensures knows { IfOk result (λ all. P.knows item.old item.old [] → P.knows item.old item.new all) }
 {
     let mut found = Items::new(alloc);
-    let mut depth = 0;
     for _turn in 0..tokens.left() {
         if tokens.eat_mark(closing) {
-            return Ok((found, depth));
+            return Ok(found);
         }
-        let (next, next_depth) = item(tokens)?;
+        let next = item.read(tokens)?;
         found.push(next)?;
-        depth = depth.max(next_depth);
         if !tokens.eat_mark(',') {
             tokens.expect_mark(closing)?;
-            return Ok((found, depth));
+            return Ok(found);
         }
     }
     Err(ReadFail::Syntax)
 }
 
 /// Items that `+` or `::` joins: one at least, and one after each mark.
-pub fn joined_by<A: Drop, P: Fn(&mut Cursor<'_>) -> Parsed<A>>(
+pub fn joined_by<T: Drop, P: ReadItem<T>>(
     alloc: Global,
     tokens: &mut Cursor<'_>,
     joint: Joint,
-    item: P,
-) -> Parsed<Items<A>>
-where
-    P: Drop,
-    requires { P.IsAlwaysCallable item }
-    ensures { (size : A → ℕ) (limit : ℕ) (reader : Parser A) → ReadsItems size limit reader (P.post item)
-        → Reads (all_depth size) limit (input.joined_by (eat_joint joint) reader tokens.old) result tokens.new }
+    item: &mut P,
+) -> Result<Items<T>, ReadFail>
+    requires { P.ready item.old }
+    ensures gives { Gives (input.joined_by (eat_joint joint) (P.reader item.old) tokens.old) result tokens.new }
+    ensures knows { IfOk result (λ all. P.knows item.old item.old [] → P.knows item.old item.new all) }
 {
     let mut found = Items::new(alloc);
-    let mut depth = 0;
     for _turn in 0..tokens.left() {
-        let (next, next_depth) = item(tokens)?;
+        let next = item.read(tokens)?;
         found.push(next)?;
-        depth = depth.max(next_depth);
         if !eat_joint(tokens, joint) {
-            return Ok((found, depth));
+            return Ok(found);
         }
     }
     Err(ReadFail::Syntax)

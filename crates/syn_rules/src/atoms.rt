@@ -16,7 +16,7 @@ use node_expr::{Expr, ExprArray, ExprPath, Lit, LitBool};
 use node_make::make;
 use std::alloc::Global;
 use syn_grammar::{AtomStart, Cursor, ReadFail, Word, atom_start, is_group, lit_of, next_word};
-use syn_lists::{Parsed, items_after};
+use syn_lists::{Deepest, Parsed, ReadDeepItem, items_after};
 use syn_types::{ANY_LEVEL, ReadParts};
 use tok_types::{Delimiter, Span};
 
@@ -63,6 +63,20 @@ fn infer(tokens: &mut Cursor<'_>) -> Parsed<Expr>
     Ok((Expr::Infer { span }, 1))
 }
 
+impl<R: ReadParts> ReadDeepItem<Expr> for ExprRules<R> {
+    ghost reader = { λ it. (within it.rules.depth).expr any_level };
+
+    ghost ready = { λ it. R.reads_within it.rules.parts it.rules.depth };
+
+    ghost size = { λ it. expr_depth };
+
+    ghost limit = { λ it. it.rules.depth };
+
+    fn read(&self, tokens: &mut Cursor<'_>) -> Parsed<Expr> {
+        self.rules.expr(tokens, ANY_LEVEL)
+    }
+}
+
 impl<R: ReadParts> ExprRules<R> {
     /// More expressions of a list, behind those that are `found`.
     pub(crate) fn exprs(
@@ -76,12 +90,9 @@ impl<R: ReadParts> ExprRules<R> {
         requires limit { depth ≤ self.now.rules.depth }
         ensures { Reads (all_depth expr_depth) self.now.rules.depth (items_after ((within self.now.rules.depth).expr any_level) found tokens.old) result tokens.new }
     {
-        items_after(
-            tokens,
-            |tokens: &mut Cursor<'_>| self.rules.expr(tokens, ANY_LEVEL),
-            found,
-            depth,
-        )
+        let mut exprs = Deepest { inner: self, depth };
+        let found = items_after(tokens, &mut exprs, found)?;
+        Ok((found, exprs.depth))
     }
 
     /// What stands in `(..)`: a tuple where a comma stands, or nothing at all.

@@ -13,7 +13,7 @@ use crate::rules::ExprRules;
 use node_expr::Expr;
 use node_make::make;
 use syn_grammar::{Cursor, ReadFail, Word, is_group};
-use syn_lists::{MAX_PATTERN, Parsed, pattern, until};
+use syn_lists::{MAX_PATTERN, Parsed, ReadItem, pattern, until};
 use syn_types::{ANY_LEVEL, CONSTANT_LEVEL, ReadParts};
 use tok_types::{Delimiter, TokenStream};
 
@@ -26,6 +26,22 @@ fn expect_block(tokens: &Cursor<'_>) -> Result<(), ReadFail>
         Ok(())
     } else {
         Err(ReadFail::Syntax)
+    }
+}
+
+/// Reads a parameter of a closure, of which nothing is kept.
+#[derive(Drop)]
+struct ClosureParamReader<'a, R> {
+    rules: &'a ExprRules<R>,
+}
+
+impl<R: ReadParts> ReadItem<()> for ClosureParamReader<'_, R> {
+    ghost reader = { λ it. spec.closure_param (within it.rules.now.rules.depth) };
+
+    ghost ready = { λ it. R.reads_within it.rules.now.rules.parts it.rules.now.rules.depth };
+
+    fn read(&mut self, tokens: &mut Cursor<'_>) -> Result<(), ReadFail> {
+        self.rules.closure_param(tokens)
     }
 }
 
@@ -42,15 +58,15 @@ impl<R: ReadParts> ExprRules<R> {
 
     /// A pattern, and its type where it is told.
     #[tactic(auto, unfolding(syn_grammar::specs::Expressions::closure_param))]
-    fn closure_param(&self, tokens: &mut Cursor<'_>) -> Parsed<()>
+    fn closure_param(&self, tokens: &mut Cursor<'_>) -> Result<(), ReadFail>
         requires { R.reads_within self.now.rules.parts self.now.rules.depth }
-        ensures { Reads (λ param. 0) self.now.rules.depth (spec.closure_param (within self.now.rules.depth) tokens.old) result tokens.new }
+        ensures { Gives (spec.closure_param (within self.now.rules.depth) tokens.old) result tokens.new }
     {
         pattern(tokens, MAX_PATTERN)?;
         if tokens.eat_colon() {
             self.pass_type(tokens, true)?;
         }
-        Ok(((), 0))
+        Ok(())
     }
 
     /// Parameters to the second `|`.
@@ -58,9 +74,8 @@ impl<R: ReadParts> ExprRules<R> {
         requires { R.reads_within self.now.rules.parts self.now.rules.depth }
         ensures { Gives (spec.closure_params (within self.now.rules.depth) tokens.old) result tokens.new }
     {
-        let _params = until(self.rules.alloc, tokens, '|', |tokens: &mut Cursor<'_>| {
-            self.closure_param(tokens)
-        })?;
+        let mut params = ClosureParamReader { rules: self };
+        let _params = until(self.rules.alloc, tokens, '|', &mut params)?;
         Ok(())
     }
 

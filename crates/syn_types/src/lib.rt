@@ -3,8 +3,10 @@
 #![tactic(auto)]
 
 mod paths;
+mod readers;
 mod rules;
 mod types;
 
 pub use paths::binder;
+pub use readers::LifetimeReader;
 pub use rules::{ANY_LEVEL, CONSTANT_LEVEL, MAX_DEPTH, ReadParts, Rules};

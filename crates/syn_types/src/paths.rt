@@ -6,10 +6,10 @@ ghost use Rattle.syn_grammar.specs.Grammar.{within, bounds_depth};
 ghost use Rattle.syn_grammar.specs.Input as input;
 ghost use Rattle.syn_grammar.specs.Paths as paths;
 ghost use Rattle.syn_grammar.specs.Reads.{Gives, Reads};
-ghost use Rattle.syn_grammar.specs.Token.{lifetime_of};
 ghost use Rattle.tok_types.specs.declared.tree.Delimiter.TheVariants as delimiter;
 ghost use Rattle.syn_lists.specs.Lists.{all_depth};
 
+use crate::readers::{LifetimeReader, SegmentReader};
 use crate::rules::{CONSTANT_LEVEL, ReadParts, Rules};
 use base_core::{Boxed, Items};
 use node_expr::{
@@ -20,18 +20,10 @@ use node_make::make;
 use std::alloc::Global;
 use syn_grammar::{
     ArgumentStart, ArgumentsStart, Cursor, ReadFail, Word, argument_start, arguments_start,
-    lifetime_of,
+    is_group, lifetime_of,
 };
-use syn_lists::{Joint, Parsed, inside, items_after, joined_by, until};
+use syn_lists::{Deepest, Joint, Parsed, items_after, joined_by, until};
 use tok_types::{Delimiter, Lifetime, Span};
-
-/// A lifetime, which has no depth.
-fn lifetime(alloc: Global, tokens: &mut Cursor<'_>) -> Parsed<Lifetime>
-    ensures { Reads (λ it. 0) 0 (input.take_as lifetime_of tokens.old) result tokens.new }
-{
-    let lifetime = tokens.take_lifetime(alloc)?;
-    Ok((lifetime, 0))
-}
 
 /// `for<'a, 'b>`, or nothing
 #[tactic(auto, unfolding(syn_grammar::specs::Paths::binder))]
@@ -42,10 +34,7 @@ pub fn binder(alloc: Global, tokens: &mut Cursor<'_>) -> Result<Items<Lifetime>,
         return Ok(Items::new(alloc));
     }
     tokens.expect_mark('<')?;
-    let (lifetimes, _) = until(alloc, tokens, '>', |tokens: &mut Cursor<'_>| {
-        lifetime(alloc, tokens)
-    })?;
-    Ok(lifetimes)
+    until(alloc, tokens, '>', &mut LifetimeReader { alloc })
 }
 
 impl<R: ReadParts> Rules<R> {
@@ -74,12 +63,9 @@ impl<R: ReadParts> Rules<R> {
         requires within { depth ≤ self.now.depth }
         ensures { Reads (all_depth type_depth) self.now.depth (input.items_after ((within self.now.depth).ty true) found tokens.old) result tokens.new }
     {
-        items_after(
-            tokens,
-            |tokens: &mut Cursor<'_>| self.ty(tokens, true),
-            found,
-            depth,
-        )
+        let mut types = Deepest { inner: self, depth };
+        let found = items_after(tokens, &mut types, found)?;
+        Ok((found, types.depth))
     }
 
     /// All types of a list.
@@ -95,11 +81,14 @@ impl<R: ReadParts> Rules<R> {
         requires { R.reads_within self.now.parts self.now.depth }
         ensures { Reads (all_depth type_depth) self.now.depth (input.inside delimiter.Parenthesis (paths.list ((within self.now.depth).ty true)) tokens.old) result tokens.new }
     {
-        inside(
-            tokens,
-            Delimiter::Parenthesis,
-            |tokens: &mut Cursor<'_>| self.type_list(tokens),
-        )
+        if !is_group(Delimiter::Parenthesis, tokens.rest()) {
+            return Err(ReadFail::Syntax);
+        }
+        let mut inner = tokens.contents();
+        let inputs = self.type_list(&mut inner)?;
+        inner.finish()?;
+        tokens.skip();
+        Ok(inputs)
     }
 
     /// `(A, B) -> C`
@@ -201,9 +190,12 @@ impl<R: ReadParts> Rules<R> {
         requires { R.reads_within self.now.parts self.now.depth }
         ensures { Reads (all_depth argument_depth) self.now.depth (paths.angle_list (paths.generic_argument (within self.now.depth)) tokens.old) result tokens.new }
     {
-        until(self.alloc, tokens, '>', |tokens: &mut Cursor<'_>| {
-            self.generic_argument(tokens)
-        })
+        let mut arguments = Deepest {
+            inner: self,
+            depth: 0,
+        };
+        let found = until(self.alloc, tokens, '>', &mut arguments)?;
+        Ok((found, arguments.depth))
     }
 
     /// What follows the word of a segment: `::<A>`, and in a type also `<A>` or `(A) -> B`.
@@ -230,7 +222,7 @@ impl<R: ReadParts> Rules<R> {
 
     /// One segment of a path. In a type `<` may stand for `::<`, and inputs in parentheses may follow.
     #[tactic(auto, unfolding(syn_grammar::specs::Paths::segment), using(syn_grammar::proofs::Depths::depths))]
-    fn segment(&self, tokens: &mut Cursor<'_>, in_type: bool) -> Parsed<PathSegment>
+    pub(crate) fn segment(&self, tokens: &mut Cursor<'_>, in_type: bool) -> Parsed<PathSegment>
         requires { R.reads_within self.now.parts self.now.depth }
         ensures { Reads segment_depth self.now.depth (paths.segment (within self.now.depth) in_type tokens.old) result tokens.new }
     {
@@ -254,12 +246,16 @@ impl<R: ReadParts> Rules<R> {
         requires { R.reads_within self.now.parts self.now.depth }
         ensures { Reads (all_depth segment_depth) self.now.depth (paths.segments (within self.now.depth) in_type tokens.old) result tokens.new }
     {
-        joined_by(
-            self.alloc,
-            tokens,
-            Joint::Colons,
-            |tokens: &mut Cursor<'_>| self.segment(tokens, in_type),
-        )
+        let reader = SegmentReader {
+            rules: self,
+            in_type,
+        };
+        let mut segments = Deepest {
+            inner: &reader,
+            depth: 0,
+        };
+        let found = joined_by(self.alloc, tokens, Joint::Colons, &mut segments)?;
+        Ok((found, segments.depth))
     }
 
     /// A path, of a type or of an expression.
@@ -393,7 +389,7 @@ impl<R: ReadParts> Rules<R> {
 
     /// A lifetime, or a bound that is a path.
     #[tactic(auto, unfolding(syn_grammar::specs::Paths::one_bound), using(syn_grammar::proofs::Depths::depths))]
-    fn one_bound(&self, tokens: &mut Cursor<'_>) -> Parsed<TypeParamBound>
+    pub(crate) fn one_bound(&self, tokens: &mut Cursor<'_>) -> Parsed<TypeParamBound>
         requires { R.reads_within self.now.parts self.now.depth }
         ensures { Reads bound_depth self.now.depth (paths.one_bound (within self.now.depth) tokens.old) result tokens.new }
     {
@@ -410,12 +406,12 @@ impl<R: ReadParts> Rules<R> {
         requires { R.reads_within self.now.parts self.now.depth }
         ensures { Reads (all_depth bound_depth) self.now.depth (paths.joined_bounds (within self.now.depth) tokens.old) result tokens.new }
     {
-        joined_by(
-            self.alloc,
-            tokens,
-            Joint::Plus,
-            |tokens: &mut Cursor<'_>| self.one_bound(tokens),
-        )
+        let mut bounds = Deepest {
+            inner: self,
+            depth: 0,
+        };
+        let found = joined_by(self.alloc, tokens, Joint::Plus, &mut bounds)?;
+        Ok((found, bounds.depth))
     }
 
     /// Bounds joined by `+`; or one alone.

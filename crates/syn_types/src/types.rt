@@ -23,9 +23,10 @@ use node_expr::{
 use node_make::make;
 use std::alloc::Global;
 use syn_grammar::{
-    Cursor, ReadFail, TypeStart, Word, after_one, is_colon, lifetime_of, name_of, type_start,
+    Cursor, ReadFail, TypeStart, Word, after_one, is_colon, is_group, lifetime_of, name_of,
+    type_start,
 };
-use syn_lists::{Parsed, inside, items_after};
+use syn_lists::{Deepest, Parsed, items_after};
 use tok_types::{Delimiter, Ident, Lifetime, Span};
 
 /// `'a`, or nothing
@@ -141,7 +142,7 @@ impl<R: ReadParts> Rules<R> {
 
     /// `T`, `name: T`
     #[tactic(auto, unfolding(syn_grammar::specs::Types::named_arg), using(syn_grammar::proofs::Depths::depths))]
-    fn named_arg(&self, tokens: &mut Cursor<'_>) -> Parsed<NamedArg>
+    pub(crate) fn named_arg(&self, tokens: &mut Cursor<'_>) -> Parsed<NamedArg>
         requires { R.reads_within self.now.parts self.now.depth }
         ensures { Reads (λ arg. type_depth arg.ty) self.now.depth (types.named_arg (within self.now.depth) tokens.old) result tokens.new }
     {
@@ -157,9 +158,14 @@ impl<R: ReadParts> Rules<R> {
         requires { R.reads_within self.now.parts self.now.depth }
         ensures { Reads (all_depth (λ arg. type_depth arg.ty)) self.now.depth (input.inside delimiter.Parenthesis (paths.list (types.named_arg (within self.now.depth))) tokens.old) result tokens.new }
     {
-        inside(tokens, Delimiter::Parenthesis, |tokens: &mut Cursor<'_>| {
-            self.named_arg_list(tokens)
-        })
+        if !is_group(Delimiter::Parenthesis, tokens.rest()) {
+            return Err(ReadFail::Syntax);
+        }
+        let mut inner = tokens.contents();
+        let inputs = self.named_arg_list(&mut inner)?;
+        inner.finish()?;
+        tokens.skip();
+        Ok(inputs)
     }
 
     /// Inputs of a function pointer, to the end.
@@ -167,12 +173,12 @@ impl<R: ReadParts> Rules<R> {
         requires { R.reads_within self.now.parts self.now.depth }
         ensures { Reads (all_depth (λ arg. type_depth arg.ty)) self.now.depth (paths.list (types.named_arg (within self.now.depth)) tokens.old) result tokens.new }
     {
-        items_after(
-            tokens,
-            |tokens: &mut Cursor<'_>| self.named_arg(tokens),
-            Items::new(self.alloc),
-            0,
-        )
+        let mut args = Deepest {
+            inner: self,
+            depth: 0,
+        };
+        let found = items_after(tokens, &mut args, Items::new(self.alloc))?;
+        Ok((found, args.depth))
     }
 
     /// `for<'a> fn(&'a A, name: B) -> C`
@@ -269,9 +275,14 @@ impl<R: ReadParts> Rules<R> {
         ensures { Reads type_depth (self.now.depth + 1) (types.type_in_parentheses (within self.now.depth) tokens.old) result tokens.new }
     {
         let span = tokens.here();
-        inside(tokens, Delimiter::Parenthesis, |tokens: &mut Cursor<'_>| {
-            self.type_group(tokens, span)
-        })
+        if !is_group(Delimiter::Parenthesis, tokens.rest()) {
+            return Err(ReadFail::Syntax);
+        }
+        let mut inner = tokens.contents();
+        let group = self.type_group(&mut inner, span)?;
+        inner.finish()?;
+        tokens.skip();
+        Ok(group)
     }
 
     /// `[T]`, `[T; n]`
@@ -282,9 +293,14 @@ impl<R: ReadParts> Rules<R> {
         ensures { Reads type_depth (self.now.depth + 1) (types.type_in_brackets (within self.now.depth) tokens.old) result tokens.new }
     {
         let span = tokens.here();
-        inside(tokens, Delimiter::Bracket, |tokens: &mut Cursor<'_>| {
-            self.type_bracket(tokens, span)
-        })
+        if !is_group(Delimiter::Bracket, tokens.rest()) {
+            return Err(ReadFail::Syntax);
+        }
+        let mut inner = tokens.contents();
+        let bracket = self.type_bracket(&mut inner, span)?;
+        inner.finish()?;
+        tokens.skip();
+        Ok(bracket)
     }
 
     /// A type. A `dyn` or `impl` has several bounds where `allow_plus` says so, and else one.

@@ -1,5 +1,6 @@
 use Rattle.std.proofs.Common.{rules, true}
-use Rattle.syn_grammar.specs.Depth.{path_depth}
+use Rattle.tok_types.specs.declared.tree.TokenStream.{out-TokenStream}
+use Rattle.syn_grammar.specs.Input.{start_of}
 use Rattle.syn_grammar.specs.Grammar.{max_depth, within}
 use Rattle.syn_grammar.specs.Paths.{path}
 use Rattle.syn_grammar.specs.Trees.{path_of}
@@ -7,4 +8,4 @@ use Rattle.syn_core.proofs.parse.parse_path.Goals as goal
 
 pub returns : goal.returns
 unfolding path_of
-returns c = c.whole.ensures path_depth max_depth (path (within max_depth) true) (record { reads = λ old new r p. search rules })
+returns c = c.whole.ensures (path (within max_depth) true (start_of (out-TokenStream c.args.tokens.now).trees)) (search rules)

@@ -1,10 +1,7 @@
-use Rattle.std.proofs.Common.{rules}
-use Rattle.syn_grammar.specs.Depth.{expr_depth}
-use Rattle.syn_grammar.specs.Grammar.{within}
-use Rattle.syn_grammar.specs.Readers.{any_level}
+use Rattle.std.proofs.Common.{refl}
 use Rattle.syn_rules.proofs.rules.ExprRules.exprs.Goals as goal
 
 pub returns : goal.returns
 returns g c =
-    c.items_after.ensures expr_depth c.args.self.now.rules.depth ((within c.args.self.now.rules.depth).expr any_level)
-    (record { reads = λ old new r p. search rules }) c.requires.depth c.requires.limit
+    let known = c.in_ok-found.ensures.knows (record { same = refl; counted = c.requires.depth; within = c.requires.limit }) in
+    (c.in_ok-found.ensures.gives, known.counted, known.within)
