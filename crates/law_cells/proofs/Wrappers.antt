@@ -10,6 +10,7 @@ use Rattle.meta_nested.specs.Cells.{Cells}
 use Rattle.meta_nested.specs.Dispatch.{by_meta, from_list, from_meta, from_none, from_value}
 use Rattle.meta_nested.specs.declared.nested.NestedMeta.TheVariants as nested
 use Rattle.util_core.specs.Override.{explicit, explicit_meta, override_cells}
+use Rattle.util_core.specs.Pairs.{value_and_meta_cells, value_and_span_cells, value_span}
 use Rattle.machine_host.specs.Rows.{unit_cells}
 use Rattle.machine_host.specs.Wrappers.{box_cells, option_cells, result_cells, result_meta_cells, value_or_meta}
 use Rattle.util_core.specs.declared.over_ride.Override.{Override}
@@ -18,7 +19,7 @@ use Rattle.machine_value.specs.declared.value.Value.{Value as Datum}
 use Rattle.machine_value.specs.declared.value.Value.TheVariants as value
 use Rattle.machine_cells.specs.Shown.{shown_cells}
 use Rattle.machine_cells.specs.Values.{given, kept, kept_meta, spanned, syntax, unit, with_original}
-use Rattle.machine_cells.specs.Wrapped.{given_cells, kept_cells, kept_meta_cells, optional_cells, original_cells, placed, spanned_cells, value_span}
+use Rattle.machine_cells.specs.Wrapped.{given_cells, kept_cells, kept_meta_cells, optional_cells, original_cells, spanned_cells}
 use Rattle.machine_host.specs.Fits.{IsOverrideOf, IsResultOf}
 use Rattle.machine_host.specs.Forms.{Form, HasNone, HasOne, HasTwo, IsFaults, IsOptOf, IsSpan, IsStructOf, IsUnit}
 use Rattle.machine_host.specs.Nodes.{IsMeta}
@@ -136,31 +137,44 @@ module _ (Fits : Form) (cells : Cells Datum) (reads : Reads Fits cells) where
   abbrev pub IsSpanned : Form
   IsSpanned = IsStructOf (codes "SpannedValue") style.Struct (HasTwo (codes "value") Fits (codes "span") IsSpan)
 
-  placed_says : (span : Span) (it : Outcome Datum) → OnValue Fits it → OnValue IsSpanned (placed span it)
-  placed_says span =
-      mapped IsSpanned Fits (λ it. spanned it span)
-      (λ it fits. is_struct (codes "SpannedValue") style.Struct (HasTwo (codes "value") Fits (codes "span") IsSpan) ((codes "value", it) ∷ (codes "span", value.Span (Some span)) ∷ []) ((refl, fits), (refl, is_span (Some span))))
+  abbrev IsPlaced : Datum × Span → Type 0
+  IsPlaced it = Fits it.0
 
-  pub spanned_reads : Reads IsSpanned (spanned_cells cells)
-  spanned_reads = record {
-    meta = λ it listed. at_span IsSpanned _ (placed (value_span it) (from_meta cells it)) (placed_says (value_span it) (from_meta cells it) (reads.meta it listed));
+  placed_says : (span : Span) (it : Outcome Datum) → OnValue Fits it → OnValue IsPlaced (on_value (λ read. (read, span)) it)
+  placed_says span = mapped IsPlaced Fits (λ read. (read, span)) (λ read fits. fits)
+
+  placed_reads : Reads IsPlaced (value_and_span_cells cells)
+  placed_reads = record {
+    meta = λ it listed. at_span IsPlaced _ (on_value (λ read. (read, value_span it)) (from_meta cells it)) (placed_says (value_span it) (from_meta cells it) (reads.meta it listed));
     list = λ items listed. tt;
-    value = λ it listed. at_span IsSpanned _ _ (placed_says _ (from_value cells it) (reads.value it listed));
+    value = λ it listed. at_span IsPlaced _ _ (placed_says _ (from_value cells it) (reads.value it listed));
     invalid_expr = λ it listed. tt;
     none = tt;
   }
+
+  is_spanned : (it : Datum × Span) → IsPlaced it → IsSpanned (spanned it.0 it.1)
+  is_spanned it fits =
+      is_struct (codes "SpannedValue") style.Struct (HasTwo (codes "value") Fits (codes "span") IsSpan) ((codes "value", it.0) ∷ (codes "span", value.Span (Some it.1)) ∷ []) ((refl, fits), (refl, is_span (Some it.1)))
+
+  pub spanned_reads : Reads IsSpanned (spanned_cells cells)
+  spanned_reads = shown_reads IsPlaced IsSpanned (λ it. spanned it.0 it.1) (value_and_span_cells cells) is_spanned placed_reads
 
   -- ---- a `WithOriginal`
 
   abbrev pub IsOriginal : Form
   IsOriginal = IsStructOf (codes "WithOriginal") style.Struct (HasTwo (codes "parsed") Fits (codes "original") IsMeta)
 
-  original_says : (it : Meta) → IsListedMeta it → (read : Outcome Datum) → OnValue Fits read → OnValue IsOriginal (on_value (λ read. with_original read it) read)
-  original_says it listed =
-      mapped IsOriginal Fits (λ read. with_original read it)
-      (λ read fits. is_struct (codes "WithOriginal") style.Struct (HasTwo (codes "parsed") Fits (codes "original") IsMeta) ((codes "parsed", read) ∷ (codes "original", syntax meta_tokens it) ∷ []) ((refl, fits), (refl, is_meta it listed)))
+  abbrev HasMeta : Datum × Meta → Type 0
+  HasMeta it = Fits it.0 × IsListedMeta it.1
+
+  meta_reads : Reads HasMeta (value_and_meta_cells cells)
+  meta_reads =
+      reads_plain HasMeta None (λ items. None) (λ it. None) (λ it. Some (on_value (λ read. (read, it)) (from_meta cells it))) None tt (λ items listed. tt) (λ it listed. tt)
+      (λ it listed. mapped HasMeta Fits (λ read. (read, it)) (λ read fits. (fits, listed)) (from_meta cells it) (reads.meta it listed)) tt
+
+  is_original : (it : Datum × Meta) → HasMeta it → IsOriginal (with_original it.0 it.1)
+  is_original it has =
+      is_struct (codes "WithOriginal") style.Struct (HasTwo (codes "parsed") Fits (codes "original") IsMeta) ((codes "parsed", it.0) ∷ (codes "original", syntax meta_tokens it.1) ∷ []) ((refl, has.0), (refl, is_meta it.1 has.1))
 
   pub original_reads : Reads IsOriginal (original_cells cells)
-  original_reads =
-      reads_plain IsOriginal None (λ items. None) (λ it. None) (λ it. Some (on_value (λ read. with_original read it) (from_meta cells it))) None tt (λ items listed. tt) (λ it listed. tt)
-      (λ it listed. original_says it listed (from_meta cells it) (reads.meta it listed)) tt
+  original_reads = shown_reads HasMeta IsOriginal (λ it. with_original it.0 it.1) (value_and_meta_cells cells) is_original meta_reads

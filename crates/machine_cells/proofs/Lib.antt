@@ -1,2 +1,1 @@
 pub mod Showing
-pub use Rattle.util_core.proofs.MapLemmas

@@ -18,7 +18,7 @@ use Rattle.util_core.specs.NestedMeta.TheVariants as nested
 use Rattle.util_core.specs.Cells.{Cells}
 use Rattle.util_core.specs.Dispatch as read
 use Rattle.util_core.specs.Groups.{without_groups}
-use Rattle.machine_cells.specs.Shown.{shown, shown_cells}
+use Rattle.util_core.specs.Shown.{shown, shown_cells}
 use Rattle.machine_cells.specs.Laws.{Shows}
 
 module _ {A B : Type 0} (show : A → B) where

@@ -10,7 +10,7 @@ use Rattle.util_core.specs.MetaNameValueInvalidExpr.{MetaNameValueInvalidExpr}
 use Rattle.util_core.specs.NestedMeta.{NestedMeta}
 use Rattle.util_core.specs.Cells.{Cells}
 use Rattle.util_core.specs.Dispatch as read
-use Rattle.machine_cells.specs.Shown.{shown_cells}
+use Rattle.util_core.specs.Shown.{shown_cells}
 
 -- at each of the calls
 pub record Shows {A B : Type 0} (show : A → B) (cells : Cells A) : Type 0 where

@@ -1,5 +1,5 @@
 -- The types of the table that hold no type that is read on its own: their cells, each value as it is shown.
-use Rattle.std.specs.Prelude.{List, Some}
+use Rattle.std.specs.Prelude.{List}
 use Rattle.tok_types.specs.Ident.{ident_text}
 use Rattle.tok_types.specs.declared.tree.TokenTree.{TokenTree}
 use Rattle.node_expr.specs.declared.path.Path.{Path}
@@ -14,8 +14,7 @@ use Rattle.print_core.specs.Marks.{ident, literal}
 use Rattle.print_core.specs.Nodes.{expr_tokens, expr_path_tokens, path_tokens, type_array_tokens, type_path_tokens, type_tokens}
 use Rattle.print_core.specs.Types.{never_rule, type_infer_rule}
 use Rattle.print_core.specs.declared.path.PathStyle.TheVariants.{Plain}
-use Rattle.error_fault.specs.Outcome.{Value}
-use Rattle.util_core.specs.Cells.{Cells, no_cells}
+use Rattle.util_core.specs.Cells.{Cells}
 use Rattle.util_core.specs.MetaReadsExprs.{ident_cells, path_cells, expr_cells, type_path_cells}
 use Rattle.util_core.specs.Syntax.{where_predicates_cells}
 use Rattle.util_core.specs.Keys.{ident_same, path_same}
@@ -26,6 +25,7 @@ use Rattle.util_core.specs.Rows as row
 use Rattle.util_core.specs.Callable.{callable_cells}
 use Rattle.util_core.specs.Exprs.{preserved_cells}
 use Rattle.util_core.specs.Flag.{flag_cells}
+use Rattle.util_core.specs.Ignored as read
 use Rattle.util_core.specs.IdentString.{ident_string_cells}
 use Rattle.machine_rows.specs.declared.leaf.Integer.{Integer}
 use Rattle.machine_rows.specs.declared.leaf.Integer.TheVariants as width
@@ -46,7 +46,7 @@ use Rattle.machine_rows.specs.declared.leaf.VecItem.TheVariants as vec
 use Rattle.machine_value.specs.declared.value.Value.{Value as Datum}
 use Rattle.machine_value.specs.declared.value.Value.TheVariants as value
 use Rattle.machine_cells.specs.Maps.{names_cells}
-use Rattle.machine_cells.specs.Shown.{shown_cells}
+use Rattle.util_core.specs.Shown.{shown_cells}
 use Rattle.machine_cells.specs.Values.{flag, ignored, integer, natural, naturals, syntax, syntax_list}
 
 -- the tokens of a path where no expression is meant
@@ -156,7 +156,7 @@ punctuated_cells listed.FnArg = shown_cells (punctuated_value fn_arg_tokens) row
 
 -- every meta, which is not looked at
 abbrev pub ignored_cells : Cells Datum
-ignored_cells = record no_cells { meta = λ it. Some (Value ignored) }
+ignored_cells = shown_cells (λ it. ignored) read.ignored_cells
 
 -- the table
 abbrev pub leaf_cells : Leaf → Cells Datum

@@ -5,11 +5,12 @@ use Rattle.base_core.specs.declared.text.Text.{Text}
 use Rattle.tok_types.specs.declared.span.Span.{Span}
 use Rattle.tok_types.specs.declared.tree.TokenTree.{TokenTree}
 use Rattle.node_expr.specs.declared.path.Path.{Path}
-use Rattle.error_fault.specs.Outcome.{Outcome, Value, on_value, settle, value_of}
+use Rattle.error_fault.specs.Outcome.{Outcome, Value, settle, value_of}
 use Rattle.util_core.specs.NestedMeta.{NestedMeta}
 use Rattle.util_core.specs.Cells.{Cells, no_cells}
-use Rattle.util_core.specs.Maps.{read_entries}
+use Rattle.util_core.specs.Maps.{entries_cells}
 use Rattle.util_core.specs.Sets.{set_faults}
+use Rattle.util_core.specs.Shown.{shown_cells}
 use Rattle.machine_value.specs.declared.value.Value.{Value as Datum}
 use Rattle.machine_value.specs.declared.value.Value.TheVariants as value
 use Rattle.machine_cells.specs.Texts.{by_text}
@@ -21,7 +22,7 @@ map_value text entries = value.Map (by_text (map (λ entry. (text entry.0, entry
 
 -- the items of a list, each a key with what the type reads behind it
 abbrev pub map_cells : {K : Type 0} → (K → K → Bool) → (K → Text) → (Path → Outcome K) → Cells Datum → Cells Datum
-map_cells same text key_of cells = record no_cells { list = λ items. Some (on_value (map_value text) (read_entries same text key_of cells items)) }
+map_cells same text key_of cells = shown_cells (map_value text) (entries_cells same text key_of cells)
 
 -- names in the order of their texts, each as its tokens
 abbrev pub names_value : {A : Type 0} → (A → Text) → (A → List TokenTree) → List A → Datum

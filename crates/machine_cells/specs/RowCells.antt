@@ -9,7 +9,7 @@ use Rattle.machine_rows.specs.declared.row.Row.TheFolds.{fold-Row}
 use Rattle.machine_rows.specs.declared.row.Row.TheOpen.{Row-F}
 use Rattle.machine_value.specs.declared.value.Value.{Value as Datum}
 use Rattle.machine_cells.specs.Leaves.{leaf_cells}
-use Rattle.machine_cells.specs.Shown.{shown_cells}
+use Rattle.util_core.specs.Shown.{shown_cells}
 use Rattle.machine_cells.specs.Values.{unit}
 use Rattle.machine_cells.specs.Wrapped.{given_cells, hash_map_cells, kept_cells, kept_meta_cells, optional_cells, original_cells, spanned_cells, tree_map_cells}
 

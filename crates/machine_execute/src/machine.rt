@@ -163,6 +163,13 @@ impl<H: Host, D: Declared> Reader for UnitReader<'_, H, D> {
     ghost use Rattle.std.specs.Prelude.{Some};
     ghost use Rattle.machine_read.specs.Cells.{no_cells};
     ghost use Rattle.machine_read.specs.Machine.{read_list, setting_of};
+    ghost use Rattle.machine_value.specs.declared.value.Value.{Value as Datum};
+
+    type Value = Value;
+
+    ghost Seen = { Datum };
+
+    ghost seen = { λ it. it };
 
     ghost cells = { λ it. record no_cells { list = λ items. Some (read_list (setting_of (H.says it.context.now.host.now) it.context.now.program.now) (D.earlier it.earlier.now) (Some it.unit.now) items) } };
 

@@ -1,3 +1,2 @@
 pub mod Sorting
 pub mod Names
-pub use Rattle.machine_cells.proofs.MapLemmas

@@ -13,7 +13,10 @@ mod table;
 mod words;
 
 pub use default::leaf_default;
-pub use machine_cells::{Callable, KeySet, MapKey, read_key};
+pub use machine_cells::{
+    Callable, KeyFromPath, Override, Reader, box_cell, entries_cell, option_cell, override_cell,
+    result_cell, result_meta_cell, value_and_meta_cell, value_and_span_cell,
+};
 pub use order::in_order;
 pub use shown::syntax_value;
 pub use table::{leaf_cell, unit_cell};

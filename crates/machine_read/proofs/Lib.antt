@@ -1,4 +1,3 @@
-mod Entries
 mod Faults
 mod Layers
 pub use Rattle.machine_steps.proofs.Statements

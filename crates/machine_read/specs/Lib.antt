@@ -1,4 +1,3 @@
-pub mod Asked
 pub mod Entries
 pub mod Layers
 pub mod Scopes

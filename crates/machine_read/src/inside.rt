@@ -4,14 +4,12 @@ ghost use Rattle.meta_nested.specs.Cells.{AnswersCell, cell_at};
 ghost use Rattle.machine_read.specs.Scopes.{cells_of, seen_setting};
 ghost use Rattle.machine_steps.specs.Convert.{declared_cells};
 
-use crate::around;
 use crate::declared::Declared;
 use crate::layer::{Layer, layer_of};
-use crate::reader::Reader;
 use crate::scope::Scope;
 use crate::wrapped::wrapper_cell;
 use error_core::{Fail, Result};
-use machine_leaf::{leaf_cell, unit_cell};
+use machine_leaf::{Reader, leaf_cell, unit_cell};
 use machine_rows::Row;
 use machine_steps::Host;
 use machine_value::Value;
@@ -38,6 +36,12 @@ where
     ghost use Rattle.meta_nested.specs.Cells.{AnswersCell, cell_at};
     ghost use Rattle.meta_nested.specs.declared.call.Call.{Call as CallSeen};
     ghost use Rattle.machine_read.specs.Scopes.{cells_of, seen_setting};
+
+    type Value = Value;
+
+    ghost Seen = { Datum };
+
+    ghost seen = { λ it. it };
 
     ghost cells = { λ it. cells_of (seen_setting (H.says it.scope.now.setting.host.now) it.scope.now.setting.decls.now) (D.earlier it.scope.now.declared.now) it.row.now };
 
@@ -92,7 +96,10 @@ fn declared_cell<H, D: Declared>(
     ensures { AnswersCell (λ it. it) result (cell_at (declared_cells (D.earlier scope.now.declared.now) number) call.entry) }
 {
     match call {
-        Call::List(items) => around::same(scope.declared.list(scope.alloc, room, number, items)),
+        Call::List(items) => {
+            let value = scope.declared.list(scope.alloc, room, number, items)?;
+            Ok(Some(value))
+        }
         _ => Ok(None),
     }
 }

@@ -4,23 +4,20 @@
 //! are read under: the host and the declarations of the program, and what the declarations of lower numbers read.
 #![tactic(auto)]
 
-mod around;
 mod declared;
 mod inside;
 mod layer;
-mod map;
-mod reader;
 mod scope;
 mod setting;
+mod shown;
 mod values;
 mod wrapped;
 
 pub use declared::Declared;
-pub use machine_leaf::Callable;
+pub use machine_leaf::{Callable, Reader};
 pub use machine_steps::{
     Arg, Host, HostItem, Place, RefusingHost, Said, Use, named_type, what_fits_a_type,
 };
 pub use meta_nested::{Call, NestedMeta, items_of};
-pub use reader::Reader;
 pub use scope::Scope;
 pub use setting::Setting;

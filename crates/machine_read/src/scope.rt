@@ -15,12 +15,11 @@ ghost use Rattle.machine_value.specs.declared.value.Value.{Value as Datum};
 
 use crate::declared::Declared;
 use crate::inside::{Inside, row_cell};
-use crate::reader::Reader;
 use crate::setting::Setting;
 use base_core::{Mem, TryClone};
 use codegen_program::PostfixTransform;
 use error_core::{Fail, Result};
-use machine_leaf::Callable;
+use machine_leaf::{Callable, Reader};
 use machine_steps::{Arg, Host, Use};
 use machine_value::Value;
 use meta_nested::{MetaNameValueInvalidExpr, NestedMeta, spanned};

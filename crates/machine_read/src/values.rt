@@ -1,4 +1,4 @@
-//! How what is read is shown as a value.
+//! How what a type around another reads is shown as a value.
 
 ghost use Rattle.std.specs.Prelude.{◌≡◌, ◌∷◌, ◌++◌, [], IfOk, OnOk, codes};
 ghost use Rattle.print_core.specs.Items.{meta_tokens};

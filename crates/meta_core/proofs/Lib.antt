@@ -1,5 +1,3 @@
-pub mod EntryLemmas
-pub mod MapLemmas
 pub mod SetLemmas
 pub mod TableLemmas
 pub use Rattle.meta_nested.proofs.PlaceLemmas

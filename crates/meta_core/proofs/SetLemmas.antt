@@ -5,8 +5,8 @@ use Rattle.base_core.specs.declared.text.Text.{Text}
 use Rattle.tok_types.specs.declared.span.Span.{Span}
 use Rattle.error_fault.specs.declared.fault.Fault.{Fault}
 use Rattle.error_fault.specs.Outcome.{Outcome, Value, Faults, faults_of, value_of}
-use Rattle.meta_core.specs.KnownKeys.{Knows}
-use Rattle.meta_core.specs.Maps.{is_among, repeated, with_key}
+use Rattle.meta_reads.specs.KnownKeys.{Knows}
+use Rattle.meta_reads.specs.Maps.{is_among, repeated, with_key}
 use Rattle.meta_core.specs.Sets.{is_name, name_faults}
 
 pub or_swap : (a b : Bool) → (a || b) ≡ (b || a)

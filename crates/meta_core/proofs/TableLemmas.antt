@@ -9,8 +9,8 @@ use Rattle.std.specs.BTreeMap.{insert_entry}
 use Rattle.std.specs.HashMap.{HashMap, Updates}
 use Rattle.std.specs.List.{fold}
 use Rattle.std.specs.Map.{lookup, update, update_all, IsKeyTest, AreApart, KeepsOthers}
-use Rattle.meta_core.specs.KnownKeys.{IsOrder}
-use Rattle.meta_core.specs.Maps.{seen_entries, seen_table}
+use Rattle.meta_reads.specs.KnownKeys.{IsOrder}
+use Rattle.meta_reads.specs.Maps.{seen_entries, seen_table}
 
 pub seen_insert : {K X S A : Type 0} (cmp : K → K → Ordering) (see_key : K → S) (see : X → A) (order : S → S → Ordering) → IsOrder cmp see_key order
     → (entries : List (K × X)) (key : K) (value : X)

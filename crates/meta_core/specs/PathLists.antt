@@ -10,7 +10,7 @@ use Rattle.meta_nested.specs.Nodes.{nested_span}
 use Rattle.meta_nested.specs.declared.nested.NestedMeta.{NestedMeta}
 use Rattle.meta_nested.specs.declared.nested.NestedMeta.TheVariants as nested
 use Rattle.meta_nested.specs.Cells.{Cells, no_cells}
-use Rattle.meta_core.specs.Keys.{path_same}
+use Rattle.meta_reads.specs.Keys.{path_same}
 use Rattle.error_core.specs.Each.{each}
 
 -- the path that an item is; another item is a fault at its place

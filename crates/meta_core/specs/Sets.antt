@@ -7,7 +7,7 @@ use Rattle.error_fault.specs.Outcome.{Outcome, Value, Faults, settle}
 use Rattle.error_fault.specs.declared.fault.Fault.{Fault}
 use Rattle.meta_nested.specs.declared.nested.NestedMeta.{NestedMeta}
 use Rattle.meta_nested.specs.Cells.{Cells, no_cells}
-use Rattle.meta_core.specs.Maps.{repeated, with_key}
+use Rattle.meta_reads.specs.Maps.{repeated, with_key}
 
 -- whether what is read is this name
 abbrev pub is_name : {A : Type 0} → (A → A → Bool) → A → Outcome A → Bool

@@ -4,24 +4,24 @@
 //! its [`cell`](FromMeta::cell)s, and many types of std and of syntax are read so here.
 #![tactic(auto)]
 
+mod by_type;
 mod from_meta;
 mod from_meta_tag;
-mod key;
-mod map_key;
 mod path_list;
 mod rows;
 
 pub use base_core::{Boxed, Items, Mem, Text, TryClone};
+pub use by_type::ByType;
 pub use error_core::{Error, Fail, Result};
 pub use from_meta::FromMeta;
 pub use from_meta_tag::{FromMetaTag, FromMetaTagAll};
-pub use key::KeyFromPath;
-pub use map_key::{KeySet, MapKey};
 pub use meta_nested::{
     Call, MetaNameValueInvalidExpr, NestedMeta, items_of, spanned, without_groups,
 };
 pub use meta_reads::{
-    read_non_zero_signed, read_non_zero_unsigned, read_signed, read_unsigned, tokens_of_text,
+    KeyFromPath, KeySet, MapKey, Reader, SortedKey, box_cell, entries_cell, option_cell,
+    read_non_zero_signed, read_non_zero_unsigned, read_signed, read_unsigned, result_cell,
+    result_meta_cell, tokens_of_text,
 };
 pub use node_core::{
     Comma, Meta, MetaList, MetaNameValue, Punctuated, SynError, TypeParam, Visibility, WhereClause,
@@ -36,7 +36,6 @@ pub use node_expr::{
 pub use node_make::path_to_string;
 pub use node_span::Spanned;
 pub use path_list::{Intersection, PathList};
-pub use rows::read_key;
 pub use syn_core::{Parse, ParseFail, parse_expr, parse_items, parse_path};
 pub use syn_items::item_front;
 pub use tok_types::{Ident, Span, TokenStream};

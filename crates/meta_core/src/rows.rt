@@ -1,6 +1,5 @@
 //! The types that are read: one implementation a row of the conversions.
 
-mod entries;
 mod literals;
 mod maps;
 mod name_lists;
@@ -14,5 +13,3 @@ mod unsigned;
 mod vectors;
 mod words;
 mod wrappers;
-
-pub use entries::read_key;

@@ -2,3 +2,5 @@ pub mod Read
 pub mod Characters
 pub mod Faults
 pub mod Numerals
+pub mod EntryLemmas
+pub mod MapLemmas

@@ -5,3 +5,9 @@ pub mod Exprs
 pub mod Literals
 pub mod Words
 pub mod Integers
+pub mod Asked
+pub mod Keys
+pub mod KnownKeys
+pub mod Shown
+pub mod Maps
+pub mod Wrappers

@@ -39,7 +39,7 @@ impl Searched for Ignored {
 
 /// Every meta. The tokens of a list are not looked at.
 impl FromMeta for Ignored {
-    ghost use Rattle.options_types.specs.Ignored.{ignored_cells};
+    ghost use Rattle.util_core.specs.Ignored.{ignored_cells};
 
     ghost Seen = { Unit {0} };
 

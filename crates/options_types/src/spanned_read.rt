@@ -9,11 +9,11 @@ use body_core::{
     FromDeriveInput, FromField, FromGenericParam, FromGenerics, FromTypeParam, FromVariant,
 };
 use error_core::Result;
-use node_core::{DeriveInput, Field, GenericParam, Generics, Meta, TypeParam, Variant};
+use node_core::{DeriveInput, Field, GenericParam, Generics, TypeParam, Variant};
 use node_span::Spanned;
 use std::alloc::Global;
 use tok_types::Span;
-use util_core::{Call, FromMeta, spanned};
+use util_core::{ByType, Call, FromMeta, spanned, value_and_span_cell};
 
 /// What the type inside reads, and where it stands: the word, the tokens of the list, the value behind the `=`, or the
 /// whole item.
@@ -28,25 +28,10 @@ impl<T: FromMeta> FromMeta for SpannedValue<T> {
     ghost cells = { spanned_cells T.cells };
 
     fn cell(alloc: Global, call: Call<'_>) -> Result<Option<SpannedValue<T>>> {
-        let (value, span) = match call {
-            Call::Value(lit) => (T::from_value(alloc, lit)?, lit.spanned()),
-            Call::Expr(expr) => (T::from_expr(alloc, expr)?, expr.spanned()),
-            Call::Meta(item) => (T::from_meta(alloc, item)?, value_span(item)),
-            Call::NestedMeta(item) => (T::from_nested_meta(alloc, item)?, item.spanned()),
-            _ => return Ok(None),
-        };
-        Ok(Some(SpannedValue::new(value, span)))
-    }
-}
-
-/// Where the value of a meta stands.
-fn value_span(item: &Meta) -> Span
-    ensures { result ≡ spec.value_span item.now }
-{
-    match item {
-        Meta::Path(path) => path.spanned(),
-        Meta::List(list) => list.tokens.spanned(),
-        Meta::NameValue(pair) => pair.value.spanned(),
+        match value_and_span_cell(alloc, &ByType::<T>::new(), call)? {
+            Some((value, span)) => Ok(Some(SpannedValue::new(value, span))),
+            None => Ok(None),
+        }
     }
 }
 

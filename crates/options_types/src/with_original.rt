@@ -11,7 +11,7 @@ use body_usage::{Mentions, Searched};
 use error_core::Result;
 use node_core::{DeriveInput, Field, GenericParam, Generics, Meta, TypeParam, Variant};
 use std::alloc::Global;
-use util_core::{Call, FromMeta};
+use util_core::{ByType, Call, FromMeta, value_and_meta_cell};
 
 /// A value, and the syntax that it was read from.
 #[derive(Drop)]
@@ -60,12 +60,10 @@ impl<T: FromMeta> FromMeta for WithOriginal<T, Meta> {
     ghost cells = { original_cells T.cells };
 
     fn cell(alloc: Global, call: Call<'_>) -> Result<Option<WithOriginal<T, Meta>>> {
-        let Call::Meta(item) = call else {
-            return Ok(None);
-        };
-        let original = item.try_clone(alloc)?;
-        let parsed = T::from_meta(alloc, item)?;
-        Ok(Some(WithOriginal { parsed, original }))
+        match value_and_meta_cell(alloc, &ByType::<T>::new(), call)? {
+            Some((parsed, original)) => Ok(Some(WithOriginal { parsed, original })),
+            None => Ok(None),
+        }
     }
 }
 

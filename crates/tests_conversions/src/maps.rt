@@ -3,7 +3,8 @@
 use crate::asked::{item_of, rows};
 use crate::shown::{Debugged, Printed};
 use error_core::{Expr, Path, Text};
-use meta_core::{FromMeta, Ident};
+use meta_core::{FromMeta, Ident, KeyFromPath, MapKey, Mem, Result as Answer, SortedKey, TryClone};
+use std::alloc::Global;
 use std::collections::{BTreeMap, HashMap};
 use std::test::Fail;
 use tests_checks::Tested;
@@ -54,6 +55,51 @@ ignore(first, the::second = false) => first=true;the::second=false;"#;
 const EXPRS: &str = "// btree_map_expr_values_succeed
 ignore(hello = 2 + 2, world = x.foo()) => hello=2 + 2;world=x . foo ();";
 
+/// A key of one's own: the text of a path.
+#[derive(PartialEq, Eq, PartialOrd, Ord, Hash, Drop)]
+struct Name(Text);
+
+impl KeyFromPath for Name {
+    ghost Seen = { ⟦<Text as KeyFromPath>⟧.Seen };
+
+    ghost seen = { λ name. ⟦<Text as KeyFromPath>⟧.seen name.0 };
+
+    ghost key = { ⟦<Text as KeyFromPath>⟧.key };
+
+    ghost same = { ⟦<Text as KeyFromPath>⟧.same };
+
+    ghost text = { ⟦<Text as KeyFromPath>⟧.text };
+
+    ghost order = { ⟦<Text as KeyFromPath>⟧.order };
+
+    fn from_path(alloc: Global, path: &Path) -> Answer<Name> {
+        Ok(Name(Text::from_path(alloc, path)?))
+    }
+
+    fn to_display(&self, alloc: Global) -> Mem<Text> {
+        self.0.to_display(alloc)
+    }
+}
+
+impl MapKey for Name {
+    ghost use Rattle.std.specs.Prelude.{refl};
+    ghost use Rattle.std.specs.Cmp.Lexicographic.{nat_list_eq_equiv};
+
+    ghost same_is = { λ a b. refl };
+
+    ghost same_laws = { nat_list_eq_equiv };
+
+    fn copy(&self, alloc: Global) -> Mem<Name> {
+        Ok(Name(self.0.try_clone(alloc)?))
+    }
+}
+
+impl SortedKey for Name {
+    ghost use Rattle.std.specs.Prelude.{refl};
+
+    ghost order_is = { λ a b. refl };
+}
+
 type One<V> = BTreeMap<Text, V>;
 
 type Two<V> = BTreeMap<Text, One<V>>;
@@ -81,10 +127,12 @@ fn maps(rt: HostRuntime) -> Tested<()> {
     rows::<BTreeMap<String, Expr>, BTreeMap<String, Printed>>(alloc, &[EXPRS])?;
     rows::<BTreeMap<Ident, bool>, BTreeMap<Ident, Debugged>>(alloc, &[IDENTS])?;
     rows::<Eight<bool>, Eight<Debugged>>(alloc, &[EIGHT])?;
+    rows::<BTreeMap<Name, bool>, BTreeMap<Name, Debugged>>(alloc, &[TEXTS])?;
     rows::<HashMap<Text, bool>, HashMap<Text, Debugged>>(alloc, &[TEXTS])?;
     rows::<HashMap<String, bool>, HashMap<String, Debugged>>(alloc, &[TEXTS])?;
     rows::<HashMap<Ident, bool>, HashMap<Ident, Debugged>>(alloc, &[IDENTS])?;
     rows::<HashMap<Path, bool>, HashMap<Path, Debugged>>(alloc, &[PATHS])?;
+    rows::<HashMap<Name, bool>, HashMap<Name, Debugged>>(alloc, &[TEXTS])?;
     Ok(())
 }
 

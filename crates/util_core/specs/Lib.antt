@@ -4,8 +4,10 @@ pub mod Exprs
 pub mod ExtractOption
 pub mod Flag
 pub mod IdentString
+pub mod Ignored
 pub mod Lending
 pub mod Override
+pub mod Pairs
 pub use Rattle.meta_core.specs.Call
 pub use Rattle.meta_core.specs.Cells
 pub use Rattle.meta_core.specs.Dispatch
@@ -13,7 +15,6 @@ pub use Rattle.meta_core.specs.Exprs as MetaReadsExprs
 pub use Rattle.meta_core.specs.Groups
 pub use Rattle.meta_core.specs.Integers
 pub use Rattle.meta_core.specs.Keys
-pub use Rattle.meta_core.specs.KnownKeys
 pub use Rattle.meta_core.specs.Lists
 pub use Rattle.meta_core.specs.Maps
 pub use Rattle.meta_core.specs.MetaNameValueInvalidExpr
@@ -24,6 +25,7 @@ pub use Rattle.meta_core.specs.PathLists
 pub use Rattle.meta_core.specs.Places
 pub use Rattle.meta_core.specs.Rows
 pub use Rattle.meta_core.specs.Sets
+pub use Rattle.meta_core.specs.Shown
 pub use Rattle.meta_core.specs.Syntax
 pub use Rattle.meta_core.specs.Wrappers
 pub use Rattle.meta_core.specs.declared.path_list.PathList

@@ -3,12 +3,13 @@
 ghost use Rattle.std.specs.Prelude.{◌≡◌, is_some, unwrap_or, MatchOption};
 ghost use Rattle.std.specs.Option.{ForNone, UnwrapsOrElse};
 ghost use Rattle.std.specs.Borrow.{sem};
+ghost use Rattle.meta_core.specs.Cells.{AnswersCell, cell_at};
 ghost use Rattle.util_core.specs.Override as spec;
 ghost use Rattle.util_core.specs.Lending.{lends_explicit};
 
 use base_core::{Mem, TryClone};
 use error_core::Result;
-use meta_core::{Call, FromMeta};
+use meta_core::{ByType, Call, FromMeta, Reader};
 use node_core::Meta;
 use std::alloc::Global;
 use std::fmt::{self, Display};
@@ -156,18 +157,30 @@ impl<T: FromMeta> FromMeta for Override<T> {
     ghost cells = { override_cells T.cells };
 
     fn cell(alloc: Global, call: Call<'_>) -> Result<Option<Override<T>>> {
-        let value = match call {
-            Call::Word => return Ok(Some(Override::Inherit)),
-            Call::List(items) => T::from_list(alloc, items)?,
-            Call::String(text, span) => T::from_text(alloc, text, span)?,
-            Call::Char(value) => T::from_char(alloc, value)?,
-            Call::Bool(value) => T::from_bool(alloc, value)?,
-            Call::Value(lit) => T::from_value(alloc, lit)?,
-            Call::Expr(expr) => T::from_expr(alloc, expr)?,
-            Call::Meta(Meta::Path(_)) => return Ok(None),
-            Call::Meta(item) => T::from_meta(alloc, item)?,
-            _ => return Ok(None),
-        };
-        Ok(Some(Override::Explicit(value)))
+        override_cell(alloc, &ByType::<T>::new(), call)
     }
+}
+
+/// A word inherits; what else is asked is given, as the type inside reads it.
+pub fn override_cell<R: Reader>(
+    alloc: Global,
+    inner: &R,
+    call: Call<'_>,
+) -> Result<Option<Override<R::Value>>>
+    requires { R.is_callable inner.now }
+    ensures { AnswersCell (spec.on_explicit R.seen) result (cell_at (spec.override_cells (R.cells inner.now)) call.entry) }
+{
+    let value = match call {
+        Call::Word => return Ok(Some(Override::Inherit)),
+        Call::List(items) => inner.from_list(alloc, items)?,
+        Call::String(text, span) => inner.from_text(alloc, text, span)?,
+        Call::Char(value) => inner.from_char(alloc, value)?,
+        Call::Bool(value) => inner.from_bool(alloc, value)?,
+        Call::Value(lit) => inner.from_value(alloc, lit)?,
+        Call::Expr(expr) => inner.from_expr(alloc, expr)?,
+        Call::Meta(Meta::Path(_)) => return Ok(None),
+        Call::Meta(item) => inner.from_meta(alloc, item)?,
+        _ => return Ok(None),
+    };
+    Ok(Some(Override::Explicit(value)))
 }

@@ -5,17 +5,16 @@ ghost use Rattle.std.specs.HashSet.{contains};
 ghost use Rattle.error_fault.specs.Outcome.{Value, settle};
 ghost use Rattle.error_core.specs.Answers.{Answers};
 ghost use Rattle.error_core.specs.ErrorView.{held};
-ghost use Rattle.meta_core.specs.KnownKeys.{Knows};
-ghost use Rattle.meta_core.specs.Maps.{repeated};
+ghost use Rattle.meta_reads.specs.KnownKeys.{Knows};
+ghost use Rattle.meta_reads.specs.Maps.{repeated};
 ghost use Rattle.meta_core.specs.Sets.{is_item, is_name, name_faults, set_faults};
 
 use crate::from_meta::FromMeta;
-use crate::map_key::MapKey;
-use crate::rows::entries::push_repeat;
 use crate::rows::name_lists::{Name, collect_name};
 use base_core::Mem;
 use error_core::{Accumulator, Error, Fail, Result};
 use meta_nested::{Call, NestedMeta};
+use meta_reads::{MapKey, push_repeat};
 use node_expr::Path;
 use node_span::Spanned;
 use std::alloc::Global;
@@ -29,7 +28,7 @@ impl FromMeta for HashSet<Ident> {
     ghost use Rattle.std.specs.HashSet.{contains};
     ghost use Rattle.tok_types.specs.Ident.{ident_text};
     ghost use Rattle.tok_types.specs.declared.ident.Ident.{Ident};
-    ghost use Rattle.meta_core.specs.Keys.{ident_same};
+    ghost use Rattle.meta_reads.specs.Keys.{ident_same};
     ghost use Rattle.meta_core.specs.Lists.{ident_item};
     ghost use Rattle.meta_core.specs.Sets.{set_cells};
 
@@ -54,7 +53,7 @@ impl FromMeta for HashSet<Path> {
     ghost use Rattle.node_expr.specs.declared.path.Path.{Path};
     ghost use Rattle.node_make.specs.PathText.{path_text};
     ghost use Rattle.node_span.specs.Spanned.{path_span};
-    ghost use Rattle.meta_core.specs.Keys.{path_same};
+    ghost use Rattle.meta_reads.specs.Keys.{path_same};
     ghost use Rattle.meta_core.specs.Lists.{path_item};
     ghost use Rattle.meta_core.specs.Sets.{set_cells};
 

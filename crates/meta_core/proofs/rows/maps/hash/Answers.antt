@@ -1,7 +1,7 @@
 use Rattle.std.proofs.Common.{ap}
 use Rattle.std.specs.Map.{update_all}
 use Rattle.std.specs.Vec.Iter.{into_iter_items}
-use Rattle.meta_core.specs.Maps.{seen_entries, seen_table}
+use Rattle.meta_reads.specs.Maps.{seen_entries, seen_table}
 use Rattle.meta_core.proofs.TableLemmas.{table-more}
 use Rattle.meta_core.proofs.rows.maps.hash.Goals as goal
 

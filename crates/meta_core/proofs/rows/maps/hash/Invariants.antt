@@ -1,7 +1,7 @@
 use Rattle.std.proofs.Common.{◌≡◌}
 use Rattle.std.specs.Map.{update_all}
 use Rattle.std.specs.Vec.Iter.{into_iter_items}
-use Rattle.meta_core.specs.Maps.{looked_up, seen_entries, seen_table}
+use Rattle.meta_reads.specs.Maps.{looked_up, seen_entries, seen_table}
 use Rattle.meta_core.proofs.rows.maps.hash.Given as goal
 
 abbrev pub invariant-loop-key : goal.invariant-loop-key

@@ -3,9 +3,9 @@ use Rattle.std.specs.Prelude.{◌||◌}
 use Rattle.std.specs.HashSet.{contains}
 use Rattle.std.specs.List.{list_any}
 use Rattle.error_core.specs.ErrorView.{held}
-use Rattle.meta_core.specs.Maps.{with_key}
+use Rattle.meta_reads.specs.Maps.{with_key}
 use Rattle.meta_core.specs.Sets.{is_item, is_name, name_faults, set_faults}
-use Rattle.meta_core.proofs.MapLemmas.{left_here}
+use Rattle.meta_reads.proofs.MapLemmas.{left_here}
 use Rattle.meta_core.proofs.SetLemmas.{knows-with, or_regroup}
 use Rattle.meta_core.proofs.rows.name_sets.collect_set.Goals as goal
 

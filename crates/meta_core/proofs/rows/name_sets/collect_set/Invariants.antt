@@ -2,7 +2,7 @@ use Rattle.std.proofs.Common.{◌≡◌, List, [], ◌++◌, drop}
 use Rattle.std.specs.Prelude.{◌||◌}
 use Rattle.std.specs.HashSet.{contains}
 use Rattle.error_core.specs.ErrorView.{held}
-use Rattle.meta_core.specs.KnownKeys.{Knows}
+use Rattle.meta_reads.specs.KnownKeys.{Knows}
 use Rattle.meta_core.specs.Sets.{is_item, set_faults}
 use Rattle.meta_core.proofs.rows.name_sets.collect_set.Given as goal
 

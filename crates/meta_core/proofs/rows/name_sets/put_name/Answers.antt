@@ -4,7 +4,7 @@ use Rattle.std.specs.HashSet.{contains}
 use Rattle.error_fault.specs.Fault.{at_span}
 use Rattle.error_fault.specs.declared.kind.FaultKind.TheVariants.{DuplicateField}
 use Rattle.error_core.specs.ErrorView.{held}
-use Rattle.meta_core.specs.Maps.{repeated}
+use Rattle.meta_reads.specs.Maps.{repeated}
 use Rattle.meta_core.proofs.SetLemmas.{or_put}
 use Rattle.meta_core.proofs.rows.name_sets.put_name.Goals as goal
 

@@ -5,7 +5,7 @@ use Rattle.error_fault.specs.Outcome.{Value, settle}
 use Rattle.error_core.specs.Answers.{Answers}
 use Rattle.error_core.specs.ErrorView.{held}
 use Rattle.meta_core.specs.Sets.{is_item, set_faults}
-use Rattle.meta_core.proofs.MapLemmas.{finished}
+use Rattle.meta_reads.proofs.MapLemmas.{finished}
 use Rattle.meta_core.proofs.rows.name_sets.read_set.Goals as goal
 
 pub returns-in-Ok : goal.returns-in-Ok
