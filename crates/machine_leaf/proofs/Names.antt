@@ -1,5 +1,5 @@
 -- A set of names has no fault exactly where their list has none and no name is repeated: what it shows is the list's.
-use Rattle.std.proofs.Common.{◌≡◌, Bool, List, [], ◌∷◌, ◌++◌, Some, None, flat_map, refl, sym, ap, ◌∙◌}
+use Rattle.std.proofs.Common.{◌≡◌, Bool, List, [], ◌∷◌, ◌++◌, Option, Some, None, flat_map, refl, sym, ap, ◌∙◌}
 use Rattle.std.specs.List.{filter_map}
 use Rattle.base_core.specs.declared.text.Text.{Text}
 use Rattle.tok_types.specs.declared.span.Span.{Span}
@@ -14,7 +14,7 @@ use Rattle.machine_cells.specs.Call.{Call}
 use Rattle.machine_cells.specs.Call.TheVariants as call
 use Rattle.machine_cells.specs.Lists as lists
 use Rattle.machine_cells.specs.MetaCoreMaps.{with_key}
-use Rattle.machine_cells.specs.Sets.{is_item, name_faults, set_cells, set_faults}
+use Rattle.machine_cells.specs.Sets.{kept_name, name_faults, set_cells, set_faults}
 use Rattle.machine_cells.specs.Maps.{names_cells, names_value}
 use Rattle.machine_cells.specs.Shown.{shown}
 
@@ -50,11 +50,11 @@ module _ {A : Type 0} (same : A → A → Bool) (text : A → Text) (span_of : A
 
   module _ (tokens : A → List TokenTree) where
     -- where the set is found
-    pub set_found : (it : Call) (set : A → Bool) → cell_at (set_cells same text span_of read) it ≡ Some (Value set)
+    pub set_found : (it : Call) (set : A → Option A) → cell_at (set_cells same text span_of read) it ≡ Some (Value set)
         → cell_at (names_cells same text span_of read tokens) it ≡ shown (names_value text tokens) (cell_at (lists.names_cells read) it)
     set_found (call.«List» items) set found =
         let names : List A = filter_map (λ item. value_of (read item)) items.now in
-        let none = no_faults (set_faults same text span_of read [] items.now) (is_item same read items.now) set (inside_some _ _ found) in
+        let none = no_faults (set_faults same text span_of read [] items.now) (kept_name same read items.now) set (inside_some _ _ found) in
         ap (λ faults. Some (settle faults (Value (names_value text tokens names)))) none
         ∙ sym (ap (λ faults. Some (on_value (names_value text tokens) (settle faults (Value names)))) (list_faults [] items.now none))
     set_found call.Word set found = refl
@@ -84,7 +84,7 @@ module _ {A : Type 0} (same : A → A → Bool) (text : A → Text) (span_of : A
 
     set_faulty : (it : Call) (fault : Fault) (more : List Fault) → cell_at (set_cells same text span_of read) it ≡ Some (Faults fault more) → cell_at (names_cells same text span_of read tokens) it ≡ Some (Faults fault more)
     set_faulty (call.«List» items) fault more found =
-        ap Some (other_value (set_faults same text span_of read [] items.now) (is_item same read items.now) _ fault more (inside_some _ _ found))
+        ap Some (other_value (set_faults same text span_of read [] items.now) (kept_name same read items.now) _ fault more (inside_some _ _ found))
     set_faulty call.Word fault more found = cc
     set_faulty (call.String text span) fault more found = cc
     set_faulty (call.Char c) fault more found = cc

@@ -1,5 +1,5 @@
 -- Names that are there or not, put to a set.
-use Rattle.std.proofs.Common.{◌≡◌, refl, ap, ◌∙◌, Bool, true, false, cond, List, ◌++◌, Some, None, append-nil}
+use Rattle.std.proofs.Common.{◌≡◌, refl, ap, ◌∙◌, Bool, true, false, cond, List, [], ◌∷◌, ◌++◌, Some, None, append-nil}
 use Rattle.std.specs.Prelude.{◌||◌}
 use Rattle.base_core.specs.declared.text.Text.{Text}
 use Rattle.tok_types.specs.declared.span.Span.{Span}
@@ -25,10 +25,6 @@ or_put true false = refl
 or_put false true = refl
 or_put false false = refl
 
-pub or_regroup : (a b c : Bool) → (a || (b || c)) ≡ ((a || b) || c)
-or_regroup true b c = refl
-or_regroup false b c = refl
-
 module _ {A : Type 0} (eq : A → A → Bool) where
   pub is_name-none : (name : A) (outcome : Outcome A) → None ≡ value_of outcome → is_name eq name outcome ≡ false
   is_name-none name (Value other) is = cc
@@ -41,6 +37,19 @@ module _ {A : Type 0} (eq : A → A → Bool) where
   is_name-some name (Faults fault more) other is =
       let never : ⊥ = cc in
       absurd never
+
+  -- what a name is, as a list
+  pub with_key-some : (outcome : Outcome A) (other : A) → Some other ≡ value_of outcome → other ∷ [] ≡ with_key [] outcome
+  with_key-some (Value found) other is =
+      let alike : other ≡ found = cc in
+      ap (λ it. it ∷ []) alike
+  with_key-some (Faults fault more) other is =
+      let never : ⊥ = cc in
+      absurd never
+
+  pub with_key-none : (outcome : Outcome A) → None ≡ value_of outcome → [] ≡ with_key [] outcome
+  with_key-none (Value name) is = cc
+  with_key-none (Faults fault more) is = refl
 
   -- with a name they are whether it is repeated
   pub name_faults-some : (text : A → Text) (span_of : A → Span) (before : List A) (outcome : Outcome A) (name : A) (old middle new : List Fault)

@@ -1,6 +1,7 @@
 pub mod Lists
 pub mod Rows
 pub mod Sets
+pub mod Tables
 pub mod PathLists
 pub mod Types
 pub use Rattle.error_core.specs.Answers

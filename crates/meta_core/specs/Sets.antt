@@ -1,6 +1,6 @@
 -- The rows of sets of names: a name an item, and each name once.
-use Rattle.std.specs.Prelude.{Bool, false, List, [], ◌∷◌, ◌++◌, Some}
-use Rattle.std.specs.List.{list_any}
+use Rattle.std.specs.Prelude.{Bool, false, List, [], ◌∷◌, ◌++◌, flat_map, Option, Some}
+use Rattle.std.specs.List.{find}
 use Rattle.base_core.specs.declared.text.Text.{Text}
 use Rattle.tok_types.specs.declared.span.Span.{Span}
 use Rattle.error_fault.specs.Outcome.{Outcome, Value, Faults, settle}
@@ -26,10 +26,15 @@ module _ {A : Type 0} (same : A → A → Bool) (text : A → Text) (span_of : A
   set_faults read before [] = []
   set_faults read before (item ∷ items) = name_faults before (read item) ++ set_faults read (with_key before (read item)) items
 
--- whether the name is that of one of the items
-abbrev pub is_item : {A : Type 0} → (A → A → Bool) → (NestedMeta → Outcome A) → List NestedMeta → A → Bool
-is_item same read items name = list_any (λ item. is_name same name (read item)) items
+-- the names that the items are, in the items' order
+abbrev pub names_of : {A : Type 0} → (NestedMeta → Outcome A) → List NestedMeta → List A
+names_of read items = flat_map (λ item. with_key [] (read item)) items
 
--- the items of a list, each by `read`
-abbrev pub set_cells : {A : Type 0} → (A → A → Bool) → (A → Text) → (A → Span) → (NestedMeta → Outcome A) → Cells (A → Bool)
-set_cells same text span_of read = record no_cells { list = λ items. Some (settle (set_faults same text span_of read [] items) (Value (is_item same read items))) }
+-- the name that stands in a set for this one: the first of the items that is the same
+abbrev pub kept_name : {A : Type 0} → (A → A → Bool) → (NestedMeta → Outcome A) → List NestedMeta → A → Option A
+kept_name same read items name = find (same name) (names_of read items)
+
+-- the items of a list, each by `read`, as the name that stands for each
+abbrev pub set_cells : {A : Type 0} → (A → A → Bool) → (A → Text) → (A → Span) → (NestedMeta → Outcome A) → Cells (A → Option A)
+set_cells same text span_of read =
+    record no_cells { list = λ items. Some (settle (set_faults same text span_of read [] items) (Value (kept_name same read items))) }

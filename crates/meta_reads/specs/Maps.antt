@@ -1,11 +1,10 @@
 -- What a map reads from a list: an entry an item, and each key once.
-use Rattle.std.specs.Prelude.{Bool, if◌then◌else◌, List, [], ◌∷◌, ◌++◌, flat_map, map, Option, Some, None, option_map, codes}
+use Rattle.std.specs.Prelude.{Bool, if◌then◌else◌, List, [], ◌∷◌, ◌++◌, flat_map, map, Option, Some, None, codes}
 use Rattle.std.specs.List.{fold, list_any}
 use Rattle.std.specs.Ordering.{bool_cmp, nat_cmp, ordering_then}
 use Rattle.std.specs.Cmp.Lexicographic.{slice_cmp}
 use Rattle.std.specs.declared.cmp.Ordering.{Ordering}
 use Rattle.std.specs.BTreeMap.{insert_entry}
-use Rattle.std.specs.Map.{lookup, update_all}
 use Rattle.base_core.specs.declared.text.Text.{Text}
 use Rattle.tok_types.specs.declared.ident.Ident.{Ident}
 use Rattle.tok_types.specs.declared.span.Span.{Span}
@@ -94,10 +93,6 @@ read_entries same text key_of cells items = settle (map_faults same text key_of 
 abbrev pub sorted : {K A : Type 0} → (K → K → Ordering) → List (K × A) → List (K × A)
 sorted order entries = fold (λ before entry. insert_entry order before entry.0 entry.1) [] entries
 
--- the value at each key, once the entries are put in one after another
-abbrev pub looked_up : {K A : Type 0} → (K → K → Bool) → List (K × A) → K → Option A
-looked_up same entries = update_all same (λ key. None) entries
-
 -- a list, as its entries in the items' order
 abbrev pub entries_cells : {K A : Type 0} → (K → K → Bool) → (K → Text) → (Path → Outcome K) → Cells A → Cells (List (K × A))
 entries_cells same text key_of cells = record no_cells { list = λ items. Some (read_entries same text key_of cells items) }
@@ -106,19 +101,11 @@ entries_cells same text key_of cells = record no_cells { list = λ items. Some (
 abbrev pub sorted_cells : {K A : Type 0} → (K → K → Bool) → (K → K → Ordering) → (K → Text) → (Path → Outcome K) → Cells A → Cells (List (K × A))
 sorted_cells same order text key_of cells = shown_cells (sorted order) (entries_cells same text key_of cells)
 
--- a list, as the value at each key
-abbrev pub table_cells : {K A : Type 0} → (K → K → Bool) → (K → Text) → (Path → Outcome K) → Cells A → Cells (K → Option A)
-table_cells same text key_of cells = shown_cells (looked_up same) (entries_cells same text key_of cells)
-
 -- ---- what is seen of maps
 
 -- the entries, in their order
 abbrev pub seen_entries : {K X S A : Type 0} → (K → S) → (X → A) → List (K × X) → List (S × A)
 seen_entries see_key see entries = map (λ entry. (see_key entry.0, see entry.1)) entries
-
--- the value at each key
-abbrev pub seen_table : {K X S A : Type 0} → (S → S → Bool) → (K → S) → (X → A) → List (K × X) → S → Option A
-seen_table same see_key see entries key = option_map see (lookup (λ other. same key (see_key other)) entries)
 
 -- ---- the keys
 

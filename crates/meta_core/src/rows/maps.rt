@@ -1,7 +1,8 @@
 //! Maps.
 
 ghost use Rattle.std.specs.Prelude.{◌≡◌, IfOk};
-ghost use Rattle.meta_reads.specs.Maps.{looked_up, seen_entries, seen_table, sorted};
+ghost use Rattle.meta_reads.specs.Maps.{seen_entries, sorted};
+ghost use Rattle.meta_core.specs.Tables.{looked_up, seen_table};
 
 use crate::by_type::ByType;
 use crate::from_meta::FromMeta;
@@ -50,9 +51,9 @@ fn sort<K: SortedKey + Drop, V: FromMeta + Drop>(
 /// A list, an entry an item. Keys are paths.
 impl<K: MapKey + Hash + Drop, V: FromMeta + Drop> FromMeta for HashMap<K, V> {
     ghost use Rattle.std.specs.Prelude.{Option};
-    ghost use Rattle.meta_reads.specs.Maps.{seen_table, table_cells};
+    ghost use Rattle.meta_core.specs.Tables.{seen_table, table_cells};
 
-    ghost Seen = { K.Seen → Option V.Seen };
+    ghost Seen = { K.Seen → Option (K.Seen × V.Seen) };
 
     ghost seen = { λ it. seen_table K.same K.seen V.seen it.entries };
 

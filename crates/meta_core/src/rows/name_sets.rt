@@ -1,13 +1,15 @@
 //! Sets of names: identifiers and paths.
 
-ghost use Rattle.std.specs.Prelude.{◌≡◌, ◌++◌, ◌||◌, [], List, IfOk, OnOk};
-ghost use Rattle.std.specs.HashSet.{contains};
+ghost use Rattle.std.specs.Prelude.{◌≡◌, ◌++◌, ◌∷◌, ◌||◌, [], List, IfOk, OnOk};
+ghost use Rattle.std.specs.HashSet.{contains, get};
+ghost use Rattle.std.specs.List.{find};
+ghost use Rattle.std.specs.Option.{option_or};
 ghost use Rattle.error_fault.specs.Outcome.{Value, settle};
 ghost use Rattle.error_core.specs.Answers.{Answers};
 ghost use Rattle.error_core.specs.ErrorView.{held};
 ghost use Rattle.meta_reads.specs.KnownKeys.{Knows};
-ghost use Rattle.meta_reads.specs.Maps.{repeated};
-ghost use Rattle.meta_core.specs.Sets.{is_item, is_name, name_faults, set_faults};
+ghost use Rattle.meta_reads.specs.Maps.{repeated, with_key};
+ghost use Rattle.meta_core.specs.Sets.{is_name, kept_name, name_faults, set_faults};
 
 use crate::from_meta::FromMeta;
 use crate::rows::name_lists::{Name, collect_name};
@@ -24,17 +26,17 @@ use tok_types::Ident;
 
 /// The items of a list, each once. All faults are told.
 impl FromMeta for HashSet<Ident> {
-    ghost use Rattle.std.specs.Prelude.{Bool};
-    ghost use Rattle.std.specs.HashSet.{contains};
+    ghost use Rattle.std.specs.Prelude.{Option};
+    ghost use Rattle.std.specs.HashSet.{get};
     ghost use Rattle.tok_types.specs.Ident.{ident_text};
     ghost use Rattle.tok_types.specs.declared.ident.Ident.{Ident};
     ghost use Rattle.meta_reads.specs.Keys.{ident_same};
     ghost use Rattle.meta_core.specs.Lists.{ident_item};
     ghost use Rattle.meta_core.specs.Sets.{set_cells};
 
-    ghost Seen = { Ident → Bool };
+    ghost Seen = { Ident → Option Ident };
 
-    ghost seen = { contains ident_same };
+    ghost seen = { get ident_same };
 
     ghost cells = { set_cells ident_same ident_text (λ ident. ident.span) ident_item };
 
@@ -48,8 +50,8 @@ impl FromMeta for HashSet<Ident> {
 
 /// The items of a list, each once. All faults are told.
 impl FromMeta for HashSet<Path> {
-    ghost use Rattle.std.specs.Prelude.{Bool};
-    ghost use Rattle.std.specs.HashSet.{contains};
+    ghost use Rattle.std.specs.Prelude.{Option};
+    ghost use Rattle.std.specs.HashSet.{get};
     ghost use Rattle.node_expr.specs.declared.path.Path.{Path};
     ghost use Rattle.node_make.specs.PathText.{path_text};
     ghost use Rattle.node_span.specs.Spanned.{path_span};
@@ -57,9 +59,9 @@ impl FromMeta for HashSet<Path> {
     ghost use Rattle.meta_core.specs.Lists.{path_item};
     ghost use Rattle.meta_core.specs.Sets.{set_cells};
 
-    ghost Seen = { Path → Bool };
+    ghost Seen = { Path → Option Path };
 
-    ghost seen = { contains path_same };
+    ghost seen = { get path_same };
 
     ghost cells = { set_cells path_same path_text path_span path_item };
 
@@ -76,7 +78,7 @@ fn read_set<T: Name + MapKey + Hash + Spanned + Drop>(
     alloc: Global,
     items: &[NestedMeta],
 ) -> Result<HashSet<T>>
-    ensures { Answers (contains T.eq) result (settle (set_faults T.eq (λ name. T.text (T.seen name)) T.span_of T.of_item [] items.now) (Value (is_item T.eq T.of_item items.now))) }
+    ensures { Answers (get T.eq) result (settle (set_faults T.eq (λ name. T.text (T.seen name)) T.span_of T.of_item [] items.now) (Value (kept_name T.eq T.of_item items.now))) }
 {
     let mut errors = Error::accumulator(alloc);
     match collect_set(alloc, items, &mut errors) {
@@ -94,7 +96,7 @@ fn collect_set<T: Name + MapKey + Hash + Spanned + Drop>(
     items: &[NestedMeta],
     errors: &mut Accumulator,
 ) -> Mem<HashSet<T>>
-    ensures names { IfOk result (λ names. (name : T) → contains T.eq names name ≡ is_item T.eq T.of_item items.now name) }
+    ensures names { IfOk result (λ names. (name : T) → get T.eq names name ≡ kept_name T.eq T.of_item items.now name) }
     ensures faults { OnOk result (held errors.new ≡ held errors.old ++ set_faults T.eq (λ name. T.text (T.seen name)) T.span_of T.of_item [] items.now) }
 {
     let mut names = HashSet::new(alloc);
@@ -112,6 +114,7 @@ fn put_item<T: Name + MapKey + Hash + Spanned + Drop>(
     errors: &mut Accumulator,
 ) -> Mem<()>
     ensures names { OnOk result ((name : T) → contains T.eq names.new name ≡ (contains T.eq names.old name || is_name T.eq name (T.of_item item.now))) }
+    ensures stored { OnOk result ((name : T) → get T.eq names.new name ≡ option_or (get T.eq names.old name) (find (T.eq name) (with_key [] (T.of_item item.now)))) }
     ensures faults { (before : List T) → Knows T.eq (λ name. name) (contains T.eq names.old) before → OnOk result (held errors.new ≡ held errors.old ++ name_faults T.eq (λ name. T.text (T.seen name)) T.span_of before (T.of_item item.now)) }
 {
     let found: Option<T> = collect_name(alloc, item, errors)?;
@@ -132,6 +135,7 @@ fn put_name<T: MapKey + Hash + Spanned + Drop>(
     errors: &mut Accumulator,
 ) -> Mem<()>
     ensures names { OnOk result ((other : T) → contains T.eq names.new other ≡ (contains T.eq names.old other || T.eq name other)) }
+    ensures stored { OnOk result ((other : T) → get T.eq names.new other ≡ option_or (get T.eq names.old other) (find (T.eq other) (name ∷ []))) }
     ensures faults { (before : List T) → Knows T.eq (λ name. name) (contains T.eq names.old) before → OnOk result (held errors.new ≡ held errors.old ++ repeated T.eq (λ name. T.text (T.seen name)) before (T.span_of name) name) }
 {
     let again = names.contains(&name);

@@ -1,18 +1,19 @@
 use Rattle.std.proofs.Common.{◌++◌, ◌+◌, ◌∙◌, ap, sym, refl, [], drop, append_assoc}
-use Rattle.std.specs.Prelude.{◌||◌}
-use Rattle.std.specs.HashSet.{contains}
-use Rattle.std.specs.List.{list_any}
+use Rattle.std.specs.HashSet.{contains, get}
+use Rattle.std.specs.List.{find, list_any}
+use Rattle.std.specs.Option.{option_or}
 use Rattle.error_core.specs.ErrorView.{held}
 use Rattle.meta_reads.specs.Maps.{with_key}
-use Rattle.meta_core.specs.Sets.{is_item, is_name, name_faults, set_faults}
+use Rattle.meta_core.specs.Sets.{kept_name, name_faults, names_of, set_faults}
 use Rattle.meta_reads.proofs.MapLemmas.{left_here}
-use Rattle.meta_core.proofs.SetLemmas.{knows-with, or_regroup}
+use Rattle.meta_core.proofs.SetLemmas.{knows-with}
+use Rattle.meta_core.proofs.Stored.{find-append, option_or-regroup}
 use Rattle.meta_core.proofs.rows.name_sets.collect_set.Goals as goal
 
 pub loop-item-init : goal.loop-item-init
 loop-item-init g c =
     let eq = g.T.PartialEq.eq in (
-      λ name. sym (ap (λ keys. list_any (eq name) keys || is_item eq g.T.Name.of_item c.args.items.now name) c.new-names.ensures.empty),
+      λ name. sym (ap (λ keys. option_or (find (eq name) keys) (kept_name eq g.T.Name.of_item c.args.items.now name)) c.new-names.ensures.empty),
       (
         [],
         λ name. ap (list_any (eq name)) c.new-names.ensures.empty,
@@ -36,9 +37,12 @@ loop-item-preserved g c =
     let faults = set_faults eq (λ name. g.T.KeyFromPath.text (g.T.KeyFromPath.seen name)) span_of read in
     let old = held c.loop-item.errors in
     let after = with_key before (read item) in (
-      λ name. inv.0 name ∙ ap (λ items. contains eq c.loop-item.names name || is_item eq read items name) here
-          ∙ or_regroup (contains eq c.loop-item.names name) (is_name eq name (read item)) (is_item eq read rest name)
-          ∙ ap (λ b. b || is_item eq read rest name) (sym (put name)),
+      λ name.
+          let kept = get eq c.loop-item.names name in
+          inv.0 name ∙ ap (λ items. option_or kept (find (eq name) (names_of read items))) here
+          ∙ ap (option_or kept) (find-append (eq name) (with_key [] (read item)) (names_of read rest))
+          ∙ option_or-regroup kept (find (eq name) (with_key [] (read item))) (find (eq name) (names_of read rest))
+          ∙ ap (λ found. option_or found (find (eq name) (names_of read rest))) (sym (c.in_ok-put_item.ensures.stored name)),
       (
         after,
         knows-with eq (contains eq c.loop-item.names) (contains eq c.put_item.new.names) before (read item) put inv.1.1,

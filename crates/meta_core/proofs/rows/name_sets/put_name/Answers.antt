@@ -6,12 +6,18 @@ use Rattle.error_fault.specs.declared.kind.FaultKind.TheVariants.{DuplicateField
 use Rattle.error_core.specs.ErrorView.{held}
 use Rattle.meta_reads.specs.Maps.{repeated}
 use Rattle.meta_core.proofs.SetLemmas.{or_put}
+use Rattle.meta_core.proofs.Stored.{equality-seen, stored-put}
 use Rattle.meta_core.proofs.rows.name_sets.put_name.Goals as goal
 
 pub returns-clause-names : goal.returns-clause-names
 returns-clause-names g c = λ other.
     let eq = g.T.PartialEq.eq in
     c.in_ok-insert.ensures.updates.0 other ∙ or_put (eq c.args.name other) (contains eq c.args.names.now other)
+
+pub returns-clause-stored : goal.returns-clause-stored
+returns-clause-stored g c = λ other.
+    let insert = c.in_ok-insert.ensures in
+    stored-put (equality-seen g.met.T.MapKey.same_laws g.met.T.MapKey.same_is) c.args.names.now c.insert.new.self c.args.name insert.unique _ insert.added insert.keys other
 
 pub returns-clause-faults : goal.returns-clause-faults
 returns-clause-faults g c = λ before knows.
