@@ -9,18 +9,15 @@ use Rattle.machine_steps.specs.Names.{item_name}
 use Rattle.meaning_core.specs.NestedMeta.{NestedMeta}
 use Rattle.machine_steps.specs.Setting.{Setting}
 use Rattle.meaning_core.specs.Decl.{Shape, Single, Many, Flat, FieldDecl, Decl, is_flat, has_flat}
-use Rattle.meaning_core.specs.Entries.{Entry, FaultEntry, ItemEntry, items}
+use Rattle.meta_entries.specs.Entries.{items}
+use Rattle.meta_entries.specs.declared.entry.Entry.{Entry}
+use Rattle.meta_entries.specs.declared.entry.Entry.TheVariants as entry
+use Rattle.meta_entries.proofs.ItemLemmas.{items-append}
 use Rattle.meaning_core.specs.EntryFaults.{own_faults, item_faults, named_faults, entry_faults, all_entry_faults}
 use Rattle.meaning_core.specs.FieldValue.{flat_faults, missing}
 use Rattle.meaning_core.specs.Meaning.{joined, collected}
 use Rattle.meaning_core.specs.Owners.{owner, owner_named, is_this, own, field_at, each}
 use Rattle.law_accepted.specs.MoreFaults.{unknown_fault, OneMoreFault}
-
--- the items of two lists of entries are those of the first, then those of the second
-items_append : (xs ys : List Entry) → items (xs ++ ys) ≡ items xs ++ items ys
-items_append [] ys = refl
-items_append (FaultEntry fault ∷ xs) ys = items_append xs ys
-items_append (ItemEntry item ∷ xs) ys = ap (λ more. item ∷ more) (items_append xs ys)
 
 -- an item without an owner, put among items, leaves what each field owns
 own_without : (fields : List FieldDecl) (xs ys : List NestedMeta) (item : NestedMeta) → owner fields item ≡ None → own fields (xs ++ item ∷ ys) ≡ own fields (xs ++ ys)
@@ -50,14 +47,14 @@ module _ (setting : Setting) (earlier : Earlier) (decl : Decl) where
   named_by_own xs ys item None e = refl
   named_by_own xs ys item (Some name) e = item_by_own xs ys name item (owner_named decl.fields name) e
 
-  entry_by_own : (xs ys : List NestedMeta) (entry : Entry) → own decl.fields xs ≡ own decl.fields ys → entry_faults setting earlier decl xs entry ≡ entry_faults setting earlier decl ys entry
-  entry_by_own xs ys (FaultEntry fault) e = refl
-  entry_by_own xs ys (ItemEntry item) e = named_by_own xs ys item (item_name item) e
+  entry_by_own : (xs ys : List NestedMeta) (it : Entry) → own decl.fields xs ≡ own decl.fields ys → entry_faults setting earlier decl xs it ≡ entry_faults setting earlier decl ys it
+  entry_by_own xs ys (entry.Fault fault) e = refl
+  entry_by_own xs ys (entry.Item item) e = named_by_own xs ys item (item_name item) e
 
   entries_by_own : (xs ys : List NestedMeta) (entries : List Entry) → own decl.fields xs ≡ own decl.fields ys → all_entry_faults setting earlier decl xs entries ≡ all_entry_faults setting earlier decl ys entries
   entries_by_own xs ys [] e = refl
-  entries_by_own xs ys (entry ∷ entries) e =
-      ap₂ (λ here more. here ++ more) (entry_by_own xs ys entry e) (entries_by_own (xs ++ items (entry ∷ [])) (ys ++ items (entry ∷ [])) entries (own_behind decl.fields xs ys (items (entry ∷ [])) e))
+  entries_by_own xs ys (it ∷ entries) e =
+      ap₂ (λ here more. here ++ more) (entry_by_own xs ys it e) (entries_by_own (xs ++ items (it ∷ [])) (ys ++ items (it ∷ [])) entries (own_behind decl.fields xs ys (items (it ∷ [])) e))
 
   -- the faults of two lists of entries are those of the first, then those of the second behind the items of the first
   entries_append : (before : List NestedMeta) (xs ys : List Entry) → all_entry_faults setting earlier decl before (xs ++ ys) ≡ all_entry_faults setting earlier decl before xs ++ all_entry_faults setting earlier decl (before ++ items xs) ys
@@ -66,7 +63,7 @@ module _ (setting : Setting) (earlier : Earlier) (decl : Decl) where
       let here = entry_faults setting earlier decl before x in
       let more = all_entry_faults setting earlier decl (before ++ items (x ∷ [])) xs in
       ap (λ faults. here ++ faults) (entries_append (before ++ items (x ∷ [])) xs ys)
-      ∙ ap (λ behind. here ++ (more ++ all_entry_faults setting earlier decl behind ys)) (append_assoc before (items (x ∷ [])) (items xs) ∙ ap (λ rest. before ++ rest) (sym (items_append (x ∷ []) xs)))
+      ∙ ap (λ behind. here ++ (more ++ all_entry_faults setting earlier decl behind ys)) (append_assoc before (items (x ∷ [])) (items xs) ∙ ap (λ rest. before ++ rest) (sym (items-append (x ∷ []) xs)))
       ∙ sym (append_assoc here more (all_entry_faults setting earlier decl (before ++ items (x ∷ xs)) ys))
 
   -- a field that is not flattened has no flat faults, nor have fields of which none is flattened
@@ -91,18 +88,18 @@ module _ (setting : Setting) (earlier : Earlier) (decl : Decl) where
       ap (λ flattened. all_entry_faults setting earlier decl [] entries ++ (flattened ++ all_missing (own decl.fields (items entries)))) (none_flat decl.fields (items entries) (own decl.fields (items entries)) e)
 
   -- an item of a name that no field has is one fault, where no field is flattened and unknown items are refused
-  unknown_alone : (before : List NestedMeta) (item : NestedMeta) (name : Text) → has_flat decl.fields ≡ false → decl.allows_unknown ≡ false → item_name item ≡ Some name → owner_named decl.fields name ≡ None → entry_faults setting earlier decl before (ItemEntry item) ≡ unknown_fault decl name item ∷ []
+  unknown_alone : (before : List NestedMeta) (item : NestedMeta) (name : Text) → has_flat decl.fields ≡ false → decl.allows_unknown ≡ false → item_name item ≡ Some name → owner_named decl.fields name ≡ None → entry_faults setting earlier decl before (entry.Item item) ≡ unknown_fault decl name item ∷ []
   unknown_alone before item name flat allows named unowned =
       ap (named_faults setting earlier decl before item) named
       ∙ ap (item_faults setting earlier decl before name item) unowned
       ∙ ap₂ (λ (flattened allowed : Bool). cond flattened [] (cond allowed [] (unknown_fault decl name item ∷ []))) flat allows
 
   -- an item without an owner, put among entries, leaves what each field owns
-  owned_alike : (before after : List Entry) (item : NestedMeta) → owner decl.fields item ≡ None → own decl.fields (items (before ++ ItemEntry item ∷ after)) ≡ own decl.fields (items (before ++ after))
+  owned_alike : (before after : List Entry) (item : NestedMeta) → owner decl.fields item ≡ None → own decl.fields (items (before ++ entry.Item item ∷ after)) ≡ own decl.fields (items (before ++ after))
   owned_alike before after item e =
-      ap (own decl.fields) (items_append before (ItemEntry item ∷ after))
+      ap (own decl.fields) (items-append before (entry.Item item ∷ after))
       ∙ own_without decl.fields (items before) (items after) item e
-      ∙ ap (own decl.fields) (sym (items_append before after))
+      ∙ ap (own decl.fields) (sym (items-append before after))
 
   -- and it leaves the faults of the entries behind it
   later_alike : (before : List NestedMeta) (item : NestedMeta) (after : List Entry) → owner decl.fields item ≡ None → all_entry_faults setting earlier decl (before ++ item ∷ []) after ≡ all_entry_faults setting earlier decl before after
@@ -116,14 +113,14 @@ one_more_fault setting earlier decl before after item name flat allows named uno
     let last = all_missing setting earlier decl (own decl.fields (items (before ++ after))) in
     let fault = unknown_fault decl name item in
     let ownerless : owner decl.fields item ≡ None = ap (option_and_then (owner_named decl.fields)) named ∙ unowned in
-    let added : all_entry_faults setting earlier decl [] (before ++ ItemEntry item ∷ after) ≡ first ++ fault ∷ behind =
-    entries_append setting earlier decl [] before (ItemEntry item ∷ after)
+    let added : all_entry_faults setting earlier decl [] (before ++ entry.Item item ∷ after) ≡ first ++ fault ∷ behind =
+    entries_append setting earlier decl [] before (entry.Item item ∷ after)
     ∙ ap₂ (λ here more. first ++ (here ++ more)) (unknown_alone setting earlier decl (items before) item name flat allows named unowned) (later_alike setting earlier decl (items before) item after ownerless) in (
       behind ++ last,
       collected_unflattened setting earlier decl (before ++ after) flat
           ∙ ap (λ faults. faults ++ last) (entries_append setting earlier decl [] before after)
           ∙ append_assoc first behind last,
-      collected_unflattened setting earlier decl (before ++ ItemEntry item ∷ after) flat
+      collected_unflattened setting earlier decl (before ++ entry.Item item ∷ after) flat
           ∙ ap₂ (λ faults mine. faults ++ all_missing setting earlier decl mine) added (owned_alike setting earlier decl before after item ownerless)
           ∙ append_assoc first (fault ∷ behind) last,
     )

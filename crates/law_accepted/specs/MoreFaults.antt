@@ -11,7 +11,8 @@ use Rattle.meaning_core.specs.NestedMeta.{NestedMeta}
 use Rattle.meaning_core.specs.Nodes.{nested_span}
 use Rattle.machine_steps.specs.Setting.{Setting}
 use Rattle.meaning_core.specs.Decl.{Decl, has_flat, names}
-use Rattle.meaning_core.specs.Entries.{Entry, ItemEntry}
+use Rattle.meta_entries.specs.declared.entry.Entry.{Entry}
+use Rattle.meta_entries.specs.declared.entry.Entry.TheVariants as entry
 use Rattle.meaning_core.specs.EntryFaults.{all_entry_faults}
 use Rattle.meaning_core.specs.Meaning.{collected}
 use Rattle.meaning_core.specs.Owners.{owner_named}
@@ -28,4 +29,4 @@ OneMoreFault =
     → has_flat decl.fields ≡ false → decl.allows_unknown ≡ false → item_name item ≡ Some name → owner_named decl.fields name ≡ None
     → (later : List Fault)
     × (collected setting earlier decl (before ++ after) ≡ all_entry_faults setting earlier decl [] before ++ later)
-    × (collected setting earlier decl (before ++ ItemEntry item ∷ after) ≡ all_entry_faults setting earlier decl [] before ++ unknown_fault decl name item ∷ later)
+    × (collected setting earlier decl (before ++ entry.Item item ∷ after) ≡ all_entry_faults setting earlier decl [] before ++ unknown_fault decl name item ∷ later)

@@ -14,14 +14,16 @@ use Rattle.meaning_core.specs.NestedMeta.{NestedMeta}
 use Rattle.machine_fit.specs.Setting.{Setting}
 use Rattle.meaning_core.specs.Decl.{Decl}
 use Rattle.meaning_core.specs.Declarations.{earlier_decls, list_meaning, meta_decl}
-use Rattle.meaning_core.specs.Entries.{ItemEntry, events, items}
+use Rattle.meta_entries.specs.Entries.{items, named_entries}
+use Rattle.meta_entries.specs.declared.entry.Entry.TheVariants as entry
+use Rattle.meta_entries.proofs.ItemLemmas.{items-of_items}
 use Rattle.meaning_core.specs.Meaning.{struct_meaning}
 use Rattle.law_cells.specs.Listed.{IsListed}
 use Rattle.law_cells.specs.Reads.{OnValue}
 use Rattle.law_fits.specs.Claims.{AreSound, DeclaredFits, has_names}
 use Rattle.law_fits.specs.Earlier.{EarlierFits}
 use Rattle.law_fits.specs.Sound.{AreNamed}
-use Rattle.law_fits.proofs.Items.{IsGiven, events_given, given_where_read, items_of_items}
+use Rattle.law_fits.proofs.Items.{IsGiven, events_given, given_where_read}
 use Rattle.law_fits.proofs.Structs.{well_fits}
 
 module _ (host : HostSays) (program : Program) (decls : List Decl) (lawful : IsLawful host) (named : AreNamed program.decls) (sound : AreSound host program decls) where
@@ -34,10 +36,10 @@ module _ (host : HostSays) (program : Program) (decls : List Decl) (lawful : IsL
   list_fits number earlier None all e fits listed = tt
   list_fits number earlier (Some decl) all e fits listed =
       let it = sound number decl e in
-      let given : All (IsGiven true) (items (map ItemEntry all)) = All-same (IsGiven true) (items (map ItemEntry all)) all (items_of_items all) (given_where_read all listed) in
+      let given : All (IsGiven true) (items (map entry.Item all)) = All-same (IsGiven true) (items (map entry.Item all)) all (items-of_items all) (given_where_read all listed) in
       let before : EarlierFits program decl.number earlier = subst (λ (bound : ℕ). EarlierFits program bound earlier) (sym it.0) fits in
-      subst (λ (place : ℕ). OnValue (FitsAmong program.decls place) (struct_meaning setting earlier decl (map ItemEntry all))) it.0
-      (well_fits host program decl true earlier lawful named before it.1 (map ItemEntry all) given)
+      subst (λ (place : ℕ). OnValue (FitsAmong program.decls place) (struct_meaning setting earlier decl (map entry.Item all))) it.0
+      (well_fits host program decl true earlier lawful named before it.1 (map entry.Item all) given)
 
   -- what lists of items mean under the declarations below a number fits those declarations
   earlier_fits : (bound : ℕ) → EarlierFits program bound (earlier_decls setting decls bound)
@@ -58,4 +60,4 @@ module _ (host : HostSays) (program : Program) (decls : List Decl) (lawful : IsL
 pub declared_fits : DeclaredFits
 declared_fits host program decls decl subject lawful named sound it =
     well_fits host program decl (has_names decl.attributes) (earlier_decls (setting_of host program) decls decl.number) lawful named (earlier_fits host program decls lawful named sound decl.number) it
-    (events decl.attributes subject.attrs) (events_given decl.attributes subject.attrs)
+    (named_entries decl.attributes subject.attrs) (events_given decl.attributes subject.attrs)

@@ -34,7 +34,8 @@ use Rattle.machine_fit.specs.Machine.{setting_of}
 use Rattle.machine_fit.specs.Reading.{transform_use, transformed}
 use Rattle.machine_fit.specs.Setting.{Setting, ask, called}
 use Rattle.meaning_core.specs.Decl.{ByCall, ByType, Decl, Default, FieldDecl}
-use Rattle.meaning_core.specs.Entries.{Entry, items}
+use Rattle.meta_entries.specs.Entries.{items}
+use Rattle.meta_entries.specs.declared.entry.Entry.{Entry}
 use Rattle.meaning_core.specs.FieldValue.{field_value}
 use Rattle.meaning_core.specs.Meaning.{built_struct, collected_with, default_outcome, in_order, struct_meaning, whole_default}
 use Rattle.meaning_core.specs.Owners.{each, own}

@@ -3,6 +3,7 @@ use Rattle.std.proofs.Common.{◌≡◌, zero, Bool, true, false, List, [], ◌�
 use Rattle.std.proofs.lemmas.List.Sums.{fold-append}
 use Rattle.base_core.specs.declared.text.Text.{Text}
 use Rattle.node_make.specs.PathText.{path_text}
+use Rattle.node_core.specs.Meta.{path_of_meta}
 use Rattle.node_core.specs.declared.attr.Attribute.{Attribute}
 use Rattle.node_core.specs.declared.attr.Meta.{Meta}
 use Rattle.node_core.specs.declared.attr.Meta.TheVariants as meta
@@ -19,11 +20,13 @@ use Rattle.codegen_core.specs.Compiled.{closing, default_of, fields_of, for_item
 use Rattle.codegen_core.specs.Fields.{at_slots, checks, declarations, flatten, flattens}
 use Rattle.codegen_core.specs.declared.trait_impl.TraitImpl.{TraitImpl}
 use Rattle.meaning_core.specs.Decl.{Decl, FieldDecl, has_flat, is_flat}
-use Rattle.machine_execute.specs.Names.{meta_name}
 use Rattle.machine_execute.specs.Setting.{Setting}
 use Rattle.machine_execute.specs.Convert.{Earlier}
-use Rattle.meaning_core.specs.Entries.{Entry, FaultEntry, ItemEntry, entries_of, events, items, list_entries}
-use Rattle.machine_execute.specs.Attributes.{has_name}
+use Rattle.meta_entries.specs.Attributes.{attribute_items, is_named}
+use Rattle.meta_entries.specs.Entries.{items, list_entries, named_entries}
+use Rattle.meta_entries.specs.declared.entry.Entry.{Entry}
+use Rattle.meta_entries.specs.declared.entry.Entry.TheVariants as entry
+use Rattle.meta_entries.proofs.ItemLemmas.{entries-unnamed}
 use Rattle.meaning_core.specs.Owners.{each, own, unclaimed}
 use Rattle.meaning_core.specs.EntryFaults.{all_entry_faults}
 use Rattle.machine_execute.specs.Reading.{transformed}
@@ -42,14 +45,6 @@ use Rattle.law_machine.proofs.Arms.{for_items_is, names_are}
 use Rattle.law_machine.proofs.Building.{AreGood, are_good, behind_default, ended_default, full_state, last, made}
 use Rattle.law_machine.proofs.Passes.{AreKept, at_slots_with, flat_added, flat_slot, full_slot, missing_added, run_checks, run_declarations, run_flattens, with_slots_kept}
 
-no_events : (attributes : List Attribute) → events [] attributes ≡ []
-no_events [] = refl
-no_events (attribute ∷ attributes) = no_events attributes
-
-items_all : (is : List NestedMeta) → items (map ItemEntry is) ≡ is
-items_all [] = refl
-items_all (i ∷ is) = ap (λ js. i ∷ js) (items_all is)
-
 or_false : (b c : Bool) → (if b then true else c) ≡ false → (b ≡ false) × (c ≡ false)
 or_false true c e = absurd (true≢false e)
 or_false false c e = (refl, e)
@@ -57,11 +52,11 @@ or_false false c e = (refl, e)
 module _ (setting : Setting) (earlier : Earlier) (decl : Decl) where
   -- ---- items and attributes are entries
 
-  items_fold : (s : State) (is : List NestedMeta) → fold (step setting earlier (arms decl) (rest decl)) s is ≡ fold (entry_step setting earlier decl) s (map ItemEntry is)
+  items_fold : (s : State) (is : List NestedMeta) → fold (step setting earlier (arms decl) (rest decl)) s is ≡ fold (entry_step setting earlier decl) s (map entry.Item is)
   items_fold s [] = refl
   items_fold s (i ∷ is) = items_fold (step setting earlier (arms decl) (rest decl) s i) is
 
-  faults_fold : (s : State) (fs : List Fault) → fold (entry_step setting earlier decl) s (map FaultEntry fs) ≡ with_faults fs s
+  faults_fold : (s : State) (fs : List Fault) → fold (entry_step setting earlier decl) s (map entry.Fault fs) ≡ with_faults fs s
   faults_fold s [] = ap (λ x. let t : State = record s { faults = x } in t) (sym (append-nil s.faults))
   faults_fold s (f ∷ fs) = faults_fold (with_faults (f ∷ []) s) fs ∙ ap (λ x. let t : State = record s { faults = x } in t) (append_assoc s.faults (f ∷ []) fs)
 
@@ -69,7 +64,7 @@ module _ (setting : Setting) (earlier : Earlier) (decl : Decl) where
     abbrev inner : List NestedMeta → Progress → Progress
     inner list = all_do (map (does setting earlier decl.type) (for_items left ∷ [])) (Items list)
 
-    for_items_fold : (s : State) (given : Given) → does setting earlier decl.type (for_items left) given (Going s) ≡ Going (fold (entry_step setting earlier decl) s (map ItemEntry (items_given given)))
+    for_items_fold : (s : State) (given : Given) → does setting earlier decl.type (for_items left) given (Going s) ≡ Going (fold (entry_step setting earlier decl) s (map entry.Item (items_given given)))
     for_items_fold s given =
         ap (λ it. does setting earlier decl.type it given (Going s)) (for_items_is decl left is_decl)
         ∙ statement.for_items setting earlier decl.type (arms decl) (rest decl) given (Going s)
@@ -79,24 +74,24 @@ module _ (setting : Setting) (earlier : Earlier) (decl : Decl) where
     on_items_fold s (Value is) = for_items_fold s (Items is)
     on_items_fold s (Faults f fs) = ap Going (sym (faults_fold s (f ∷ fs)))
 
-    on_meta_fold : (s : State) (it : Meta) → on_meta inner it (Going s) ≡ Going (fold (entry_step setting earlier decl) s (entries_of it))
+    on_meta_fold : (s : State) (it : Meta) → on_meta inner it (Going s) ≡ Going (fold (entry_step setting earlier decl) s (list_entries (attribute_items it)))
     on_meta_fold s (meta.Path path) = refl
     on_meta_fold s (meta.«List» list) = on_items_fold s (items_of list.tokens)
     on_meta_fold s (meta.NameValue pair) = refl
 
-    attributes_fold : (ns : List Text) (s : State) (attributes : List Attribute) → fold (on_attribute inner ns) (Going s) attributes ≡ Going (fold (entry_step setting earlier decl) s (events ns attributes))
+    attributes_fold : (ns : List Text) (s : State) (attributes : List Attribute) → fold (on_attribute inner ns) (Going s) attributes ≡ Going (fold (entry_step setting earlier decl) s (named_entries ns attributes))
     attributes_fold ns s [] = refl
     attributes_fold ns s (a ∷ as') =
-        elim (has_name ns (meta_name a.meta)) as (λ b. fold (on_attribute inner ns) (if b then on_meta inner a.meta (Going s) else Going s) as' ≡ Going (fold (entry_step setting earlier decl) s ((if b then entries_of a.meta else []) ++ events ns as'))) [
+        elim (is_named ns (path_of_meta a.meta)) as (λ b. fold (on_attribute inner ns) (if b then on_meta inner a.meta (Going s) else Going s) as' ≡ Going (fold (entry_step setting earlier decl) s ((if b then list_entries (attribute_items a.meta) else []) ++ named_entries ns as'))) [
           | true ↦
               ap (λ p. fold (on_attribute inner ns) p as') (on_meta_fold s a.meta)
-              ∙ attributes_fold ns (fold (entry_step setting earlier decl) s (entries_of a.meta)) as'
-              ∙ ap Going (sym (fold-append (entry_step setting earlier decl) s (entries_of a.meta) (events ns as')))
+              ∙ attributes_fold ns (fold (entry_step setting earlier decl) s (list_entries (attribute_items a.meta))) as'
+              ∙ ap Going (sym (fold-append (entry_step setting earlier decl) s (list_entries (attribute_items a.meta)) (named_entries ns as')))
           | false ↦ attributes_fold ns s as'
         ]
 
-    over_is : (ns : List Text) (s : State) (given : Given) → run_from setting earlier decl.type (over_attributes ns left) given (Going s) ≡ Going (fold (entry_step setting earlier decl) s (events ns (attributes_given given)))
-    over_is [] s given = ap (λ es. Going (fold (entry_step setting earlier decl) s es)) (sym (no_events (attributes_given given)))
+    over_is : (ns : List Text) (s : State) (given : Given) → run_from setting earlier decl.type (over_attributes ns left) given (Going s) ≡ Going (fold (entry_step setting earlier decl) s (named_entries ns (attributes_given given)))
+    over_is [] s given = ap (λ es. Going (fold (entry_step setting earlier decl) s es)) (sym (entries-unnamed (attributes_given given)))
     over_is (n ∷ ns) s given =
         statement.for_attributes setting earlier decl.type (n ∷ ns) (for_items left ∷ []) forward.Nothing given (Going s)
         ∙ attributes_fold (n ∷ ns) s (attributes_given given)
@@ -174,7 +169,7 @@ module _ (setting : Setting) (earlier : Earlier) (decl : Decl) where
 pub list_is_meaning : ListIsMeaning
 list_is_meaning setting earlier left decl list is =
     let given = Items list in
-    let es = map ItemEntry list in
+    let es = map entry.Item list in
     let go : List Stmt → Progress → Progress = λ ss p. run_from setting earlier decl.type ss given p in
     let start = with_slots_kept setting earlier decl.type given decl [] [] [] in
     let behind_items = closing false left in
@@ -190,7 +185,7 @@ pub input_is_meaning : InputIsMeaning
 input_is_meaning setting earlier left decl input is =
     let given = Input input in
     let base = left.base in
-    let es = events decl.attributes input.attrs in
+    let es = named_entries decl.attributes input.attrs in
     let go : List Stmt → Progress → Progress = λ ss p. run_from setting earlier decl.type ss given p in
     let start = with_slots_kept setting earlier decl.type given decl [] [] [] in
     let behind_body : Bool → List Stmt = λ b. closing b base in

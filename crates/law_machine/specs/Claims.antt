@@ -11,7 +11,8 @@ use Rattle.codegen_core.specs.declared.trait_impl.TraitImpl.{TraitImpl}
 use Rattle.meaning_core.specs.Decl.{Decl}
 use Rattle.machine_execute.specs.Setting.{Setting}
 use Rattle.machine_execute.specs.Convert.{Earlier}
-use Rattle.meaning_core.specs.Entries.{ItemEntry, events}
+use Rattle.meta_entries.specs.Entries.{named_entries}
+use Rattle.meta_entries.specs.declared.entry.Entry.TheVariants as entry
 use Rattle.meaning_core.specs.Declarations.{declared_meaning}
 use Rattle.meaning_core.specs.Meaning.{struct_meaning}
 use Rattle.machine_execute.specs.Progress.{Items, Input, outcome}
@@ -28,13 +29,13 @@ use Rattle.law_machine.specs.Compiles.{AreMetaUnits, IsDecl, IsInputDecl, IsInpu
 abbrev pub ListIsMeaning : Type 0
 ListIsMeaning =
     (setting : Setting) (earlier : Earlier) (left : TraitImpl) (decl : Decl) (items : List NestedMeta) → IsDecl left decl
-    → outcome (run setting earlier decl.type (list_stmts left) (Items items)) ≡ Some (struct_meaning setting earlier decl (map ItemEntry items))
+    → outcome (run setting earlier decl.type (list_stmts left) (Items items)) ≡ Some (struct_meaning setting earlier decl (map entry.Item items))
 
 -- the function that reads an item of a text has an outcome, and it is what the attributes of the item mean
 abbrev pub InputIsMeaning : Type 0
 InputIsMeaning =
     (setting : Setting) (earlier : Earlier) (left : FromDeriveInputImpl) (decl : Decl) (input : DeriveInput) → IsInputDecl left decl
-    → outcome (run setting earlier decl.type (input_stmts left) (Input input)) ≡ Some (struct_meaning setting earlier decl (events decl.attributes input.attrs))
+    → outcome (run setting earlier decl.type (input_stmts left) (Input input)) ≡ Some (struct_meaning setting earlier decl (named_entries decl.attributes input.attrs))
 
 -- On any item, the unit of a declaration gives what the item means under it, where each declaration below it that is
 -- read from items has its unit.

@@ -3,8 +3,9 @@ use Rattle.std.proofs.Common.{◌≡◌, ◌&&◌, Bool, true, false, cond, List
 use Rattle.std.specs.Prelude.{is_some, unwrap_or}
 use Rattle.node_core.specs.declared.attr.Meta.{Meta}
 use Rattle.node_core.specs.Meta.{path_of_meta}
+use Rattle.error_fault.specs.Outcome.{Outcome, Value, Faults}
 use Rattle.error_fault.specs.declared.fault.Fault.{Fault}
-use Rattle.run_accepted.specs.Entries.{Entry, Refused, Given, items}
+use Rattle.run_accepted.specs.Entries.{items}
 use Rattle.run_accepted.specs.Rows.{else_faults, holds, one}
 use Rattle.run_accepted.specs.Values.{word_of}
 use Rattle.run_accepted.specs.Walk.{all_faults}
@@ -55,12 +56,12 @@ step option.Default set item none is = is
 step option.Unknown set item none is = is
 
 -- all entries behind what stands
-pub has_one_shape : (set : InputField) (before : List Meta) (entries : List Entry) → all_faults of_field of_field_faults set before entries ≡ []
+pub has_one_shape : (set : InputField) (before : List Meta) (entries : List (Outcome Meta)) → all_faults of_field of_field_faults set before entries ≡ []
     → HasOneShape (of_field set before) → HasOneShape (of_field set (before ++ items entries))
 has_one_shape set before [] none is = subst (λ xs. HasOneShape (of_field set xs)) (sym (append-nil before)) is
-has_one_shape set before (Refused told ∷ entries) none is =
-    has_one_shape set before entries (none-right told (all_faults of_field of_field_faults set before entries) none) is
-has_one_shape set before (Given item ∷ entries) none is =
+has_one_shape set before (Faults fault more ∷ entries) none is =
+    has_one_shape set before entries (none-right (fault ∷ more) (all_faults of_field of_field_faults set before entries) none) is
+has_one_shape set before (Value item ∷ entries) none is =
     let now = of_field set before in
     let faults = of_field_faults now item in
     let rest = all_faults of_field of_field_faults set (before ++ item ∷ []) entries in

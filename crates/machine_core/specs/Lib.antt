@@ -2,7 +2,6 @@ pub use Rattle.machine_execute.specs.Elements
 pub use Rattle.machine_execute.specs.Outcome
 pub use Rattle.machine_fit.specs.Answer
 pub use Rattle.machine_fit.specs.Asks
-pub use Rattle.machine_execute.specs.Attributes
 pub use Rattle.machine_execute.specs.Below
 pub use Rattle.machine_fit.specs.Callables
 pub use Rattle.machine_execute.specs.Convert

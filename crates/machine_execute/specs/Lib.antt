@@ -3,7 +3,6 @@ pub mod Outcome
 pub mod Units
 pub mod Elements
 pub mod Index
-pub use Rattle.machine_read.specs.Attributes
 pub use Rattle.machine_read.specs.Below
 pub use Rattle.machine_read.specs.Callable
 pub use Rattle.machine_read.specs.Convert

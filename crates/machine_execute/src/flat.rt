@@ -67,11 +67,7 @@ pub(crate) fn declare<'p>(
 
 /// Puts faults behind those before.
 #[tactic(auto, using(crate::proofs::Stopped::goes_over, crate::proofs::Stopped::goes_on))]
-pub(crate) fn refuse(
-    faults: Items<Fault>,
-    state: &mut State<'_>,
-    progress: Progress,
-) -> Mem<Progress>
+fn refuse(faults: Items<Fault>, state: &mut State<'_>, progress: Progress) -> Mem<Progress>
     ensures { IfOk result (λ it. progress_of (state_of state.new) it ≡ refused faults (progress_of (state_of state.old) progress)) }
 {
     match progress.over() {

@@ -4,7 +4,6 @@
 //! `machine_steps` says of it: a value, or all its faults with their places.
 #![tactic(auto)]
 
-mod attributes;
 mod build;
 mod element;
 mod faults;

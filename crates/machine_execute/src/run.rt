@@ -1,21 +1,22 @@
 //! A run of the statements of a function.
 
 ghost use Rattle.std.specs.Prelude.{◌≡◌, [], IfOk, fold, map};
+ghost use Rattle.meta_entries.specs.Attributes.{attribute_items};
 ghost use Rattle.machine_read.specs.Made.{named_type};
 ghost use Rattle.machine_read.specs.Scopes.{seen_setting};
 ghost use Rattle.machine_read.specs.Progress.{Items as ListGiven};
 ghost use Rattle.machine_read.specs.Statements as spec;
 ghost use Rattle.machine_execute.specs.Seen.{given_of, progress_of, state_of};
 
-use crate::attributes::{is_named, name_value_fault};
-use crate::flat::{check_errors, declare, declare_buffer, declare_errors, refuse, refuse_list};
+use crate::flat::{check_errors, declare, declare_buffer, declare_errors, refuse_list};
 use crate::given::Given;
 use crate::progress::Progress;
 use crate::slot::Slot;
 use crate::state::State;
 use base_core::{Items, Mem, Text};
 use codegen_program::Stmt;
-use machine_read::{Declared, Host, NestedMeta, Scope, Setting, items_of};
+use machine_read::{Declared, Host, NestedMeta, Scope, Setting};
+use meta_entries::{attribute_items, is_named};
 use node_core::{Attribute, Meta};
 use node_expr::Type;
 use std::alloc::AllocError;
@@ -122,7 +123,7 @@ impl<'p, H: Host, D: Declared> Run<'p, H, D> {
     {
         let mut progress = progress;
         for attribute in attributes {
-            if is_named(self.scope.alloc, names, &attribute.meta)? {
+            if is_named(self.scope.alloc, names, attribute.meta.path())? {
                 progress = self.on_meta(&attribute.meta, stmts, nesting, state, progress)?;
             }
         }
@@ -144,14 +145,26 @@ impl<'p, H: Host, D: Declared> Run<'p, H, D> {
     {
         match meta {
             Meta::Path(_) => Ok(progress),
-            Meta::List(list) => match items_of(self.scope.alloc, &list.tokens) {
-                Ok(items) => self.inside(items.as_slice(), stmts, nesting, state, progress),
-                Err(fail) => refuse_list(self.scope.alloc, fail, state, progress),
-            },
-            Meta::NameValue(_) => {
-                let fault = name_value_fault(self.scope.alloc, meta)?;
-                refuse(Items::of(self.scope.alloc, fault)?, state, progress)
-            }
+            _ => self.on_items(meta, stmts, nesting, state, progress),
+        }
+    }
+
+    /// Runs the statements on the items of an attribute, or puts its faults behind those before.
+    #[cycle(stmts)]
+    fn on_items(
+        &self,
+        meta: &Meta,
+        stmts: &'p [Stmt],
+        nesting: usize,
+        state: &mut State<'p>,
+        progress: Progress,
+    ) -> Mem<Progress>
+        requires { D.reads_within self.now.scope.declared.now self.now.room }
+        ensures { IfOk result (λ it. progress_of (state_of state.new) it ≡ spec.on_items (λ list. spec.all_do (map (spec.does (seen_setting (H.says self.now.scope.setting.host.now) self.now.scope.setting.decls.now) (D.earlier self.now.scope.declared.now) self.now.ty.now) stmts.now) (ListGiven list)) (attribute_items meta.now) (progress_of (state_of state.old) progress)) }
+    {
+        match attribute_items(self.scope.alloc, meta) {
+            Ok(items) => self.inside(items.as_slice(), stmts, nesting, state, progress),
+            Err(fail) => refuse_list(self.scope.alloc, fail, state, progress),
         }
     }
 

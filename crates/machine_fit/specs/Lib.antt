@@ -6,7 +6,6 @@ pub mod Callables
 pub mod Unfitness
 pub use Rattle.machine_forms.specs.Answer
 pub use Rattle.machine_forms.specs.Asks
-pub use Rattle.machine_forms.specs.Attributes
 pub use Rattle.machine_forms.specs.Convert
 pub use Rattle.machine_forms.specs.Forms
 pub use Rattle.machine_forms.specs.Machine

@@ -5,7 +5,6 @@ pub mod Names
 pub mod Places
 pub mod Refusals
 pub mod Units
-pub use Rattle.machine_steps.specs.Attributes
 pub use Rattle.machine_steps.specs.Callable
 pub use Rattle.machine_steps.specs.Convert
 pub use Rattle.machine_steps.specs.Decls

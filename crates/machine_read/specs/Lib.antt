@@ -2,7 +2,6 @@ pub mod Entries
 pub mod Layers
 pub mod Scopes
 pub mod Wrapped
-pub use Rattle.machine_steps.specs.Attributes
 pub use Rattle.machine_steps.specs.Below
 pub use Rattle.machine_steps.specs.Callable
 pub use Rattle.machine_steps.specs.Convert

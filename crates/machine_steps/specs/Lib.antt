@@ -2,7 +2,6 @@ pub mod Names
 pub mod Setting
 pub mod Convert
 pub mod Reading
-pub mod Attributes
 pub mod Below
 pub mod State
 pub mod Progress

@@ -4,14 +4,15 @@ use Rattle.base_core.specs.declared.text.Text.{Text}
 use Rattle.tok_types.specs.Ident.{ident_text}
 use Rattle.tok_types.specs.declared.ident.Ident.{Ident}
 use Rattle.node_expr.specs.declared.ty.«Type».{«Type» as Type'}
+use Rattle.node_core.specs.Meta.{path_of_meta}
 use Rattle.node_core.specs.declared.attr.Attribute.{Attribute}
 use Rattle.node_core.specs.declared.attr.Meta.{Meta}
 use Rattle.node_core.specs.declared.attr.Meta.TheVariants as meta
 use Rattle.machine_host.specs.NestedMeta.{NestedMeta}
-use Rattle.machine_host.specs.Dispatch.{items_of}
 use Rattle.error_fault.specs.declared.fault.Fault.{Fault}
 use Rattle.error_fault.specs.Faults.{at}
 use Rattle.error_fault.specs.Outcome.{Outcome, Value, Faults, on_value}
+use Rattle.meta_entries.specs.Attributes.{attribute_items, is_named}
 use Rattle.machine_host.specs.HostSays.{erased_decls, erased_place}
 use Rattle.machine_host.specs.Seen.{NothingSeen, IdentSeen}
 use Rattle.machine_host.specs.declared.place.Use.TheVariants as use_at
@@ -22,10 +23,8 @@ use Rattle.codegen_program.specs.declared.init.DefaultSource.TheVariants as sour
 use Rattle.codegen_program.specs.declared.init.Init.{Init}
 use Rattle.codegen_program.specs.declared.stmt.Stmt.{Stmt, fold-Stmt}
 use Rattle.codegen_program.specs.declared.stmt.Stmt.TheOpen.{Stmt-F}
-use Rattle.machine_steps.specs.Names.{meta_name}
 use Rattle.machine_steps.specs.Setting.{Setting, ask, outcome_of}
 use Rattle.machine_steps.specs.Convert.{Earlier, default}
-use Rattle.machine_steps.specs.Attributes.{has_name, name_value_fault}
 use Rattle.machine_steps.specs.Reading.{transformed}
 use Rattle.machine_steps.specs.State.{Slot, One, Several, State, put, slot_at, step, with_faults}
 use Rattle.machine_steps.specs.Progress.{Given, Items, Input, items_given, attributes_given, Progress, Going, start, going, building, unless_faults, on_outcome, built_or_stuck}
@@ -60,13 +59,12 @@ on_items read (Faults fault more) progress = refuse (fault ∷ more) progress
 -- an attribute that is read: a word gives nothing
 abbrev pub on_meta : (List NestedMeta → Progress → Progress) → Meta → Progress → Progress
 on_meta read (meta.Path path) progress = progress
-on_meta read (meta.«List» list) progress = on_items read (items_of list.tokens) progress
-on_meta read (meta.NameValue pair) progress = refuse (name_value_fault (meta.NameValue pair) ∷ []) progress
+on_meta read it progress = on_items read (attribute_items it) progress
 
 -- an attribute, where its name is one of these
 abbrev pub on_attribute : (List NestedMeta → Progress → Progress) → List Text → Progress → Attribute → Progress
 on_attribute read names progress attribute =
-    if has_name names (meta_name attribute.meta) then on_meta read attribute.meta progress else progress
+    if is_named names (path_of_meta attribute.meta) then on_meta read attribute.meta progress else progress
 
 -- the struct of these values
 abbrev pub built_struct : Ident → List Init → Outcome (List Datum) → Outcome Datum

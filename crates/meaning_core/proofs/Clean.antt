@@ -10,11 +10,14 @@ use Rattle.machine_steps.specs.Names.{item_name}
 use Rattle.meaning_core.specs.Decl.{Shape, Single, Many, Flat, FieldDecl, Decl, is_named_by}
 use Rattle.machine_steps.specs.Setting.{Setting}
 use Rattle.machine_steps.specs.Convert.{Earlier}
-use Rattle.meaning_core.specs.Entries.{Entry, FaultEntry, ItemEntry, items}
+use Rattle.meta_entries.specs.Entries.{items}
+use Rattle.meta_entries.specs.declared.entry.Entry.{Entry}
+use Rattle.meta_entries.specs.declared.entry.Entry.TheVariants as entry
+use Rattle.meta_entries.proofs.ItemLemmas.{items-append}
 use Rattle.meaning_core.specs.Owners.{owner, owner_named, is_this, own, field_at}
 use Rattle.machine_steps.specs.Reading.{label}
 use Rattle.meaning_core.specs.EntryFaults.{read, own_faults, item_faults, named_faults, entry_faults, all_entry_faults}
-use Rattle.meaning_core.proofs.Filters.{OnOwner, owner_on, filter_none, filter_one, items_cons, same, other}
+use Rattle.meaning_core.proofs.Filters.{OnOwner, owner_on, filter_none, filter_one, same, other}
 
 abbrev IsCons : {A : Type 0} → List A → Type 0
 IsCons [] = ⊥
@@ -76,14 +79,14 @@ module _ (setting : Setting) (earlier : Earlier) where
     clean_named before i (Some n) e none k c = clean_item before n i (owner_named decl.fields n) (ap (option_and_then (owner_named decl.fields)) e) (owner_on decl.fields n) none k c
 
     clean_entry : (before : List NestedMeta) (e : Entry) → entry_faults setting earlier decl before e ≡ [] → (k : ℕ) → Clean (field_at decl.fields k) (own decl.fields before k) → Clean (field_at decl.fields k) (own decl.fields (before ++ items (e ∷ [])) k)
-    clean_entry before (FaultEntry f) none k c = absurd (not_nil f [] none)
-    clean_entry before (ItemEntry i) none k c = clean_named before i (item_name i) refl none k c
+    clean_entry before (entry.Fault f) none k c = absurd (not_nil f [] none)
+    clean_entry before (entry.Item i) none k c = clean_named before i (item_name i) refl none k c
 
     clean_walk : (before : List NestedMeta) (es : List Entry) → all_entry_faults setting earlier decl before es ≡ [] → (k : ℕ) → Clean (field_at decl.fields k) (own decl.fields before k) → Clean (field_at decl.fields k) (own decl.fields (before ++ items es) k)
     clean_walk before [] none k c = let P : List NestedMeta → Type 0 = λ is. Clean (field_at decl.fields k) (own decl.fields is k) in subst P (sym (append-nil before)) c
     clean_walk before (e ∷ es) none k c =
         let P : List NestedMeta → Type 0 = λ is. Clean (field_at decl.fields k) (own decl.fields is k) in
-        subst P (append_assoc before (items (e ∷ [])) (items es) ∙ ap (λ is. before ++ is) (sym (items_cons setting earlier decl e es)))
+        subst P (append_assoc before (items (e ∷ [])) (items es) ∙ ap (λ is. before ++ is) (sym (items-append (e ∷ []) es)))
         (clean_walk (before ++ items (e ∷ [])) es (nil_right (entry_faults setting earlier decl before e) (all_entry_faults setting earlier decl (before ++ items (e ∷ [])) es) none) k
         (clean_entry before e (nil_left (entry_faults setting earlier decl before e) (all_entry_faults setting earlier decl (before ++ items (e ∷ [])) es) none) k c))
 

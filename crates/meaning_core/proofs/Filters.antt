@@ -20,7 +20,10 @@ use Rattle.machine_steps.specs.Names.{item_name}
 use Rattle.machine_steps.specs.Setting.{Setting}
 use Rattle.machine_steps.specs.Convert.{Earlier}
 use Rattle.meaning_core.specs.EntryFaults.{element_by, read, value_list, values, own_faults, unknown, item_faults, named_faults, entry_faults, all_entry_faults}
-use Rattle.meaning_core.specs.Entries.{Entry, FaultEntry, ItemEntry, items}
+use Rattle.meta_entries.specs.Entries.{items}
+use Rattle.meta_entries.specs.declared.entry.Entry.{Entry}
+use Rattle.meta_entries.specs.declared.entry.Entry.TheVariants as entry
+use Rattle.meta_entries.proofs.ItemLemmas.{items-append}
 use Rattle.meaning_core.specs.Owners.{owner, owner_named, is_this, own, is_unclaimed, is_unclaimed_name, field_at, each}
 use Rattle.machine_steps.specs.Reading.{label, read_at}
 use Rattle.machine_steps.specs.State.{Slot, One, Several, State, find_arm, put, slot_at, filled, pushed, by_rest, arm_slot, by_arm, by_name}
@@ -169,19 +172,15 @@ module _ (setting : Setting) (earlier : Earlier) where
         ∙ one_item before fs n i (owner_named decl.fields n) (ap (option_and_then (owner_named decl.fields)) e) (ap (is_unclaimed_name decl.fields) e) (owner_on decl.fields n)
 
     one_entry : (before : List NestedMeta) (fs : List Fault) (e : Entry) → entry_step setting earlier decl (state_behind setting earlier decl before fs) e ≡ state_behind setting earlier decl (before ++ items (e ∷ [])) (fs ++ entry_faults setting earlier decl before e)
-    one_entry before fs (FaultEntry f) = ap (λ is. state_behind setting earlier decl is (fs ++ f ∷ [])) (sym (append-nil before))
-    one_entry before fs (ItemEntry i) = one_named before fs i (item_name i) refl
-
-    pub items_cons : (e : Entry) (es : List Entry) → items (e ∷ es) ≡ items (e ∷ []) ++ items es
-    items_cons (FaultEntry f) es = refl
-    items_cons (ItemEntry i) es = refl
+    one_entry before fs (entry.Fault f) = ap (λ is. state_behind setting earlier decl is (fs ++ f ∷ [])) (sym (append-nil before))
+    one_entry before fs (entry.Item i) = one_named before fs i (item_name i) refl
 
     pub walk : (before : List NestedMeta) (fs : List Fault) (es : List Entry) → fold (entry_step setting earlier decl) (state_behind setting earlier decl before fs) es ≡ state_behind setting earlier decl (before ++ items es) (fs ++ all_entry_faults setting earlier decl before es)
     walk before fs [] = ap₂ (state_behind setting earlier decl) (sym (append-nil before)) (sym (append-nil fs))
     walk before fs (e ∷ es) =
         ap (λ s. fold (entry_step setting earlier decl) s es) (one_entry before fs e)
         ∙ walk (before ++ items (e ∷ [])) (fs ++ entry_faults setting earlier decl before e) es
-        ∙ ap₂ (state_behind setting earlier decl) (append_assoc before (items (e ∷ [])) (items es) ∙ ap (λ is. before ++ is) (sym (items_cons e es))) (append_assoc fs (entry_faults setting earlier decl before e) (all_entry_faults setting earlier decl (before ++ items (e ∷ [])) es))
+        ∙ ap₂ (state_behind setting earlier decl) (append_assoc before (items (e ∷ [])) (items es) ∙ ap (λ is. before ++ is) (sym (items-append (e ∷ []) es))) (append_assoc fs (entry_faults setting earlier decl before e) (all_entry_faults setting earlier decl (before ++ items (e ∷ [])) es))
 
 pub walk_is_filters : WalkIsFilters
 walk_is_filters setting earlier decl es = walk setting earlier decl [] [] es

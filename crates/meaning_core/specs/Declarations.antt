@@ -10,7 +10,8 @@ use Rattle.machine_steps.specs.Below.{below, unread}
 use Rattle.machine_steps.specs.Convert.{Earlier}
 use Rattle.machine_steps.specs.Setting.{Setting}
 use Rattle.meaning_core.specs.Decl.{Decl}
-use Rattle.meaning_core.specs.Entries.{ItemEntry, events}
+use Rattle.meta_entries.specs.Entries.{named_entries}
+use Rattle.meta_entries.specs.declared.entry.Entry.TheVariants as entry
 use Rattle.meaning_core.specs.Meaning.{struct_meaning}
 
 -- whether a list of items is read as the declaration
@@ -28,7 +29,7 @@ module _ (setting : Setting) where
   -- what a list of items means under the declaration, where there is one
   abbrev pub list_meaning : Earlier → Option Decl → List NestedMeta → Outcome Datum
   list_meaning earlier None items = unread
-  list_meaning earlier (Some decl) items = struct_meaning setting earlier decl (map ItemEntry items)
+  list_meaning earlier (Some decl) items = struct_meaning setting earlier decl (map entry.Item items)
 
   -- what lists of items mean under the declarations below a number
   abbrev pub earlier_decls : List Decl → ℕ → Earlier
@@ -36,4 +37,4 @@ module _ (setting : Setting) where
 
   -- what an item of a text means under a declaration, whose fields may have the types of those below it
   abbrev pub declared_meaning : List Decl → Decl → DeriveInput → Outcome Datum
-  declared_meaning decls decl input = struct_meaning setting (earlier_decls decls decl.number) decl (events decl.attributes input.attrs)
+  declared_meaning decls decl input = struct_meaning setting (earlier_decls decls decl.number) decl (named_entries decl.attributes input.attrs)

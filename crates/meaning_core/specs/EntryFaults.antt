@@ -17,7 +17,9 @@ use Rattle.machine_steps.specs.Names.{item_name}
 use Rattle.machine_steps.specs.Setting.{Setting}
 use Rattle.machine_steps.specs.Convert.{Earlier, element}
 use Rattle.machine_steps.specs.Reading.{label, read_at}
-use Rattle.meaning_core.specs.Entries.{Entry, FaultEntry, ItemEntry, items}
+use Rattle.meta_entries.specs.Entries.{items}
+use Rattle.meta_entries.specs.declared.entry.Entry.{Entry}
+use Rattle.meta_entries.specs.declared.entry.Entry.TheVariants as entry
 use Rattle.meaning_core.specs.Owners.{owner_named, own, field_at}
 
 -- the type of one value of a field
@@ -66,11 +68,11 @@ module _ (setting : Setting) (earlier : Earlier) where
 
     -- the faults of an entry behind the earlier items
     abbrev pub entry_faults : List NestedMeta → Entry → List Fault
-    entry_faults before (FaultEntry fault) = fault ∷ []
-    entry_faults before (ItemEntry item) = named_faults before item (item_name item)
+    entry_faults before (entry.Fault fault) = fault ∷ []
+    entry_faults before (entry.Item item) = named_faults before item (item_name item)
 
     -- the faults of these entries in order, behind the earlier items
     abbrev pub all_entry_faults : List NestedMeta → List Entry → List Fault
     all_entry_faults before [] = []
-    all_entry_faults before (entry ∷ entries) =
-        entry_faults before entry ++ all_entry_faults (before ++ items (entry ∷ [])) entries
+    all_entry_faults before (it ∷ entries) =
+        entry_faults before it ++ all_entry_faults (before ++ items (it ∷ [])) entries

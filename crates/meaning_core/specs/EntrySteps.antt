@@ -8,7 +8,8 @@ use Rattle.machine_steps.specs.Setting.{Setting}
 use Rattle.machine_steps.specs.Convert.{Earlier}
 use Rattle.machine_steps.specs.State.{State, step, with_faults}
 use Rattle.meaning_core.specs.Decl.{FieldDecl, Decl, has_flat, is_many, is_named, names}
-use Rattle.meaning_core.specs.Entries.{Entry, FaultEntry, ItemEntry}
+use Rattle.meta_entries.specs.declared.entry.Entry.{Entry}
+use Rattle.meta_entries.specs.declared.entry.Entry.TheVariants as entry
 
 -- the arm of a field
 abbrev pub arm : ℕ → FieldDecl → Arm
@@ -33,5 +34,5 @@ rest decl = rest_by (has_flat decl.fields) decl.allows_unknown (names decl.field
 
 -- the state behind one more entry
 abbrev pub entry_step : Setting → Earlier → Decl → State → Entry → State
-entry_step setting earlier decl state (FaultEntry fault) = with_faults (fault ∷ []) state
-entry_step setting earlier decl state (ItemEntry item) = step setting earlier (arms decl) (rest decl) state item
+entry_step setting earlier decl state (entry.Fault fault) = with_faults (fault ∷ []) state
+entry_step setting earlier decl state (entry.Item item) = step setting earlier (arms decl) (rest decl) state item

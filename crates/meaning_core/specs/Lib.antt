@@ -1,5 +1,4 @@
 pub mod Decl
-pub mod Entries
 pub mod Owners
 pub mod EntryFaults
 pub mod FieldValue

@@ -10,7 +10,8 @@ use Rattle.node_expr.specs.declared.ty.«Type».{«Type» as Type'}
 use Rattle.meaning_core.specs.Decl.{Default, ByType, ByCall, Decl}
 use Rattle.machine_steps.specs.Setting.{Setting, ask}
 use Rattle.machine_steps.specs.Convert.{Earlier, default}
-use Rattle.meaning_core.specs.Entries.{Entry, items}
+use Rattle.meta_entries.specs.Entries.{items}
+use Rattle.meta_entries.specs.declared.entry.Entry.{Entry}
 use Rattle.meaning_core.specs.Owners.{own, each}
 use Rattle.machine_steps.specs.Reading.{transformed}
 use Rattle.meaning_core.specs.EntryFaults.{all_entry_faults}

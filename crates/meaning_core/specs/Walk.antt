@@ -7,7 +7,8 @@ use Rattle.machine_value.specs.Members.{no_value}
 use Rattle.meaning_core.specs.Decl.{Shape, Single, Many, Flat, FieldDecl, Decl, has_flat}
 use Rattle.machine_steps.specs.Setting.{Setting}
 use Rattle.machine_steps.specs.Convert.{Earlier}
-use Rattle.meaning_core.specs.Entries.{Entry, items}
+use Rattle.meta_entries.specs.Entries.{items}
+use Rattle.meta_entries.specs.declared.entry.Entry.{Entry}
 use Rattle.meaning_core.specs.Owners.{own, unclaimed, each}
 use Rattle.meaning_core.specs.EntryFaults.{read, values, all_entry_faults}
 use Rattle.machine_steps.specs.State.{Slot, One, Several, State}

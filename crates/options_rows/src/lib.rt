@@ -1,11 +1,13 @@
 //! How options are read from attributes: an option's item, a table's row, the walk over attributes and bodies.
 #![tactic(auto)]
 
+mod entries;
 mod option_value;
 mod parse_attribute;
 mod parse_data;
 mod steps;
 
+pub use entries::darling_entries;
 pub use option_value::{OptionValue, word_of};
 pub use options_types::{
     Callable, DataShape, DefaultExpression, DeriveInputShapeSet, Flag, ForwardAttrsFilter, Ignored,

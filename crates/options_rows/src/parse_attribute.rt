@@ -1,23 +1,22 @@
 //! The walk over the `darling` attributes of an item or of a part of one.
 
-ghost use Rattle.std.specs.Prelude.{◌≡◌, ◌∷◌, ◌++◌, [], List, map, codes, IfOk, OnOk};
-ghost use Rattle.std.specs.Str.{bytes_eq};
+ghost use Rattle.std.specs.Prelude.{◌≡◌, ◌∷◌, ◌++◌, [], List, map, IfOk, OnOk};
 ghost use Rattle.error_core.specs.Answers.{Answers};
 ghost use Rattle.error_core.specs.ErrorView.{One, held};
-ghost use Rattle.options_types.specs.Dispatch.{items_of};
 ghost use Rattle.options_rows.specs.Does.{Does};
+ghost use Rattle.meta_entries.specs.declared.entry.Entry.TheVariants.{Item};
 ghost use Rattle.options_rows.specs.Entries as spec;
-ghost use Rattle.options_rows.specs.Values.{word_of};
 ghost use Rattle.options_rows.specs.Walk.{after_entry, all_faults, entry_faults, read_options, walk_faults, walk_state};
 
-use crate::option_value::word_of;
+use crate::darling_entries;
 use base_core::{Mem, TryClone};
 use error_core::{Accumulator, Error, Fail, Result};
+use error_fault::Fault;
+use meta_entries::Entry;
 use node_core::{Attribute, Meta};
-use node_expr::{Lit, Path};
-use options_types::{NestedMeta, items_of};
-use std::alloc::{AllocError, Global};
-use tok_types::TokenStream;
+use node_expr::Lit;
+use options_types::NestedMeta;
+use std::alloc::Global;
 use util_table::RenameTable;
 
 /// What reads its options from attributes, item by item.
@@ -95,107 +94,44 @@ fn walk_attributes<T: ParseAttribute>(
         × (held errors.new ≡ held errors.old
         ++ walk_faults (T.options table.now) (T.faults table.now) target.old (spec.option_entries attrs.now))) }
 {
-    for attr in attrs {
-        walk_attribute(alloc, target, attr, table, errors)?;
+    let entries = darling_entries(alloc, attrs)?;
+    walk_entries(alloc, target, entries.as_slice(), table, errors)
+}
+
+fn walk_entries<T: ParseAttribute>(
+    alloc: Global,
+    target: &mut T,
+    entries: &[Entry],
+    table: &RenameTable,
+    errors: &mut Accumulator,
+) -> Mem<()>
+    ensures { OnOk result
+        ((target.new ≡ walk_state (T.options table.now) (T.faults table.now) target.old (map spec.option_item entries.now))
+        × (held errors.new ≡ held errors.old
+        ++ walk_faults (T.options table.now) (T.faults table.now) target.old (map spec.option_item entries.now))) }
+{
+    for entry in entries {
+        walk_entry(alloc, target, entry, table, errors)?;
     }
     Ok(())
 }
 
-fn walk_attribute<T: ParseAttribute>(
+fn walk_entry<T: ParseAttribute>(
     alloc: Global,
     target: &mut T,
-    attr: &Attribute,
+    entry: &Entry,
     table: &RenameTable,
     errors: &mut Accumulator,
 ) -> Mem<()>
     ensures { OnOk result
-        ((target.new ≡ walk_state (T.options table.now) (T.faults table.now) target.old (spec.attribute_entries attr.now))
+        ((target.new ≡ after_entry (T.options table.now) (T.faults table.now) target.old (spec.option_item entry.now))
         × (held errors.new ≡ held errors.old
-        ++ walk_faults (T.options table.now) (T.faults table.now) target.old (spec.attribute_entries attr.now))) }
+        ++ entry_faults (T.options table.now) (T.faults table.now) target.old (spec.option_item entry.now))) }
 {
-    if is_darling(attr.meta.path()) {
-        return walk_meta(alloc, target, &attr.meta, table, errors);
+    match entry {
+        Entry::Item(item) => walk_item(alloc, target, item, table, errors),
+        Entry::Fault(fault) => push_fault(alloc, fault, errors),
     }
-    Ok(())
-}
-
-fn is_darling(path: &Path) -> bool
-    ensures { result ≡ bytes_eq (word_of path.now) (codes "darling") }
-{
-    word_of(path) == "darling"
-}
-
-#[tactic(auto, using(crate::proofs::HandleLemmas::pushed))]
-fn walk_meta<T: ParseAttribute>(
-    alloc: Global,
-    target: &mut T,
-    meta: &Meta,
-    table: &RenameTable,
-    errors: &mut Accumulator,
-) -> Mem<()>
-    ensures { OnOk result
-        ((target.new ≡ walk_state (T.options table.now) (T.faults table.now) target.old (spec.meta_entries meta.now))
-        × (held errors.new ≡ held errors.old
-        ++ walk_faults (T.options table.now) (T.faults table.now) target.old (spec.meta_entries meta.now))) }
-{
-    match meta {
-        Meta::List(list) => walk_tokens(alloc, target, &list.tokens, table, errors),
-        Meta::Path(_) => {
-            let error = no_list(alloc, "word", meta)?;
-            errors.push(alloc, error)
-        }
-        Meta::NameValue(_) => {
-            let error = no_list(alloc, "name-value", meta)?;
-            errors.push(alloc, error)
-        }
-    }
-}
-
-#[tactic(auto, unfolding(crate::specs::Entries::no_list))]
-fn no_list(alloc: Global, format: &str, meta: &Meta) -> Mem<Error>
-    ensures { IfOk result (λ error. error ≡ One (spec.no_list format.now meta.now)) }
-{
-    Ok(Error::unsupported_format(alloc, format)?.with_span(meta))
-}
-
-#[tactic(auto, using(crate::proofs::HandleLemmas::pushed))]
-fn walk_tokens<T: ParseAttribute>(
-    alloc: Global,
-    target: &mut T,
-    tokens: &TokenStream,
-    table: &RenameTable,
-    errors: &mut Accumulator,
-) -> Mem<()>
-    ensures { OnOk result
-        ((target.new ≡ walk_state (T.options table.now) (T.faults table.now) target.old (spec.list_entries (items_of tokens.now)))
-        × (held errors.new ≡ held errors.old
-        ++ walk_faults (T.options table.now) (T.faults table.now) target.old (spec.list_entries (items_of tokens.now)))) }
-{
-    match items_of(alloc, tokens) {
-        Ok(items) => walk_items(alloc, target, items.as_slice(), table, errors),
-        Err(fail) => match fail.into_error() {
-            Some(error) => errors.push(alloc, error),
-            None => Err(AllocError),
-        },
-    }
-}
-
-fn walk_items<T: ParseAttribute>(
-    alloc: Global,
-    target: &mut T,
-    items: &[NestedMeta],
-    table: &RenameTable,
-    errors: &mut Accumulator,
-) -> Mem<()>
-    ensures { OnOk result
-        ((target.new ≡ walk_state (T.options table.now) (T.faults table.now) target.old (map spec.nested_entry items.now))
-        × (held errors.new ≡ held errors.old
-        ++ walk_faults (T.options table.now) (T.faults table.now) target.old (map spec.nested_entry items.now))) }
-{
-    for item in items {
-        walk_item(alloc, target, item, table, errors)?;
-    }
-    Ok(())
 }
 
 #[tactic(auto, using(crate::proofs::HandleLemmas::pushed, crate::proofs::HandleLemmas::does_handled))]
@@ -207,9 +143,9 @@ fn walk_item<T: ParseAttribute>(
     errors: &mut Accumulator,
 ) -> Mem<()>
     ensures { OnOk result
-        ((target.new ≡ after_entry (T.options table.now) (T.faults table.now) target.old (spec.nested_entry item.now))
+        ((target.new ≡ after_entry (T.options table.now) (T.faults table.now) target.old (spec.option_item (Item item.now)))
         × (held errors.new ≡ held errors.old
-        ++ entry_faults (T.options table.now) (T.faults table.now) target.old (spec.nested_entry item.now))) }
+        ++ entry_faults (T.options table.now) (T.faults table.now) target.old (spec.option_item (Item item.now)))) }
 {
     match item {
         NestedMeta::Meta(item) => {
@@ -233,4 +169,12 @@ fn no_option(alloc: Global, lit: &Lit) -> Mem<Error>
     ensures { IfOk result (λ error. error ≡ One (spec.no_option lit.now)) }
 {
     Ok(Error::unsupported_format(alloc, "literal")?.with_span(lit))
+}
+
+#[tactic(auto, using(crate::proofs::HandleLemmas::pushed))]
+fn push_fault(alloc: Global, fault: &Fault, errors: &mut Accumulator) -> Mem<()>
+    ensures { OnOk result (held errors.new ≡ held errors.old ++ fault.now ∷ []) }
+{
+    let error = Error::from_fault(alloc, fault.try_clone(alloc)?)?;
+    errors.push(alloc, error)
 }

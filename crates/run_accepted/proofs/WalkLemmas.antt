@@ -1,30 +1,27 @@
 -- The items of entries one after another.
-use Rattle.std.proofs.Common.{◌≡◌, ◌∙◌, ℕ, suc, ◌+◌, ◌<◌, List, [], ◌∷◌, ◌++◌, length, get_or, drop, drop-cons, add-one, flat_map, refl, sym, ap, append_assoc}
-use Rattle.std.proofs.lemmas.List.Concat.{flat_map-append}
+use Rattle.std.proofs.Common.{◌≡◌, ◌∙◌, ℕ, suc, ◌+◌, ◌<◌, List, [], ◌∷◌, ◌++◌, length, get_or, drop, drop-cons, add-one, flat_map, map, refl, sym, ap, append_assoc, append-nil}
 use Rattle.tok_types.specs.declared.span.Span.{Span}
-use Rattle.node_core.specs.declared.attr.Attribute.{Attribute}
-use Rattle.options_rows.specs.Entries.{Entry, Refused, Given, attribute_entries, items, option_entries}
+use Rattle.node_core.specs.declared.attr.Meta.{Meta}
+use Rattle.error_fault.specs.Outcome.{Outcome, Value, Faults}
+use Rattle.meta_entries.specs.declared.entry.Entry.{Entry}
+use Rattle.options_rows.specs.Entries.{items, option_item}
 use Rattle.run_accepted.specs.Unbuilt.{option_places}
 
-items-append : (xs ys : List Entry) → items (xs ++ ys) ≡ items xs ++ items ys
-items-append [] ys = refl
-items-append (Refused faults ∷ xs) ys = items-append xs ys
-items-append (Given item ∷ xs) ys = ap (λ zs. item ∷ zs) (items-append xs ys)
-
-abbrev places : List Entry → List Span
+abbrev places : List (Outcome Meta) → List Span
 places entries = flat_map option_places (items entries)
 
-places-append : (xs ys : List Entry) → places (xs ++ ys) ≡ places xs ++ places ys
-places-append xs ys = ap (flat_map option_places) (items-append xs ys) ∙ flat_map-append option_places (items xs) (items ys)
+places-cons : (first : Outcome Meta) (rest : List (Outcome Meta)) → places (first ∷ rest) ≡ places (first ∷ []) ++ places rest
+places-cons (Faults fault more) rest = refl
+places-cons (Value item) rest = ap (λ here. here ++ places rest) (sym (append-nil (option_places item)))
 
--- one turn of the loop over attributes
-pub next_places : (old new : List Span) (attrs : List Attribute) (i : ℕ) (a : Attribute) → i < length attrs → a ≡ get_or attrs i a
-    → new ≡ old ++ places (attribute_entries a)
-    → new ++ places (option_entries (drop (i + 1) attrs)) ≡ old ++ places (option_entries (drop i attrs))
-next_places old new attrs i a lt is made =
-    let rest = option_entries (drop (i + 1) attrs) in
+-- one turn of the loop over entries
+pub next_places : (old new : List Span) (entries : List Entry) (i : ℕ) (it : Entry) → i < length entries → it ≡ get_or entries i it
+    → new ≡ old ++ places (option_item it ∷ [])
+    → new ++ places (map option_item (drop (i + 1) entries)) ≡ old ++ places (map option_item (drop i entries))
+next_places old new entries i it lt is made =
+    let rest = map option_item (drop (i + 1) entries) in
     ap (λ xs. xs ++ places rest) made
-    ∙ append_assoc old (places (attribute_entries a)) (places rest)
-    ∙ ap (λ xs. old ++ xs) (sym (places-append (attribute_entries a) rest))
-    ∙ ap (λ xs. old ++ places (option_entries xs))
-    (sym (drop-cons attrs i a lt ∙ ap (λ x. x ∷ drop (suc i) attrs) (sym is) ∙ ap (λ n. a ∷ drop n attrs) (sym (add-one i))))
+    ∙ append_assoc old (places (option_item it ∷ [])) (places rest)
+    ∙ ap (λ xs. old ++ xs) (sym (places-cons (option_item it) rest))
+    ∙ ap (λ xs. old ++ places (map option_item xs))
+    (sym (drop-cons entries i it lt ∙ ap (λ x. x ∷ drop (suc i) entries) (sym is) ∙ ap (λ n. it ∷ drop n entries) (sym (add-one i))))

@@ -6,13 +6,13 @@ use Rattle.tok_core.specs.Tokens.{Span}
 use Rattle.node_expr.specs.declared.path.Path.{Path}
 use Rattle.node_make.specs.PathText.{path_text}
 use Rattle.node_core.specs.declared.attr.Attribute.{Attribute}
-use Rattle.node_core.specs.declared.attr.Meta.{Meta}
 use Rattle.node_core.specs.declared.attr.Meta.TheVariants as meta
 use Rattle.node_span.specs.Spanned.{path_span}
-use Rattle.error_fault.specs.Outcome.{Outcome, Value, Faults}
-use Rattle.meta_nested.specs.Dispatch.{items_of}
-use Rattle.meta_nested.specs.declared.nested.NestedMeta.{NestedMeta}
 use Rattle.meta_nested.specs.declared.nested.NestedMeta.TheVariants as nested
+use Rattle.meta_entries.specs.Attributes.{attribute_items}
+use Rattle.meta_entries.specs.Entries.{entries}
+use Rattle.meta_entries.specs.declared.entry.Entry.{Entry}
+use Rattle.meta_entries.specs.declared.entry.Entry.TheVariants as entry
 use Rattle.codegen_program.specs.declared.program.Derive.{Derive}
 use Rattle.codegen_program.specs.declared.program.Derive.TheVariants as derive
 use Rattle.run_accepted.specs.declared.derives.Derived.{Derived}
@@ -58,24 +58,15 @@ derived_at span (Some derive) = record { derive = derive; span = span } ∷ []
 abbrev pub word_derives : Path → List Derived
 word_derives path = derived_at (path_span path) (derive_named (path_text path))
 
--- no other item than a word names a derive
-abbrev pub item_derives : NestedMeta → List Derived
-item_derives (nested.Meta (meta.Path path)) = word_derives path
-item_derives _ = []
+-- no other entry than a word names a derive
+abbrev pub entry_derives : Entry → List Derived
+entry_derives (entry.Item (nested.Meta (meta.Path path))) = word_derives path
+entry_derives _ = []
 
--- the derives of the items that the tokens of a list are; tokens that are no items name none
-abbrev pub list_derives : Outcome (List NestedMeta) → List Derived
-list_derives (Value items) = flat_map item_derives items
-list_derives (Faults fault more) = []
+-- the text of the path is `derive`
+abbrev pub is_derive : Path → Bool
+is_derive path = bytes_eq (path_text path) (codes "derive")
 
--- the derives of a list whose path's text is `derive`
-abbrev pub meta_derives : Meta → List Derived
-meta_derives (meta.«List» list) = if bytes_eq (path_text list.path) (codes "derive") then list_derives (items_of list.tokens) else []
-meta_derives _ = []
-
-abbrev pub attribute_derives : Attribute → List Derived
-attribute_derives it = meta_derives it.meta
-
--- the derives that the attributes name, in order
+-- the derives that the attributes name, in order; tokens that are no items name none
 abbrev pub derives_of : List Attribute → List Derived
-derives_of attributes = flat_map attribute_derives attributes
+derives_of attributes = flat_map entry_derives (entries is_derive attribute_items attributes)

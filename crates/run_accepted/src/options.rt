@@ -1,80 +1,47 @@
 //! Options of a declaration that no unit has a part for.
 
-ghost use Rattle.std.specs.Prelude.{◌≡◌, ◌++◌, ◌∷◌, [], flat_map, map, codes, OnOk};
-ghost use Rattle.std.specs.Str.{bytes_eq};
-ghost use Rattle.meta_nested.specs.Dispatch.{items_of};
-ghost use Rattle.options_rows.specs.Entries.{attribute_entries, items, list_entries, meta_entries, nested_entry, option_entries};
-ghost use Rattle.options_rows.specs.Values.{word_of};
+ghost use Rattle.std.specs.Prelude.{◌≡◌, ◌++◌, ◌∷◌, [], flat_map, map, OnOk};
+ghost use Rattle.meta_entries.specs.declared.entry.Entry.TheVariants.{Item};
+ghost use Rattle.options_rows.specs.Entries.{items, option_entries, option_item};
 ghost use Rattle.run_accepted.specs.Unbuilt as spec;
 
 use base_core::{Items, Mem};
-use meta_nested::{NestedMeta, items_of};
+use meta_entries::Entry;
+use meta_nested::NestedMeta;
 use node_core::{Attribute, Meta};
-use node_expr::Path;
 use node_span::Spanned;
-use options_rows::word_of;
-use std::alloc::{AllocError, Global};
-use tok_types::{Span, TokenStream};
+use options_rows::{darling_entries, word_of};
+use std::alloc::Global;
+use tok_types::Span;
 
 /// Adds the places of the items in `darling` attributes that are of such an option.
 pub(crate) fn push_options(alloc: Global, attrs: &[Attribute], spans: &mut Items<Span>) -> Mem<()>
     ensures { OnOk result (spans.new ≡ spans.old ++ flat_map spec.option_places (items (option_entries attrs.now))) }
 {
-    for attr in attrs {
-        push_attribute(alloc, attr, spans)?;
+    let entries = darling_entries(alloc, attrs)?;
+    push_entries(entries.as_slice(), spans)
+}
+
+fn push_entries(entries: &[Entry], spans: &mut Items<Span>) -> Mem<()>
+    ensures { OnOk result (spans.new ≡ spans.old ++ flat_map spec.option_places (items (map option_item entries.now))) }
+{
+    for entry in entries {
+        push_entry(entry, spans)?;
     }
     Ok(())
 }
 
-fn push_attribute(alloc: Global, attr: &Attribute, spans: &mut Items<Span>) -> Mem<()>
-    ensures { OnOk result (spans.new ≡ spans.old ++ flat_map spec.option_places (items (attribute_entries attr.now))) }
+fn push_entry(entry: &Entry, spans: &mut Items<Span>) -> Mem<()>
+    ensures { OnOk result (spans.new ≡ spans.old ++ flat_map spec.option_places (items (option_item entry.now ∷ []))) }
 {
-    if is_darling(attr.meta.path()) {
-        return push_meta(alloc, &attr.meta, spans);
+    match entry {
+        Entry::Item(nested) => push_nested(nested, spans),
+        Entry::Fault(_) => Ok(()),
     }
-    Ok(())
-}
-
-fn is_darling(path: &Path) -> bool
-    ensures { result ≡ bytes_eq (word_of path.now) (codes "darling") }
-{
-    word_of(path) == "darling"
-}
-
-fn push_meta(alloc: Global, meta: &Meta, spans: &mut Items<Span>) -> Mem<()>
-    ensures { OnOk result (spans.new ≡ spans.old ++ flat_map spec.option_places (items (meta_entries meta.now))) }
-{
-    match meta {
-        Meta::List(list) => push_tokens(alloc, &list.tokens, spans),
-        Meta::Path(_) => Ok(()),
-        Meta::NameValue(_) => Ok(()),
-    }
-}
-
-/// Tokens that are no items have none of such an option.
-fn push_tokens(alloc: Global, tokens: &TokenStream, spans: &mut Items<Span>) -> Mem<()>
-    ensures { OnOk result (spans.new ≡ spans.old ++ flat_map spec.option_places (items (list_entries (items_of tokens.now)))) }
-{
-    match items_of(alloc, tokens) {
-        Ok(nested) => push_items(nested.as_slice(), spans),
-        Err(fail) => match fail.into_error() {
-            Some(_) => Ok(()),
-            None => Err(AllocError),
-        },
-    }
-}
-
-fn push_items(nested: &[NestedMeta], spans: &mut Items<Span>) -> Mem<()>
-    ensures { OnOk result (spans.new ≡ spans.old ++ flat_map spec.option_places (items (map nested_entry nested.now))) }
-{
-    for it in nested {
-        push_nested(it, spans)?;
-    }
-    Ok(())
 }
 
 fn push_nested(nested: &NestedMeta, spans: &mut Items<Span>) -> Mem<()>
-    ensures { OnOk result (spans.new ≡ spans.old ++ flat_map spec.option_places (items (nested_entry nested.now ∷ []))) }
+    ensures { OnOk result (spans.new ≡ spans.old ++ flat_map spec.option_places (items (option_item (Item nested.now) ∷ []))) }
 {
     match nested {
         NestedMeta::Meta(item) => push_item(item, spans),

@@ -8,6 +8,8 @@ mod calls;
 #[cfg(test)]
 mod elements;
 #[cfg(test)]
+mod entries;
+#[cfg(test)]
 mod integers;
 #[cfg(test)]
 mod lists;

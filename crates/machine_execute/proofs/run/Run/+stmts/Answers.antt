@@ -1,4 +1,4 @@
-use Rattle.std.proofs.Common.{◌≡◌, List, [], ◌∷◌, IfOk, Result, Ok, ap, fold, map, option_map, rules, ◌∙◌}
+use Rattle.std.proofs.Common.{◌≡◌, List, [], IfOk, Result, Ok, ap, fold, map, option_map, rules, ◌∙◌}
 use Rattle.std.specs.declared.alloc.AllocError.{AllocError}
 use Rattle.base_core.specs.declared.text.Text.{Text}
 use Rattle.node_core.specs.declared.attr.Attribute.{Attribute}
@@ -12,7 +12,7 @@ use Rattle.machine_read.specs.State.{Several, put, slot_at, step}
 use Rattle.machine_read.specs.Statements as spec
 use Rattle.machine_execute.specs.Seen.{given_of, progress_of, state_of}
 use Rattle.machine_execute.specs.declared.progress.Progress.{Progress as Come}
-use Rattle.machine_execute.proofs.Metas.{paired, unlisted}
+use Rattle.machine_execute.proofs.Metas.{itemed, unlisted}
 use Rattle.machine_execute.proofs.Steps.{acted, ok_same}
 use Rattle.machine_execute.proofs.run.Run.+stmts.Goals as goal
 
@@ -114,18 +114,18 @@ act-returns-in-Transform g t c =
     let earlier = g.D.Declared.earlier c.args.self.now.scope.declared.now in
     acted setting earlier c.args.self.now.ty.now (given_of c.args.given) (progress_of (state_of c.args.state.now) c.args.progress) (state_of c.args.state.now) c.args.stmt.now _ _ c.transform.result c.in-Transform.is (steps.transform setting earlier c.args.self.now.ty.now _) (c.transform.ensures (state_of c.args.state.now) (state_of c.args.state.now))
 
-pub on_meta-returns-in-Err : goal.on_meta-returns-in-Err
-on_meta-returns-in-Err g t c =
+pub on_meta-returns-in_default : goal.on_meta-returns-in_default
+on_meta-returns-in_default g t c =
     let setting = seen_setting (g.H.Host.says c.args.self.now.scope.setting.host.now) c.args.self.now.scope.setting.decls.now in
     let earlier = g.D.Declared.earlier c.args.self.now.scope.declared.now in
     let before = progress_of (state_of c.args.state.now) c.args.progress in
     let read : List NestedMeta → Progress → Progress = λ list. spec.run_from setting earlier c.args.self.now.ty.now c.args.stmts.now (Items list) in
-    unlisted read before (state_of c.refuse_list.new.state) c.args.meta.now c.refuse_list.result c.in-List.list c.in-Err.fail c.items_of.result c.in-List.is c.in-Err.is c.items_of.ensures c.refuse_list.ensures
+    itemed read before (state_of c.on_items.new.state) c.args.meta.now c.on_items.result c.in_default.not-Path c.on_items.ensures
 
-pub on_meta-returns-in_ok-of-in-NameValue : goal.on_meta-returns-in_ok-of-in-NameValue
-on_meta-returns-in_ok-of-in-NameValue g t c =
+pub on_items-returns-in-Err : goal.on_items-returns-in-Err
+on_items-returns-in-Err g t c =
     let setting = seen_setting (g.H.Host.says c.args.self.now.scope.setting.host.now) c.args.self.now.scope.setting.decls.now in
     let earlier = g.D.Declared.earlier c.args.self.now.scope.declared.now in
     let before = progress_of (state_of c.args.state.now) c.args.progress in
     let read : List NestedMeta → Progress → Progress = λ list. spec.run_from setting earlier c.args.self.now.ty.now c.args.stmts.now (Items list) in
-    paired read before (state_of c.refuse.new.state) c.args.meta.now c.refuse.result _ _ c.in-NameValue.is (c.in_ok-of-in-NameValue.ensures ∙ ap (λ fault. fault ∷ []) c.in_ok-fault-in-NameValue.ensures) c.refuse.ensures
+    unlisted read before (state_of c.refuse_list.new.state) c.args.meta.now c.refuse_list.result c.in-Err.fail c.attribute_items.result c.in-Err.is c.attribute_items.ensures c.refuse_list.ensures

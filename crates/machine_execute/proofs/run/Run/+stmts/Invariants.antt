@@ -6,19 +6,22 @@ use Rattle.machine_execute.specs.Seen.{given_of, progress_of, state_of}
 use Rattle.machine_execute.proofs.run.Run.+stmts.Given as goal
 
 abbrev pub decreases-run_from : goal.decreases-run_from
-decreases-run_from g l = 5 * l.nesting + 4
+decreases-run_from g l = 6 * l.nesting + 5
 
 abbrev pub decreases-act : goal.decreases-act
-decreases-act g l = 5 * l.nesting + 3
+decreases-act g l = 6 * l.nesting + 4
 
 abbrev pub decreases-for_attributes : goal.decreases-for_attributes
-decreases-for_attributes g l = 5 * l.nesting + 2
+decreases-for_attributes g l = 6 * l.nesting + 3
 
 abbrev pub decreases-on_meta : goal.decreases-on_meta
-decreases-on_meta g l = 5 * l.nesting + 1
+decreases-on_meta g l = 6 * l.nesting + 2
+
+abbrev pub decreases-on_items : goal.decreases-on_items
+decreases-on_items g l = 6 * l.nesting + 1
 
 abbrev pub decreases-inside : goal.decreases-inside
-decreases-inside g l = 5 * l.nesting
+decreases-inside g l = 6 * l.nesting
 
 abbrev pub invariant-run_from-loop-stmt : goal.invariant-run_from-loop-stmt
 invariant-run_from-loop-stmt g l =
