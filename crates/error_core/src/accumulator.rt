@@ -18,6 +18,17 @@ use std::marker::Model;
 ///
 /// A function whose calls answer by `?` cannot own one meanwhile. So the owner makes it and spends it,
 /// and lends it to the function that reads.
+///
+/// ```
+/// let mut errors = Error::accumulator(alloc);
+/// match collect(alloc, fields.as_slice(), &mut errors) {
+///     Ok(()) => errors.finish_with(fields),
+///     Err(_) => {
+///         let _errors = errors.into_inner();
+///         Err(Fail::NoMemory)
+///     }
+/// }
+/// ```
 pub struct Accumulator {
     errors: Vec<Error>,
     alloc: Global,

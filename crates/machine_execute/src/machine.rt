@@ -28,6 +28,14 @@ pub const MAX_READING: usize = 1024;
 /// None where the machine has no outcome: there is no such unit, the element is not of its kind, or its statements are stuck.
 ///
 /// An element whose reading goes deeper than [`MAX_READING`] levels of types and declarations is want of memory.
+///
+/// ```
+/// match try_execute(alloc, &program, unit, Element::Input(&input), &host) {
+///     Ok(Some(outcome)) => shown(alloc, &outcome),
+///     Ok(None) => Err(Fail::new(format_args!("{subject} has no outcome"))),
+///     Err(_) => Ok(Text::from_str(alloc, "no memory")?),
+/// }
+/// ```
 pub fn try_execute<H: Host>(
     alloc: Global,
     program: &Program,

@@ -20,6 +20,18 @@ use tok_types::Span;
 /// A type writes [`cell`](FromMeta::cell) alone: what it answers to each call itself. The calls are those of its reader,
 /// [`ByType`], each with its default, and are the same for all types: so a reader of a type's cells knows what each of its
 /// calls answers. A lone fault without a place gets that of the literal, the expression or the item that was read.
+///
+/// ```
+/// fn cell(alloc: Global, call: Call<'_>) -> Result<Option<Verbosity>> {
+///     let level = match call {
+///         Call::Word => 1,
+///         Call::String("quiet", _) => 0,
+///         Call::Value(lit @ Lit::Int(_)) => u8::from_value(alloc, lit)?,
+///         _ => return Ok(None),
+///     };
+///     Ok(Some(Verbosity { level }))
+/// }
+/// ```
 pub trait FromMeta: Sized {
     /// What contracts see of a value.
     ghost Seen: { Type 0 };

@@ -46,6 +46,12 @@ pub struct MetaNameValueInvalidExpr {
 
 impl NestedMeta {
     /// Reads a list of nested items, with at most one comma at its end.
+    ///
+    /// ```
+    /// let tokens = lex(alloc, 0, text)?;
+    /// let items = NestedMeta::parse_meta_list(alloc, &tokens)?;
+    /// Ok(items)
+    /// ```
     #[tactic(auto, unfolding(crate::specs::Nested::nested_of, crate::specs::Nested::attribute_in))]
     pub fn parse_meta_list(alloc: Global, tokens: &TokenStream) -> Parse<Items<NestedMeta>>
         ensures { ParsesNested tokens.now result }

@@ -27,6 +27,13 @@ pub struct FdiOptions {
 
 impl FdiOptions {
     /// The options of a declaration, or all that is wrong with them.
+    ///
+    /// ```
+    /// let Ok(options) = FdiOptions::new(alloc, &item, &table) else {
+    ///     return Err(Fail::new(format_args!("{row} is refused")));
+    /// };
+    /// let core = &options.base.container;
+    /// ```
     pub fn new(alloc: Global, di: &DeriveInput, table: &RenameTable) -> Result<FdiOptions>
         ensures { Answers (λ it. it) result (spec.new_outcome (spec.fdi_reader table.now di.now) di.now) }
     {

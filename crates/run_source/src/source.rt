@@ -85,6 +85,13 @@ impl Drop for Ran {
 /// Reads a text of declarations and one of items, and runs the last declaration's parser over each item.
 ///
 /// The declarations' spans have source 0, and the items' source 1. A text has at most [`MAX_LEN`] bytes.
+///
+/// ```
+/// match run_source(alloc, DECLARATIONS, items, &table, &host) {
+///     Ok(report) => Ok(report),
+///     Err(_) => Err(Fail::new(format_args!("{items} is refused"))),
+/// }
+/// ```
 pub fn run_source<H: Host>(
     alloc: Global,
     declarations: &str,

@@ -42,6 +42,12 @@ fn whole<A: Drop>(
 }
 
 /// A type: `Vec<T>`, `&'a [T; 8]`
+///
+/// ```
+/// let tokens = lex(alloc, 0, text)?;
+/// let ty = parse_type(alloc, &tokens)?;
+/// Ok(ty)
+/// ```
 pub fn parse_type(alloc: Global, tokens: &TokenStream) -> Parse<Type>
     ensures { Parses (codes "expected a type") tokens.now (trees.type_of tokens.now) result }
 {
@@ -157,6 +163,12 @@ pub fn parse_items(alloc: Global, tokens: &TokenStream) -> Parse<Items<DeriveInp
 }
 
 /// One item: a struct, an enum or a union.
+///
+/// ```
+/// let tokens = lex(alloc, 0, text)?;
+/// let item = parse_derive_input(alloc, &tokens)?;
+/// Ok(item)
+/// ```
 pub fn parse_derive_input(alloc: Global, tokens: &TokenStream) -> Parse<DeriveInput>
     ensures { Parses (codes "expected an item") tokens.now (item_trees.derive_input_of tokens.now) result }
 {

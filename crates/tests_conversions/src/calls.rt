@@ -8,7 +8,7 @@ use node_expr::Type;
 use print_core::ToTokens;
 use std::alloc::Global;
 use std::test::Fail;
-use syn_core::{ParseFail, parse_derive_input, parse_type};
+use syn_core::{ParseFail, Spanned, parse_derive_input, parse_type};
 use tests_checks::{Tested, given, hash, kind_of, row_of, tokens};
 use tok_core::{MAX_LEN, to_text};
 use util_core::extract_option::{from_mut, from_owned, from_ref};
@@ -69,7 +69,11 @@ fn place_in(alloc: Global, ty: &mut Type) -> Tested<Text> {
 fn in_option(alloc: Global, text: &str) -> Tested<Text> {
     let mut ty = type_of(alloc, text)?;
     let answer = printed_or(alloc, from_ref(alloc, &ty))?;
+    let kept = ty.try_clone(alloc)?;
     must_be(&place_in(alloc, &mut ty)?, text, answer.as_str())?;
+    if ty != kept || ty.spanned() != kept.spanned() {
+        return Err(Fail::new(format_args!("{text} is changed")));
+    }
     must_be(
         &told::<Type, Printed>(alloc, from_owned(alloc, ty))?,
         text,

@@ -1,14 +1,20 @@
 //! The proved callers of `uses`, each on short texts: a row TEXT => ANSWER, with ` / ` for each line feed.
 
-use crate::ends::lines_of;
+ghost use Rattle.std.specs.Prelude.{◌≤◌, length};
+
+use crate::ends::{lines_of, must_end};
+use darling_run::fault_line;
 use error_core::{Fail as Refusal, Text};
-use meta_core::NestedMeta;
+use print_core::ToTokens;
 use std::alloc::Global;
 use std::test::Fail;
 use syn_core::{Data, DeriveInput, Fields, Ident, Items, parse_path};
 use tests_checks::{Tested, given, row_of, tokens};
 use tok_core::{MAX_LEN, TryClone, to_text};
-use uses::{doc_of, fields_of, item_of, named_fields, printed_as, verbosity_of};
+use uses::{
+    Lint, doc_of, fields_of, item_of, lint_of, named_fields, nested_items_of, printed_as, type_of,
+    verbosity_of,
+};
 
 fn refused(text: &str) -> Tested<Text> {
     Err(Fail::new(format_args!("{text} is refused")))
@@ -24,8 +30,17 @@ fn told(alloc: Global, kind: &str, text: &str) -> Tested<Text> {
             Err(_) => Ok(Text::from_str(alloc, "refused")?),
         };
     }
+    if kind == "type" {
+        return match type_of(alloc, text) {
+            Ok(ty) => Ok(to_text(alloc, &ty.to_token_stream(alloc)?)?),
+            Err(_) => Ok(Text::from_str(alloc, "refused")?),
+        };
+    }
     if kind == "level" {
         return level(alloc, text);
+    }
+    if kind == "lint" {
+        return lint(alloc, text);
     }
     match item_of(alloc, text) {
         Ok(item) => of_item(alloc, kind, &item),
@@ -87,9 +102,12 @@ fn counted(alloc: Global, refusal: Refusal) -> Tested<Text> {
 }
 
 /// The level that the one item of a list asks for, or the number of its faults.
-fn level(alloc: Global, text: &str) -> Tested<Text> {
-    let tokens = tokens(alloc, 0, text)?;
-    let items = given(NestedMeta::parse_meta_list(alloc, &tokens), text)?;
+fn level(alloc: Global, text: &str) -> Tested<Text>
+    requires { length text.now ≤ MAX_LEN }
+{
+    let Ok(items) = nested_items_of(alloc, text) else {
+        return refused(text);
+    };
     let [item] = items.as_slice() else {
         return refused(text);
     };
@@ -100,6 +118,75 @@ fn level(alloc: Global, text: &str) -> Tested<Text> {
         )?),
         Err(refusal) => counted(alloc, refusal),
     }
+}
+
+/// The lint that the items of a list are, or its faults, a line each.
+fn lint(alloc: Global, text: &str) -> Tested<Text>
+    requires { length text.now ≤ MAX_LEN }
+{
+    let Ok(items) = nested_items_of(alloc, text) else {
+        return refused(text);
+    };
+    match lint_of(alloc, items.as_slice()) {
+        Ok(lint) => lint_text(alloc, &lint),
+        Err(refusal) => fault_lines(alloc, refusal),
+    }
+}
+
+fn lint_text(alloc: Global, lint: &Lint) -> Tested<Text> {
+    let mut text = Text::from_str(alloc, lint.name.as_str())?;
+    for name in lint.allowed.as_slice() {
+        text.push(',')?;
+        text.push_str(name.as_str())?;
+    }
+    text.push(';')?;
+    text.push_str(lint.level.to_string(alloc)?.as_str())?;
+    Ok(text)
+}
+
+fn fault_lines(alloc: Global, refusal: Refusal) -> Tested<Text> {
+    let Some(error) = refusal.into_error() else {
+        return refused("a call without memory");
+    };
+    let mut text = Text::new(alloc);
+    for fault in error.into_faults(alloc)?.as_slice() {
+        if !text.is_empty() {
+            text.push('\n')?;
+        }
+        text.push_str(fault_line(alloc, fault)?.as_str())?;
+    }
+    Ok(text)
+}
+
+/// Each row's items, behind as many spaces as `#[lint(` is long, have these faults; and the tool says the same of the same items.
+fn lint_faults(alloc: Global, table: &str) -> Tested<()> {
+    for row in table.lines() {
+        let (items, faults) = row_of(row);
+        let spaced = format!(in alloc; "       {items}")?;
+        let told = told(alloc, "lint", spaced.as_str())?;
+        if !told.is(lines_of(alloc, faults)?.as_str()) {
+            return Err(Fail::new(format_args!("{row}: {}", told.as_str())));
+        }
+        must_end(
+            alloc,
+            format!(in alloc; "{LINT}#[lint({items})] struct S;\n")?.as_str(),
+            0,
+            report_of(alloc, faults)?.as_str(),
+        )?;
+    }
+    Ok(())
+}
+
+/// What the tool writes of an item with these faults.
+fn report_of(alloc: Global, faults: &str) -> Tested<String> {
+    let count = faults.split(" / ").count();
+    let mut report = format!(in alloc; "err S {count}\n")?;
+    for fault in faults.split(" / ") {
+        report.push_str("  ")?;
+        report.push_str(fault)?;
+        report.push('\n')?;
+    }
+    Ok(report)
 }
 
 fn rows(alloc: Global, kind: &str, table: &str) -> Tested<()> {
@@ -125,6 +212,28 @@ verbose = "loud" => 1 faults
 verbose = 300 => 1 faults
 verbose(3) => 1 faults"#;
 
+// What a lint is read from: a name that has to stand there, names in order, and a level with a default.
+const LINTS: &str = r#"name = "n" => n;3
+allow = "b", level = 9, name = "n", allow = "a" => n,b,a;9
+name = "n", level = "7", => n;7"#;
+
+// Duplicates, unknown names with alternatives, missing fields, literals and bad values, all in one pass.
+const LINT_FAULTS: &str =
+    r#"nam = "n", allow = 1, "x", allow = "b", allow = 2, level = 300, level = 4 => 7..16 Unknown field: `nam`. Available values: `allow`, `level`, `name` / 26..27 Unexpected type `int` at allow[0] / 29..32 Unexpected meta-item format `literal` / 55..56 Unexpected type `int` at allow[1] / 66..69 number too large to fit in target type at level / 71..80 Duplicate field `level` / - Missing field `name`
+name = 5, name = "n" => 14..15 Unexpected type `int` at name / 17..27 Duplicate field `name`
+level = , level, allow => 13..14 expected an expression at level / 17..22 Duplicate field `level` / 24..29 Unexpected meta-item format `word` at allow[0] / - Missing field `name`"#;
+
+// The same receiver as a declaration.
+const LINT: &str = r#"#[derive(FromDeriveInput)]
+#[darling(attributes(lint))]
+struct Lint {
+    name: String,
+    #[darling(multiple, rename = "allow")] allowed: Vec<String>,
+    #[darling(default)] level: u8,
+}
+%%
+"#;
+
 #[test]
 fn callers(rt: HostRuntime) -> Tested<()> {
     let alloc = rt.alloc();
@@ -140,5 +249,8 @@ fn callers(rt: HostRuntime) -> Tested<()> {
         "#[old(a = 1)] struct S; => # [new (a = 1)]",
     )?;
     rows(alloc, "without names", "struct S(u8, Vec<T>); => 2 faults")?;
-    rows(alloc, "level", LEVELS)
+    rows(alloc, "type", "&'a [Vec<T>; 8] => & 'a [Vec < T > ; 8]")?;
+    rows(alloc, "level", LEVELS)?;
+    rows(alloc, "lint", LINTS)?;
+    lint_faults(alloc, LINT_FAULTS)
 }

@@ -10,6 +10,8 @@ mod ends;
 #[cfg(test)]
 mod inputs;
 #[cfg(test)]
+mod library;
+#[cfg(test)]
 mod receivers;
 #[cfg(test)]
 mod values;

@@ -140,6 +140,12 @@ pub const MAX_LEN: usize = 16 << 20;
 /// `source`.
 ///
 /// The first byte at which the text breaks a rule is told: see [`LexError`].
+///
+/// ```
+/// let tokens = lex(alloc, 0, text)?;
+/// let item = parse_derive_input(alloc, &tokens)?;
+/// Ok(item)
+/// ```
 pub fn lex(alloc: Global, source: u32, text: &str) -> Result<TokenStream, LexError>
     requires { length text.now ≤ MAX_LEN }
 

@@ -1,22 +1,13 @@
-//! From a text to its item, and to the names of the item's fields.
+//! The names of the fields of an item.
 
 ghost use Rattle.std.specs.Prelude.{◌≡◌, ◌≤◌, IfOk, flat_map, length};
 ghost use Rattle.uses.specs.Fields as spec;
 
 use crate::fail::TextFail;
+use crate::texts::item_of;
 use std::alloc::Global;
-use syn_core::{DeriveInput, Field, Ident, Items, Mem, TryClone, parse_derive_input};
-use tok_core::{MAX_LEN, lex};
-
-/// The item that the text is: a struct, an enum or a union.
-pub fn item_of(alloc: Global, text: &str) -> Result<DeriveInput, TextFail>
-    requires { length text.now ≤ MAX_LEN }
-    ensures { spec.ReadsItem text.now result }
-{
-    let tokens = lex(alloc, 0, text)?;
-    let item = parse_derive_input(alloc, &tokens)?;
-    Ok(item)
-}
+use syn_core::{Field, Ident, Items, Mem, TryClone};
+use tok_core::MAX_LEN;
 
 /// The names of the fields of the struct or union that the text is, in order.
 pub fn fields_of(alloc: Global, text: &str) -> Result<Items<Ident>, TextFail>

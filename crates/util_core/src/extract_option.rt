@@ -37,14 +37,17 @@ pub fn from_ref(alloc: Global, ty: &Type) -> Result<&Type>
     }
 }
 
-/// The same of a place: the `T` in its place, to write there. Of what stands around it no clause speaks.
+/// The same of a place: the `T` in its place, to write there. Of what stands around it no clause speaks. Where the type is no
+/// `Option`, it is only looked at.
 pub fn from_mut(alloc: Global, ty: &mut Type) -> Result<&mut Type>
     ensures { Answers (λ it. it.now) result (spec.extracted ty.old) }
 {
-    let span = ty.spanned();
+    if option_argument(ty).is_none() {
+        return Err(Fail::Faults(no_option(alloc, ty.spanned())?));
+    }
     match argument_place(ty) {
         Some(argument) => Ok(argument),
-        None => Err(Fail::Faults(no_option(alloc, span)?)),
+        None => unreachable!(),
     }
 }
 

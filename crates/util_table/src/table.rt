@@ -47,6 +47,14 @@ impl RenameTable {
     /// The table that the text spells. The text may have [`MAX_LEN`] bytes.
     ///
     /// The work is that of sorting the rows.
+    ///
+    /// ```
+    /// match RenameTable::parse(alloc, TABLE) {
+    ///     Ok(table) => Ok(table),
+    ///     Err(TableFail::NoMemory) => Err(Fail::new(format_args!("no memory is left"))),
+    ///     Err(TableFail::BadTable { line }) => Err(Fail::new(format_args!("line {line} is bad"))),
+    /// }
+    /// ```
     pub fn parse(alloc: Global, text: &str) -> Result<RenameTable, TableFail>
         requires { length text.now ≤ MAX_LEN }
         ensures rows { IfOk result (λ table. table ≡ spec.rows_of text.now) }

@@ -1,0 +1,4 @@
+pub mod ErrorLemmas
+pub mod SlotLemmas
+pub mod ClearLemmas
+pub mod MeaningLemmas

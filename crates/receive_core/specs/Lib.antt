@@ -1,0 +1,7 @@
+pub mod Names
+pub mod Checks
+pub mod SchemaLaws
+pub mod Schema
+pub mod Meaning
+pub mod Reading
+pub mod Steps
