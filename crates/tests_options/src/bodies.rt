@@ -5,7 +5,7 @@ use body_core::ast::{Data, Fields, GenericParam, Generics, Style};
 use body_core::{
     Error, Fail as Refusal, FromField, FromGenerics, FromVariant, Result as Answer, Shape, ShapeSet,
 };
-use error_core::Text;
+use error_core::{Items, Text};
 use node_core::{DeriveInput, Field, Ident, Variant};
 use std::alloc::Global;
 use std::test::Fail;
@@ -144,5 +144,31 @@ fn members_are_mapped(rt: HostRuntime) -> Tested<()> {
     let (style, members) = twice.split();
     assert!(rt; is_eq(&style, &Style::Tuple));
     assert!(rt; members.as_slice() == [1, 2].as_slice());
+    Ok(())
+}
+
+/// What a function makes of the variants or of the members of a body; those of the other kind stay.
+#[test]
+fn bodies_are_mapped(rt: HostRuntime) -> Tested<()> {
+    let alloc = rt.alloc();
+    let halved = |n: u8| n / 2;
+    let members = Fields::new(Style::Tuple, vec![in alloc; 6u8, 8]?);
+    let body = Data::<u8, u8>::Struct(members);
+    assert!(rt; body.as_struct().is_some() && body.as_enum().is_none());
+    let body = body.map_enum_variants(alloc, halved)?;
+    let body = body.map_struct_fields(alloc, halved)?;
+    let body = body.map_struct(|fields: Fields<u8>| fields);
+    let Some(members) = body.take_struct() else {
+        return Err(Fail::new(format_args!("the struct is none")));
+    };
+    assert!(rt; members.fields.as_slice() == [3, 4].as_slice());
+    let body = Data::<u8, u8>::Enum(Items::from_vec(vec![in alloc; 6u8, 8]?));
+    assert!(rt; body.as_struct().is_none() && body.as_enum() == Some([6, 8].as_slice()));
+    let body = body.map_struct_fields(alloc, halved)?;
+    let body = body.map_enum_variants(alloc, halved)?;
+    assert!(rt;
+        body.take_enum()
+            .is_some_and(|variants| variants.as_slice() == [3, 4].as_slice())
+    );
     Ok(())
 }
