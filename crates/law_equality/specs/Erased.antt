@@ -1,4 +1,4 @@
--- Tokens, literals and nodes with a parameter without their places: the same, with every span at the call site.
+-- Tokens, literals and nodes with a parameter with their spans erased: the same, with every span at the call site.
 use Rattle.std.specs.Prelude.{map, option_map}
 use Rattle.tok_types.specs.Respan.{group_at}
 use Rattle.tok_types.specs.declared.span.Span.TheVariants.{CallSite}

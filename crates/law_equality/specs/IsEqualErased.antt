@@ -1,4 +1,4 @@
--- That `==` tells apart whatever differs in more than its places.
+-- That `==` tells apart whatever differs in more than its spans.
 use Rattle.std.specs.Prelude.{◌≡◌, ◌↔◌, Bool, IsTrue}
 
 -- Two values are equal exactly where they are the same without their places.

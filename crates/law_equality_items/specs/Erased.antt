@@ -1,4 +1,4 @@
--- The bodies of items without their places: the same, with every span at the call site.
+-- The bodies of items with their spans erased: the same, with every span at the call site.
 use Rattle.std.specs.Prelude.{map}
 use Rattle.tok_types.specs.declared.span.Span.TheVariants.{CallSite}
 use Rattle.node_core.specs.declared.data.DataEnum.{DataEnum}

@@ -1,4 +1,4 @@
--- Nested items without their places: the same item, with every span at the call site.
+-- Nested items with their spans erased: the same item, with every span at the call site.
 use Rattle.std.specs.Prelude.{option_map}
 use Rattle.tok_types.specs.declared.span.Span.{Span}
 use Rattle.tok_types.specs.declared.span.Span.TheVariants.{CallSite}

@@ -1,4 +1,4 @@
--- Nested items without their places, and with one error in the place of each bad value's own.
+-- Nested items with their spans erased, and with one error in the place of each bad value's own.
 use Rattle.tok_types.specs.declared.span.Span.TheVariants.{CallSite}
 use Rattle.error_core.specs.ErrorView.{ErrorView}
 use Rattle.meta_nested.specs.declared.nested.MetaNameValueInvalidExpr.{MetaNameValueInvalidExpr}

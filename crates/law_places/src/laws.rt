@@ -31,7 +31,7 @@ ghost use Rattle.tok_types.specs.declared.tree.TokenStream.{TokenStream, out-Tok
 /// every depth, and their parts: paths, their segments, each argument in angles, the inputs in parentheses
 /// with their output, each bound, each input of a function pointer, the arguments of functions, names,
 /// lifetimes, literals and the indices of fields.
-pub fn fronts_stand_where_they_are_read()
+pub fn prefixes_stand_where_they_are_read()
     ensures ty { (depth : ℕ) (allow_plus : Bool) → Stands type_span ((within depth).ty allow_plus) }
     ensures expr { (depth level : ℕ) → Stands expr_span ((within depth).expr level) }
     ensures path { (depth : ℕ) (in_type : Bool) → Stands path_span (path (within depth) in_type) }

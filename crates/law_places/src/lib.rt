@@ -4,6 +4,6 @@
 mod laws;
 
 pub use laws::{
-    fronts_stand_where_they_are_read, lists_stand_where_their_tokens_do,
+    lists_stand_where_their_tokens_do, prefixes_stand_where_they_are_read,
     trees_stand_where_their_tokens_do,
 };

@@ -1,4 +1,4 @@
--- The front of a closure whose tokens it keeps.
+-- The prefix of a closure whose tokens it keeps.
 use Rattle.std.specs.Prelude.{◌≡◌, ℕ, List}
 use Rattle.tok_types.specs.declared.span.Span.{Span}
 use Rattle.tok_types.specs.declared.tree.Delimiter.TheVariants as delimiter

@@ -1,4 +1,4 @@
--- That a front is read again from the same tokens.
+-- The prefix property: a prefix is read again from the same tokens.
 use Rattle.std.specs.Prelude.{◌≡◌, ◌<◌, List, ◌++◌, length, Some}
 use Rattle.tok_types.specs.declared.span.Span.{Span}
 use Rattle.tok_types.specs.declared.tree.TokenTree.{TokenTree}

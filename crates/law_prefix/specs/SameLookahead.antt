@@ -1,4 +1,4 @@
--- What the rules see of the tokens behind a front, which they do not take.
+-- Lookahead: what the rules see of the tokens behind the prefix that they read.
 use Rattle.std.specs.Prelude.{◌≡◌, Bool, true, false, ◌||◌, not, ◌==◌, List, [], ◌∷◌}
 use Rattle.tok_types.specs.Ascii.{colon, equals, semicolon}
 use Rattle.tok_types.specs.declared.tree.Delimiter.{Delimiter}

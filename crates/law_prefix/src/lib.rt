@@ -1,6 +1,6 @@
-//! What a rule of the grammar reads of a front, it reads again, whatever follows.
+//! The prefix property: the prefix that a rule of the grammar reads, it reads again, whatever follows.
 #![tactic(auto)]
 
 mod laws;
 
-pub use laws::fronts_are_read_again;
+pub use laws::prefixes_are_read_again;

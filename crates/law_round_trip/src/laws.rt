@@ -20,7 +20,7 @@ ghost use Rattle.tok_types.specs.declared.span.Span.{Span};
 /// What is read at the front of some tokens is read, as the same but for places, of its printing,
 /// wherever that stands, and whatever follows that goes on only where the source did: types,
 /// expressions of every level, paths and bounds, at every depth.
-pub fn fronts_are_read_back()
+pub fn prefixes_are_read_back()
     ensures ty { (depth : ℕ) (allow_plus : Bool) → RoundTrips erased_type type_tokens BeginsType (AfterType allow_plus) ((within depth).ty allow_plus) }
     ensures expr { (depth level : ℕ) → RoundTrips erased_expr expr_tokens (BeginsExpr level) (AfterExpr level) ((within depth).expr level) }
     ensures path { (depth : ℕ) (in_type : Bool) → RoundTrips erased_path (path_tokens (style_of in_type)) (BeginsPath in_type) (AfterPath in_type) (path (within depth) in_type) }

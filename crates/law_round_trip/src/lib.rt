@@ -3,4 +3,4 @@
 
 mod laws;
 
-pub use laws::{fronts_are_read_back, trees_are_read_back};
+pub use laws::{prefixes_are_read_back, trees_are_read_back};

@@ -1,4 +1,4 @@
--- Nodes without their places: the same node, with every span at the call site.
+-- Nodes with their spans erased: the same node, with every span at the call site.
 use Rattle.std.specs.Prelude.{map, option_map}
 use Rattle.tok_types.specs.Respan.{stream_at, tree_at}
 use Rattle.tok_types.specs.declared.ident.Ident.{Ident}

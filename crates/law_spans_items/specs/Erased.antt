@@ -1,4 +1,4 @@
--- Items and their parts without their places: the same node, with every span at the call site.
+-- Items and their parts with their spans erased: the same node, with every span at the call site.
 use Rattle.std.specs.Prelude.{map, option_map}
 use Rattle.tok_types.specs.declared.span.Span.TheVariants.{CallSite}
 use Rattle.node_core.specs.declared.attr.Attribute.{Attribute}

@@ -1,4 +1,4 @@
--- Texts: without spaces at their ends, and behind a front.
+-- Texts: without spaces at their ends, and behind a prefix.
 use Rattle.std.specs.Prelude.{ℕ, ◌-◌, Bool, if◌then◌else◌, ◌==◌, [], ◌∷◌, length, take, drop, Option, Some, None}
 use Rattle.std.specs.List.{prefix_len, suffix_len}
 use Rattle.base_core.specs.declared.text.Text.{Text}

@@ -1,4 +1,4 @@
-//! Texts without spaces at their ends, and behind a front.
+//! Texts without spaces at their ends, and behind a prefix.
 
 ghost use Rattle.std.specs.Prelude.{◌≡◌};
 ghost use Rattle.std.specs.Option.{option_copied};

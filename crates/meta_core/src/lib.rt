@@ -37,5 +37,5 @@ pub use node_make::path_to_string;
 pub use node_span::Spanned;
 pub use path_list::{Intersection, PathList};
 pub use syn_core::{Parse, ParseFail, parse_expr, parse_items, parse_path};
-pub use syn_items::item_front;
+pub use syn_items::item_prefix;
 pub use tok_types::{Ident, Span, TokenStream};

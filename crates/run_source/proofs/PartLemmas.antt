@@ -7,18 +7,18 @@ use Rattle.tok_core.proofs.OneReading.{EndsAt-same, Spells-same}
 use Rattle.tok_core.proofs.Outcomes.{only}
 use Rattle.tok_core.specs.declared.error.LexError.{LexError}
 use Rattle.tok_core.specs.declared.error.LexError.TheVariants as lex
-use Rattle.syn_items.specs.Trees.{IsItemFront}
+use Rattle.syn_items.specs.Trees.{IsItemPrefix}
 use Rattle.run_source.specs.declared.part.Part.{Part}
 use Rattle.run_source.specs.declared.part.Part.TheVariants as part
 use Rattle.run_source.specs.Parts.{HasTokens, HasTokensOf, IsOf, IsPart, StopsAt, start_at}
 
 -- ---- the longest front of items has one length
 
-not_longer : (tokens : TokenStream) (one other : ℕ) → IsItemFront tokens one → IsItemFront tokens other → one < other → ⊥
+not_longer : (tokens : TokenStream) (one other : ℕ) → IsItemPrefix tokens one → IsItemPrefix tokens other → one < other → ⊥
 not_longer tokens one other a b less = a.longest other less b.within b.items
 
-pub IsItemFront-unique : (tokens : TokenStream) (one other : ℕ) → IsItemFront tokens one → IsItemFront tokens other → one ≡ other
-IsItemFront-unique tokens one other a b =
+pub IsItemPrefix-unique : (tokens : TokenStream) (one other : ℕ) → IsItemPrefix tokens one → IsItemPrefix tokens other → one ≡ other
+IsItemPrefix-unique tokens one other a b =
     let less = not_longer tokens one other a b in
     let more = not_longer tokens other one b a in
     omega (arith, less, more)
@@ -27,7 +27,7 @@ IsItemFront-unique tokens one other a b =
 
 same_place : (tokens : TokenStream) (one other : ℕ) → StopsAt tokens one → StopsAt tokens other → one ≡ other
 same_place tokens one other a b =
-    a.1.2 ∙ ap (λ count. start_at (drop count (out-TokenStream tokens).trees)) (IsItemFront-unique tokens a.1.0 b.1.0 a.1.1 b.1.1) ∙ sym b.1.2
+    a.1.2 ∙ ap (λ count. start_at (drop count (out-TokenStream tokens).trees)) (IsItemPrefix-unique tokens a.1.0 b.1.0 a.1.1 b.1.1) ∙ sym b.1.2
 
 pub IsOf-unique : (tokens : TokenStream) (one other : Part) → IsOf tokens one → IsOf tokens other → other ≡ one
 IsOf-unique tokens (part.TooDeep at) other a b = absurd a

@@ -5,7 +5,7 @@ use Rattle.tok_types.specs.declared.tree.TokenTree.{TokenTree}
 use Rattle.tok_core.specs.Spells.{Spells}
 use Rattle.tok_core.specs.Endings.{EndsAt, IsWithin, deep, wrong}
 use Rattle.syn_grammar.specs.Input.{first_span}
-use Rattle.syn_items.specs.Trees.{IsItemFront, items_of}
+use Rattle.syn_items.specs.Trees.{IsItemPrefix, items_of}
 use Rattle.law_options.specs.Places.{start_of}
 use Rattle.run_source.specs.declared.part.Part.{Part}
 use Rattle.run_source.specs.declared.part.Part.TheVariants as part
@@ -21,7 +21,7 @@ start_at trees = start_of (first_span trees)
 -- The tokens are no items, and the first token behind the longest front that is items starts at this byte.
 abbrev pub StopsAt : TokenStream → ℕ → Type 0
 StopsAt tokens at =
-    (items_of tokens ≡ None) × ((count : ℕ) × IsItemFront tokens count × (at ≡ start_at (drop count (out-TokenStream tokens).trees)))
+    (items_of tokens ≡ None) × ((count : ℕ) × IsItemPrefix tokens count × (at ≡ start_at (drop count (out-TokenStream tokens).trees)))
 
 -- what tokens are read to
 abbrev pub IsOf : TokenStream → Part → Type 0

@@ -12,7 +12,7 @@ use run_accepted::RunError;
 use std::alloc::{AllocError, Global};
 use syn_core::{ParseFail, parse_items};
 use syn_grammar::Cursor;
-use syn_items::item_front;
+use syn_items::item_prefix;
 use tok_core::{LexError, MAX_LEN, lex};
 use tok_types::{Span, TokenStream, TokenTree};
 
@@ -94,7 +94,7 @@ fn read_items(alloc: Global, tokens: &TokenStream) -> Mem<Part>
     match parse_items(alloc, tokens) {
         Ok(items) => Ok(Part::Items(items)),
         Err(ParseFail::Syn(_)) => {
-            let count = item_front(alloc, tokens)?;
+            let count = item_prefix(alloc, tokens)?;
             let at = start_of(&tokens.trees.as_slice()[count..]);
             Ok(Part::Syntax { at })
         }

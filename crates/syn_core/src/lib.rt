@@ -29,7 +29,7 @@ pub use parse::{
     parse_type, parse_type_param, parse_visibility, parse_where,
 };
 pub use syn_grammar::lit_of;
-pub use syn_items::item_front;
+pub use syn_items::item_prefix;
 pub use syn_types::MAX_DEPTH;
 pub use tok_types::{
     Delimiter, Group, Ident, Lifetime, Literal, Punct, Span, TokenStream, TokenTree,

@@ -1,3 +1,3 @@
 pub mod Ends
 pub mod Fronts
-pub mod ItemFront
+pub mod ItemPrefix

@@ -36,7 +36,7 @@ abbrev pub AreItems : TokenStream → Type 0
 AreItems tokens = (items : List DeriveInput) × (items_of tokens ≡ Some items)
 
 -- The longest front that is a list of items has so many tokens.
-pub record IsItemFront (tokens : TokenStream) (count : ℕ) : Type 0 where
+pub record IsItemPrefix (tokens : TokenStream) (count : ℕ) : Type 0 where
   pub within : count ≤ length (out-TokenStream tokens).trees
   pub items : AreItems (front tokens count)
   pub longest : (other : ℕ) → count < other → other ≤ length (out-TokenStream tokens).trees → AreItems (front tokens other) → ⊥

@@ -4,7 +4,7 @@ ghost use Rattle.std.specs.Prelude.{◌≡◌, IfOk};
 ghost use Rattle.syn_items.specs.Items as spec;
 ghost use Rattle.syn_grammar.specs.Reads.{Gives};
 ghost use Rattle.syn_items.specs.Lists.{Passes};
-ghost use Rattle.syn_items.specs.Trees.{IsItemFront};
+ghost use Rattle.syn_items.specs.Trees.{IsItemPrefix};
 
 use crate::attr::attributes;
 use crate::clause::maybe_where;
@@ -172,9 +172,9 @@ fn pass_item(alloc: Global, tokens: &mut Cursor<'_>) -> Result<(), ReadFail>
     Ok(())
 }
 
-/// How many tokens the longest front has that is a list of items.
-pub fn item_front(alloc: Global, tokens: &TokenStream) -> Mem<usize>
-    ensures { IfOk result (IsItemFront tokens.now) }
+/// How many tokens the longest prefix has that is a list of items.
+pub fn item_prefix(alloc: Global, tokens: &TokenStream) -> Mem<usize>
+    ensures { IfOk result (IsItemPrefix tokens.now) }
 {
     let trees = tokens.trees.as_slice();
     let mut left = Cursor::new(trees);

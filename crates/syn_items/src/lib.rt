@@ -13,7 +13,7 @@ mod restriction;
 
 pub use attr::{attributes, meta_list, meta_path, number_of, signed, stream_of, value_of};
 pub use clause::where_clause;
-pub use derive::{item, item_front, items};
+pub use derive::{item, item_prefix, items};
 pub use generics::one_type_param;
 pub use lists::While;
 pub use look::{ItemStart, delimiter_of};

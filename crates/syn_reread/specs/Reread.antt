@@ -1,4 +1,4 @@
--- How a tree that is printed and read again comes back.
+-- Round trips: how a tree that is printed and read again comes back.
 use Rattle.std.specs.Prelude.{◌≡◌, Option, Some, Result, Ok, Err}
 use Rattle.tok_types.specs.declared.tree.TokenStream.{TokenStream}
 use Rattle.syn_core.specs.declared.fail.ParseFail.{ParseFail}

@@ -1,4 +1,4 @@
-//! Trees that are printed and read again.
+//! Round trips: trees that are printed and read again.
 #![tactic(auto)]
 
 mod reread;

@@ -5,7 +5,7 @@ use crate::node::SOURCE;
 use node_core::{Items, TokenStream, TryClone};
 use std::alloc::Global;
 use std::test::Fail;
-use syn_core::{item_front, parse_derive_input};
+use syn_core::{item_prefix, parse_derive_input};
 use tests_checks::{Tested, row_of, tokens};
 
 pub const ITEMS: &str = r#"struct S ;
@@ -185,13 +185,13 @@ fn cuts_are_refused(alloc: Global, text: &str) -> Tested<()> {
     let trees = Items::new(alloc);
     let mut front = TokenStream { trees };
     for tree in whole.trees.as_slice() {
-        if item_front(alloc, &front)? != 0 || parse_derive_input(alloc, &front).is_ok() {
+        if item_prefix(alloc, &front)? != 0 || parse_derive_input(alloc, &front).is_ok() {
             let kept = front.trees.len();
             return Err(Fail::new(format_args!("{text} after {kept} tokens")));
         }
         front.trees.push(tree.try_clone(alloc)?)?;
     }
-    if item_front(alloc, &front)? == front.trees.len() {
+    if item_prefix(alloc, &front)? == front.trees.len() {
         return Ok(());
     }
     Err(Fail::new(format_args!("{text} is no front")))

@@ -17,7 +17,7 @@ use print_core::ToTokens;
 use std::alloc::Global;
 use std::test::Fail;
 use syn_core::{
-    Parse, item_front, parse_expr_array, parse_expr_path, parse_expr_range, parse_exprs,
+    Parse, item_prefix, parse_expr_array, parse_expr_path, parse_expr_range, parse_exprs,
     parse_idents, parse_items, parse_paths,
 };
 use tests_checks::{Tested, kind_of, row_of, tokens};
@@ -55,7 +55,7 @@ fn of_tokens(alloc: Global, kind: &str, text: &str, tokens: &TokenStream) -> Tes
         "path expr" => outcome(alloc, parse_expr_path(alloc, tokens)),
         "range expr" => outcome(alloc, parse_expr_range(alloc, tokens)),
         "front" => {
-            let front = item_front(alloc, tokens)?;
+            let front = item_prefix(alloc, tokens)?;
             let told = format!(in alloc; "{} {front}", tokens.trees.len())?;
             Ok(Text::from_string(alloc, told)?)
         }

@@ -2,7 +2,7 @@ use Rattle.syn_grammar.specs.Grammar.{within}
 use Rattle.law_prefix.proofs.Kept.{head-front}
 use Rattle.law_prefix.proofs.Paths.{path-front}
 use Rattle.law_prefix.proofs.Within.{front-of, within-fronts}
-use Rattle.law_prefix.proofs.laws.fronts_are_read_again.Goals as goal
+use Rattle.law_prefix.proofs.laws.prefixes_are_read_again.Goals as goal
 
 pub returns-clause-ty : goal.returns-clause-ty
 returns-clause-ty c = λ depth allow_plus. front-of ((within-fronts depth).ty allow_plus)

@@ -1,6 +1,6 @@
 use Rattle.std.proofs.Common.{◌≡◌, ◌+◌, ◌-◌, ◌≤◌, length}
-use Rattle.syn_items.proofs.ItemFront.{AtItem}
-use Rattle.syn_items.proofs.derive.item_front.Given as goal
+use Rattle.syn_items.proofs.ItemPrefix.{AtItem}
+use Rattle.syn_items.proofs.derive.item_prefix.Given as goal
 
 -- what was read so far are items, each of a token at least
 abbrev pub invariant-loop-turn : goal.invariant-loop-turn

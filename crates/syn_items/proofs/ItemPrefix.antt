@@ -11,7 +11,7 @@ use Rattle.law_prefix.specs.ReadsByPrefix.{at}
 use Rattle.law_prefix.proofs.Steps.{bind-at}
 use Rattle.syn_items.specs.Items.{item}
 use Rattle.syn_items.specs.Lists.{while_from}
-use Rattle.syn_items.specs.Trees.{AreItems, IsItemFront, items_of}
+use Rattle.syn_items.specs.Trees.{AreItems, IsItemPrefix, items_of}
 use Rattle.syn_items.proofs.Fronts.{item-front}
 
 -- from one input to another by items alone
@@ -161,7 +161,7 @@ ends-there input (inr nothing) found after is = let e = sym nothing ∙ is in cc
 
 -- A loop that reads items until one is refused or no token is left has read the longest list of them.
 pub AtItem-front : (tokens : TokenStream) (input : Input) → AtItem (out-TokenStream tokens).trees input → (input.rest ≡ []) ⊎ (item input ≡ None)
-    → IsItemFront tokens (length (out-TokenStream tokens).trees - length input.rest)
+    → IsItemPrefix tokens (length (out-TokenStream tokens).trees - length input.rest)
 AtItem-front tokens input read ends =
     let trees = (out-TokenStream tokens).trees in
     let took = items-again (start_of trees) input read in

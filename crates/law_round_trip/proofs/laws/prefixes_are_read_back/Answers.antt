@@ -2,7 +2,7 @@ use Rattle.syn_grammar.specs.Grammar.{within}
 use Rattle.law_round_trip.proofs.Bounds.{bounds-back}
 use Rattle.law_round_trip.proofs.Paths.{path-back}
 use Rattle.law_round_trip.proofs.Within.{within-backs}
-use Rattle.law_round_trip.proofs.laws.fronts_are_read_back.Goals as goal
+use Rattle.law_round_trip.proofs.laws.prefixes_are_read_back.Goals as goal
 
 pub returns-clause-ty : goal.returns-clause-ty
 returns-clause-ty c = λ depth allow_plus. (within-backs depth).ty allow_plus

@@ -1,5 +1,5 @@
 use Rattle.law_places.proofs.Fronts.{argument-stands, bound-stands, expr-stands, fn_arg-stands, index-stands, inputs-stand, lifetime-stands, literal-stands, name-stands, named_arg-stands, path-stands, segment-stands, type-stands}
-use Rattle.law_places.proofs.laws.fronts_stand_where_they_are_read.Goals as goal
+use Rattle.law_places.proofs.laws.prefixes_stand_where_they_are_read.Goals as goal
 
 pub returns-clause-ty : goal.returns-clause-ty
 returns-clause-ty c = type-stands

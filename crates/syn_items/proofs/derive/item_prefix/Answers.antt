@@ -1,8 +1,8 @@
 use Rattle.std.proofs.Common.{◌-◌, ◌≤◌, List, length, arith, sym, ap, ◌∙◌, subst, inl, inr}
 use Rattle.tok_types.specs.declared.tree.TokenTree.{TokenTree}
-use Rattle.syn_items.specs.Trees.{IsItemFront}
-use Rattle.syn_items.proofs.ItemFront.{AtItem, AtItem-front, AtItem-more, AtItem-start, AtItem-within, item-shorter, nothing-left}
-use Rattle.syn_items.proofs.derive.item_front.Goals as goal
+use Rattle.syn_items.specs.Trees.{IsItemPrefix}
+use Rattle.syn_items.proofs.ItemPrefix.{AtItem, AtItem-front, AtItem-more, AtItem-start, AtItem-within, item-shorter, nothing-left}
+use Rattle.syn_items.proofs.derive.item_prefix.Goals as goal
 
 pub loop-turn-init : goal.loop-turn-init
 loop-turn-init c = rw c.new-left.ensures (AtItem-start c.as_slice-trees.result.now, omega arith, omega arith)
@@ -26,7 +26,7 @@ returns-in-Err-Syntax c =
     let read = subst (λ (trees : List TokenTree). AtItem trees c.loop-turn.left) trees c.loop-turn.invariant.0 in
     let front = c.loop-turn.invariant.1 ∙ ap (λ (trees : List TokenTree). length trees - length c.loop-turn.left.rest) trees in
     let refused = rw c.in-Err-Syntax.field-0-is at c.in-Err-Syntax.ensures in
-    subst (IsItemFront c.args.tokens.now) (sym front) (AtItem-front c.args.tokens.now c.loop-turn.left read (inr refused))
+    subst (IsItemPrefix c.args.tokens.now) (sym front) (AtItem-front c.args.tokens.now c.loop-turn.left read (inr refused))
 
 pub returns : goal.returns
 returns c =
@@ -34,4 +34,4 @@ returns c =
     let read = subst (λ (trees : List TokenTree). AtItem trees c.loop-turn.left) trees c.loop-turn.invariant.0 in
     let front = c.loop-turn.invariant.1 ∙ ap (λ (trees : List TokenTree). length trees - length c.loop-turn.left.rest) trees in
     let none : length c.loop-turn.left.rest ≤ 0 = omega (arith, c.loop-turn.invariant.2, c.loop-turn-test.false) in
-    subst (IsItemFront c.args.tokens.now) (sym front) (AtItem-front c.args.tokens.now c.loop-turn.left read (inl (nothing-left c.loop-turn.left.rest none)))
+    subst (IsItemPrefix c.args.tokens.now) (sym front) (AtItem-front c.args.tokens.now c.loop-turn.left read (inl (nothing-left c.loop-turn.left.rest none)))
