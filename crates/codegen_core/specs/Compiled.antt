@@ -20,6 +20,7 @@ use Rattle.codegen_program.specs.declared.program.Derive.TheVariants as derives
 use Rattle.codegen_program.specs.declared.program.Func.{Func}
 use Rattle.codegen_program.specs.declared.program.FuncName.TheVariants as func
 use Rattle.codegen_program.specs.declared.program.«Unit».{«Unit» as Unit'}
+use Rattle.codegen_program.specs.declared.shape.ShapeSpec.TheVariants as shapes
 use Rattle.codegen_program.specs.declared.stmt.Stmt.{Stmt}
 use Rattle.codegen_program.specs.declared.stmt.Stmt.TheVariants as stmt
 use Rattle.codegen_core.specs.declared.field.Field.{Field}
@@ -63,7 +64,7 @@ set_default (Some it) = stmt.SetDefault it ∷ []
 
 -- builds the receiver from its slots
 abbrev pub build : TraitImpl → Stmt
-build base = stmt.Build base.ident.now (inits (fields_of base))
+build base = stmt.Build base.ident.now None [] (inits (fields_of base))
 
 -- hands what was built to the function that the options name
 abbrev pub transform : Option PostfixTransform → List Stmt
@@ -96,7 +97,7 @@ abbrev pub input_stmts : FromDeriveInputImpl → List Stmt
 input_stmts it =
     stmt.DeclareErrors
     ∷ (declarations (fields_of it.base)
-    ++ (for_attributes it ++ (stmt.CheckShape ∷ (stmt.ReadBody ∷ closing it.from_ident it.base))))
+    ++ (for_attributes it ++ (stmt.CheckShape shapes.Any ∷ (stmt.ReadBody None None ∷ closing it.from_ident it.base))))
 
 -- whether the identifier is written `darling`
 abbrev pub is_darling : Ident → Bool

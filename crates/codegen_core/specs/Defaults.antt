@@ -1,6 +1,6 @@
 -- What stands where no item gives a value, and what converts an item.
 use Rattle.std.specs.Prelude.{Option, Some, None}
-use Rattle.codegen_program.specs.Callable.{Callable}
+use Rattle.codegen_program.specs.declared.callable.Callable.{Callable}
 use Rattle.codegen_program.specs.declared.init.DefaultSource.{DefaultSource}
 use Rattle.codegen_program.specs.declared.init.DefaultSource.TheVariants as sources
 use Rattle.codegen_program.specs.declared.init.Fallback.{Fallback}

@@ -5,8 +5,9 @@ ghost use Rattle.codegen_core.specs.Compiled as spec;
 
 use crate::trait_impl::TraitImpl;
 use base_core::{Items, Mem};
-use codegen_program::{Derive, Forward, FuncName, PathList, Stmt, Unit};
+use codegen_program::{Derive, Forward, FuncName, ShapeSpec, Stmt, Unit};
 use std::alloc::Global;
+use util_core::PathList;
 
 /// A receiver that derives `FromDeriveInput`. Parts of the item that it takes as they stand are no part of it yet.
 pub struct FromDeriveInputImpl<'a> {
@@ -43,8 +44,13 @@ impl<'a> FromDeriveInputImpl<'a> {
         stmts.push(Stmt::DeclareErrors)?;
         self.base.fields_gen().push_declarations(alloc, &mut stmts)?;
         self.push_attributes(alloc, &mut stmts)?;
-        stmts.push(Stmt::CheckShape)?;
-        stmts.push(Stmt::ReadBody)?;
+        stmts.push(Stmt::CheckShape {
+            shapes: ShapeSpec::Any,
+        })?;
+        stmts.push(Stmt::ReadBody {
+            ident: None,
+            with: None,
+        })?;
         self.base.push_closing(alloc, self.from_ident, &mut stmts)?;
         Ok(stmts)
     }

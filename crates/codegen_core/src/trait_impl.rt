@@ -98,7 +98,12 @@ impl<'a> TraitImpl<'a> {
     {
         let name = self.ident.try_clone(alloc)?;
         let inits = self.fields_gen().initializers(alloc)?;
-        stmts.push(Stmt::Build { name, inits })
+        stmts.push(Stmt::Build {
+            name,
+            variant: None,
+            forwarded: Items::new(alloc),
+            inits,
+        })
     }
 
     /// Adds the transform of the whole receiver, where it has one.

@@ -1,2 +1,2 @@
 pub mod Traits
-pub use Rattle.util_core.specs.declared.callable.Callable
+pub mod Callables

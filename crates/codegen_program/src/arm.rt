@@ -2,11 +2,11 @@
 
 ghost use Rattle.std.specs.Prelude.{◌≡◌};
 
+use crate::callable::Callable;
 use base_core::{Items, Mem, Text, TryClone};
 use node_expr::Path;
 use std::alloc::Global;
 use tok_types::Ident;
-use util_core::Callable;
 
 /// What an item of this name does: it is converted, and the value goes to the slot.
 pub struct Arm {

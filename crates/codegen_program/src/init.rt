@@ -1,9 +1,9 @@
 //! What a receiver's members are built from.
 
+use crate::callable::Callable;
 use base_core::{Mem, Text, TryClone};
 use std::alloc::Global;
 use tok_types::Ident;
-use util_core::Callable;
 
 /// What the default of a whole receiver comes from.
 pub enum DefaultSource {

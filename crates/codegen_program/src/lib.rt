@@ -5,14 +5,22 @@
 #![tactic(auto)]
 
 mod arm;
+mod callable;
+mod clone;
 mod forward;
+mod forwarded;
 mod init;
 mod program;
+mod shape;
 mod stmt;
+mod variant;
 
 pub use arm::{Arm, PostfixTransform, Rest};
+pub use callable::Callable;
 pub use forward::Forward;
+pub use forwarded::{Forwarded, Magic};
 pub use init::{DefaultSource, Fallback, Init};
 pub use program::{Derive, Func, FuncName, Program, Unit};
+pub use shape::{DataShape, ShapeSpec};
 pub use stmt::{MAX_NESTING, Stmt};
-pub use util_core::{Callable, PathList};
+pub use variant::{UnitArm, UnitForm, VariantArm, VariantForm};

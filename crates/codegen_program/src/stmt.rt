@@ -1,19 +1,21 @@
 //! Statements.
 
-ghost use Rattle.std.specs.Prelude.{◌≡◌, IfOk};
-
 use crate::arm::{Arm, PostfixTransform, Rest};
+use crate::callable::Callable;
 use crate::forward::Forward;
+use crate::forwarded::Forwarded;
 use crate::init::{DefaultSource, Init};
-use base_core::{Items, Mem, Text, TryClone};
+use crate::program::FuncName;
+use crate::shape::ShapeSpec;
+use crate::variant::{UnitArm, VariantArm};
+use base_core::{Items, Text};
 use node_expr::Type;
-use std::alloc::Global;
 use tok_types::Ident;
 
 /// How deep statements may stand in statements, where a program is looked through or run.
 pub const MAX_NESTING: usize = 64;
 
-/// A statement of a function that reads a struct.
+/// A statement of a function that reads a receiver.
 pub enum Stmt {
     /// No fault has been met yet.
     DeclareErrors,
@@ -31,6 +33,15 @@ pub enum Stmt {
     },
     /// No item is kept for the flattened field yet.
     DeclareBuffer,
+    /// No attribute is kept for this field yet.
+    DeclareForward {
+        ident: Ident,
+    },
+    /// The attributes that were kept fill this field, by the function where one is named.
+    ForwardDone {
+        ident: Ident,
+        with: Option<Callable>,
+    },
     /// Goes over the attributes: at those of these names the items are read, those to forward are kept.
     ForAttributes {
         names: Items<Text>,
@@ -61,26 +72,59 @@ pub enum Stmt {
     SetDefault {
         from: DefaultSource,
     },
-    /// Builds the receiver of this name.
+    /// Builds the receiver of this name, or its variant, from parts of the element and from slots.
     Build {
         name: Ident,
+        variant: Option<Ident>,
+        forwarded: Items<Forwarded>,
         inits: Items<Init>,
     },
     /// Hands what was built to a function.
     Transform {
         post: PostfixTransform,
     },
-    /// Looks at the shape of the body. Which shapes are asked for is no part of the statement yet.
-    CheckShape,
-    /// Reads the body into a field. Which field is no part of the statement yet.
-    ReadBody,
+    /// Another shape of the element is a fault.
+    CheckShape {
+        shapes: ShapeSpec,
+    },
+    /// Reads the body, or the fields, into this field, by the function where one is named.
+    ReadBody {
+        ident: Option<Ident>,
+        with: Option<Callable>,
+    },
+    /// Reads the generics into this field, by the function where one is named.
+    ReadGenerics {
+        ident: Ident,
+        with: Option<Callable>,
+    },
+    /// Reads the receiver of this name as the type of its one member is read.
+    Delegate {
+        name: Ident,
+        member: Text,
+        ty: Type,
+    },
+    /// Reads the variant whose name the one item of a list has. The names are what a fault may propose.
+    Variants {
+        arms: Items<VariantArm<Stmt>>,
+        names: Items<Text>,
+    },
+    /// Reads the variant that a string names. The names are what a fault may propose.
+    UnitNames {
+        arms: Items<UnitArm>,
+        names: Items<Text>,
+    },
+    /// Answers what the function gives, in this function of the trait.
+    Call {
+        callable: Callable,
+        at: FuncName,
+    },
 }
 
 impl Drop for Stmt {
     #[cycle(drops)]
     fn drop(self) {
         match self {
-            Stmt::DeclareErrors | Stmt::DeclareBuffer | Stmt::CheckShape | Stmt::ReadBody => {}
+            Stmt::DeclareErrors | Stmt::DeclareBuffer | Stmt::CheckShape { shapes: _ } => {}
             Stmt::DeclareOne {
                 slot: _,
                 ident: _ident,
@@ -90,6 +134,11 @@ impl Drop for Stmt {
                 slot: _,
                 ident: _ident,
                 ty: _ty,
+            } => {}
+            Stmt::DeclareForward { ident: _ident } => {}
+            Stmt::ForwardDone {
+                ident: _ident,
+                with: _with,
             } => {}
             Stmt::ForAttributes {
                 names: _names,
@@ -115,78 +164,36 @@ impl Drop for Stmt {
             Stmt::SetDefault { from: _from } => {}
             Stmt::Build {
                 name: _name,
+                variant: _variant,
+                forwarded: _forwarded,
                 inits: _inits,
             } => {}
             Stmt::Transform { post: _post } => {}
+            Stmt::ReadBody {
+                ident: _ident,
+                with: _with,
+            } => {}
+            Stmt::ReadGenerics {
+                ident: _ident,
+                with: _with,
+            } => {}
+            Stmt::Delegate {
+                name: _name,
+                member: _member,
+                ty: _ty,
+            } => {}
+            Stmt::Variants {
+                arms: _arms,
+                names: _names,
+            } => {}
+            Stmt::UnitNames {
+                arms: _arms,
+                names: _names,
+            } => {}
+            Stmt::Call {
+                callable: _callable,
+                at: _,
+            } => {}
         }
     }
-}
-
-impl TryClone for Stmt {
-    #[cycle(clone)]
-    fn try_clone(&self, alloc: Global) -> Mem<Stmt> {
-        match self {
-            Stmt::ForAttributes {
-                names,
-                items,
-                forward,
-            } => Ok(Stmt::ForAttributes {
-                names: names.try_clone(alloc)?,
-                items: clone_stmts(items, alloc)?,
-                forward: forward.try_clone(alloc)?,
-            }),
-            Stmt::DeclareErrors => Ok(Stmt::DeclareErrors),
-            Stmt::DeclareOne { slot, ident, ty } => Ok(Stmt::DeclareOne {
-                slot: *slot,
-                ident: ident.try_clone(alloc)?,
-                ty: ty.try_clone(alloc)?,
-            }),
-            Stmt::DeclareMany { slot, ident, ty } => Ok(Stmt::DeclareMany {
-                slot: *slot,
-                ident: ident.try_clone(alloc)?,
-                ty: ty.try_clone(alloc)?,
-            }),
-            Stmt::DeclareBuffer => Ok(Stmt::DeclareBuffer),
-            Stmt::ForItems { arms, rest } => Ok(Stmt::ForItems {
-                arms: arms.try_clone(alloc)?,
-                rest: rest.try_clone(alloc)?,
-            }),
-            Stmt::ReadFlatten { slot, names } => Ok(Stmt::ReadFlatten {
-                slot: *slot,
-                names: names.try_clone(alloc)?,
-            }),
-            Stmt::CheckMissing { slot, ty, name } => Ok(Stmt::CheckMissing {
-                slot: *slot,
-                ty: ty.try_clone(alloc)?,
-                name: name.try_clone(alloc)?,
-            }),
-            Stmt::CheckErrors { location } => Ok(Stmt::CheckErrors {
-                location: location.try_clone(alloc)?,
-            }),
-            Stmt::SetDefault { from } => Ok(Stmt::SetDefault {
-                from: from.try_clone(alloc)?,
-            }),
-            Stmt::Build { name, inits } => Ok(Stmt::Build {
-                name: name.try_clone(alloc)?,
-                inits: inits.try_clone(alloc)?,
-            }),
-            Stmt::Transform { post } => Ok(Stmt::Transform {
-                post: post.try_clone(alloc)?,
-            }),
-            Stmt::CheckShape => Ok(Stmt::CheckShape),
-            Stmt::ReadBody => Ok(Stmt::ReadBody),
-        }
-    }
-}
-
-#[cycle(clone)]
-fn clone_stmts(stmts: &Items<Stmt>, alloc: Global) -> Mem<Items<Stmt>>
-    ensures { IfOk result (λ copies. copies ≡ stmts.now) }
-{
-    let mut copies = Items::new(alloc);
-    for stmt in stmts.as_slice() {
-        let copy = stmt.try_clone(alloc)?;
-        copies.push(copy)?;
-    }
-    Ok(copies)
 }

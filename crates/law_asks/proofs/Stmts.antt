@@ -1,5 +1,5 @@
 -- What each statement asks.
-use Rattle.std.proofs.Common.{◌≡◌, ◌∙◌, ℕ, List, [], ◌∷◌, ◌++◌, map, Option, refl, ap, sym, append_assoc}
+use Rattle.std.proofs.Common.{◌≡◌, ◌∙◌, ℕ, List, [], ◌∷◌, ◌++◌, map, Option, None, refl, ap, sym, append_assoc}
 use Rattle.base_core.specs.declared.text.Text.{Text}
 use Rattle.tok_types.specs.declared.ident.Ident.{Ident}
 use Rattle.node_expr.specs.declared.ty.«Type».{«Type» as Type'}
@@ -9,6 +9,7 @@ use Rattle.codegen_program.specs.declared.arm.Rest.{Rest}
 use Rattle.codegen_program.specs.declared.forward.Forward.{Forward}
 use Rattle.codegen_program.specs.declared.init.DefaultSource.{DefaultSource}
 use Rattle.codegen_program.specs.declared.init.Init.{Init}
+use Rattle.codegen_program.specs.declared.shape.ShapeSpec.TheVariants as shapes
 use Rattle.codegen_program.specs.declared.stmt.Stmt.{Stmt, roll-Stmt, fold-roll-Stmt}
 use Rattle.codegen_program.specs.declared.stmt.Stmt.TheOpen.{Stmt-F}
 use Rattle.codegen_program.specs.declared.stmt.Stmt.TheVariants as stmt
@@ -64,21 +65,21 @@ set_default source =
     layered (stmt.SetDefault source) (Stmt-F.SetDefault source) (Whole source ∷ []) (stmt.rolls-SetDefault source)
     (fold-roll-Stmt (List Ask) stmt_asks (Stmt-F.SetDefault source))
 
-pub build : (name : Ident) (inits : List Init) → asks_in (stmt.Build name inits) ≡ map Member inits
+pub build : (name : Ident) (inits : List Init) → asks_in (stmt.Build name None [] inits) ≡ map Member inits
 build name inits =
-    layered (stmt.Build name inits) (Stmt-F.Build name inits) (map Member inits) (stmt.rolls-Build name inits)
-    (fold-roll-Stmt (List Ask) stmt_asks (Stmt-F.Build name inits))
+    layered (stmt.Build name None [] inits) (Stmt-F.Build name None [] inits) (map Member inits) (stmt.rolls-Build name None [] inits)
+    (fold-roll-Stmt (List Ask) stmt_asks (Stmt-F.Build name None [] inits))
 
 pub transform : (post : PostfixTransform) → asks_in (stmt.Transform post) ≡ Transform post ∷ []
 transform post =
     layered (stmt.Transform post) (Stmt-F.Transform post) (Transform post ∷ []) (stmt.rolls-Transform post)
     (fold-roll-Stmt (List Ask) stmt_asks (Stmt-F.Transform post))
 
-pub check_shape : asks_in stmt.CheckShape ≡ []
-check_shape = layered stmt.CheckShape Stmt-F.CheckShape [] stmt.rolls-CheckShape (fold-roll-Stmt (List Ask) stmt_asks Stmt-F.CheckShape)
+pub check_shape : asks_in (stmt.CheckShape shapes.Any) ≡ []
+check_shape = layered (stmt.CheckShape shapes.Any) (Stmt-F.CheckShape shapes.Any) [] (stmt.rolls-CheckShape shapes.Any) (fold-roll-Stmt (List Ask) stmt_asks (Stmt-F.CheckShape shapes.Any))
 
-pub read_body : asks_in stmt.ReadBody ≡ []
-read_body = layered stmt.ReadBody Stmt-F.ReadBody [] stmt.rolls-ReadBody (fold-roll-Stmt (List Ask) stmt_asks Stmt-F.ReadBody)
+pub read_body : asks_in (stmt.ReadBody None None) ≡ []
+read_body = layered (stmt.ReadBody None None) (Stmt-F.ReadBody None None) [] (stmt.rolls-ReadBody None None) (fold-roll-Stmt (List Ask) stmt_asks (Stmt-F.ReadBody None None))
 
 -- one list of statements behind another
 pub all_asks-append : (stmts more : List Stmt) → all_asks (stmts ++ more) ≡ all_asks stmts ++ all_asks more

@@ -9,6 +9,7 @@ use Rattle.codegen_program.specs.declared.arm.PostfixTransform.{PostfixTransform
 use Rattle.codegen_program.specs.declared.forward.Forward.TheVariants as forward
 use Rattle.codegen_program.specs.declared.init.DefaultSource.{DefaultSource}
 use Rattle.codegen_program.specs.declared.init.Init.{Init}
+use Rattle.codegen_program.specs.declared.shape.ShapeSpec.TheVariants as shapes
 use Rattle.codegen_program.specs.declared.stmt.Stmt.{Stmt}
 use Rattle.codegen_program.specs.declared.stmt.Stmt.TheVariants as stmt
 use Rattle.codegen_core.specs.Compiled.{closing, compiled_derive_input, compiled_meta, default_of, fields_of, for_items, input_stmts, list_stmts, over_attributes, set_default, transform}
@@ -75,7 +76,7 @@ closing_is : (base : TraitImpl) → all_asks (closing false base) ≡ closing_as
 closing_is base =
     let fields = fields_of base in
     let post = option_copied base.post_transform in
-    let building : List Stmt = stmt.Build base.ident.now (inits fields) ∷ transform post in
+    let building : List Stmt = stmt.Build base.ident.now None [] (inits fields) ∷ transform post in
     let making : List Stmt = set_default (default_of false base) ++ building in
     let checking : List Stmt = stmt.CheckErrors None ∷ making in
     all_asks-append (flattens fields) (checks fields ++ checking)
@@ -110,7 +111,7 @@ input_asks decl left is =
     let declared : List Stmt = declarations (fields_of base) in
     let over : List Text → List Stmt = λ names. over_attributes names base in
     let ending : List Stmt = closing left.from_ident base in
-    let rest : List Stmt = stmt.CheckShape ∷ (stmt.ReadBody ∷ ending) in
+    let rest : List Stmt = stmt.CheckShape shapes.Any ∷ (stmt.ReadBody None None ∷ ending) in
     let names : List Text = map path_text left.attr_names.now.0 in
     ap (λ asks. asks ++ all_asks (declared ++ (over names ++ rest))) asked.declare_errors
     ∙ all_asks-append declared (over names ++ rest)

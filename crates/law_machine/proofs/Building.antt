@@ -187,7 +187,7 @@ module _ (setting : Setting) (earlier : Earlier) (type : Type') (given : Given) 
     build_is : (whole : Datum) (faults : List Fault) → AreGood decl.fields mine → run_on (build left ∷ []) (Going (full_state whole faults)) ≡ Built (made whole)
     build_is whole faults good =
         let o = in_order (each (value_here whole) decl.fields mine) in
-        statement.build setting earlier type left.ident.now (inits (fields_of left)) given (Going (full_state whole faults))
+        statement.build setting earlier type left.ident.now None [] (inits (fields_of left)) given (Going (full_state whole faults))
         ∙ ap (λ b. built_or_stuck (option_map (built_struct left.ident.now (inits (fields_of left))) b)) (values_are whole (fields_of left) decl.fields mine [] is.fields good)
         ∙ ap₂ (λ n ms. Built (on_value (λ vs. struct_of n (labelled ms vs)) o)) is.name (members_are (fields_of left) decl.fields zero is.fields)
 
@@ -199,7 +199,7 @@ module _ (setting : Setting) (earlier : Earlier) (type : Type') (given : Given) 
 
     ended_last : (f : Fault) (fs : List Fault) → run_on last (Ended f fs) ≡ Ended f fs
     ended_last f fs =
-        ap (run_on (transform (option_copied left.post_transform))) (statement.build setting earlier type left.ident.now (inits (fields_of left)) given (Ended f fs))
+        ap (run_on (transform (option_copied left.post_transform))) (statement.build setting earlier type left.ident.now None [] (inits (fields_of left)) given (Ended f fs))
         ∙ ended_transform (option_copied left.post_transform) f fs
 
     passed_by : (p : Option PostfixTransform) (f : Fault) (fs : List Fault) → Some (Faults f fs) ≡ Some (transformed setting earlier p type (Faults f fs))

@@ -14,6 +14,7 @@ use Rattle.error_fault.specs.Outcome.{Outcome, Value, Faults, bind, settle}
 use Rattle.machine_value.specs.declared.value.Value.{Value as Datum}
 use Rattle.machine_value.specs.Members.{no_value}
 use Rattle.codegen_program.specs.declared.forward.Forward.TheVariants as forward
+use Rattle.codegen_program.specs.declared.shape.ShapeSpec.TheVariants as shapes
 use Rattle.codegen_program.specs.declared.stmt.Stmt.{Stmt}
 use Rattle.codegen_program.specs.declared.stmt.Stmt.TheVariants as stmt
 use Rattle.codegen_core.specs.Compiled.{closing, default_of, fields_of, for_items, over_attributes, set_default}
@@ -189,7 +190,7 @@ input_is_meaning setting earlier left decl input is =
     let go : List Stmt → Progress → Progress = λ ss p. run_from setting earlier decl.type ss given p in
     let start = with_slots_kept setting earlier decl.type given decl [] [] [] in
     let behind_body : Bool → List Stmt = λ b. closing b base in
-    let behind_attributes = stmt.CheckShape ∷ (stmt.ReadBody ∷ behind_body left.from_ident) in
+    let behind_attributes = stmt.CheckShape shapes.Any ∷ (stmt.ReadBody None None ∷ behind_body left.from_ident) in
     let loop : List Text → List Stmt = λ ns. over_attributes ns base in
     let ns = map path_text left.attr_names.now.0 in
     let behind_slots = loop ns ++ behind_attributes in
@@ -202,7 +203,7 @@ input_is_meaning setting earlier left decl input is =
     ∙ statement.run_append setting earlier decl.type (loop ns) behind_attributes given (Going state)
     ∙ ap (λ ns. go behind_attributes (go (loop ns) (Going state))) is.attributes
     ∙ ap (go behind_attributes) (over_is setting earlier decl base is.base decl.attributes state given ∙ walked setting earlier decl base is.base given es)
-    ∙ ap (go (stmt.ReadBody ∷ behind_body left.from_ident)) (statement.check_shape setting earlier decl.type given state_is)
-    ∙ ap (go (behind_body left.from_ident)) (statement.read_body setting earlier decl.type given state_is)
+    ∙ ap (go (stmt.ReadBody None None ∷ behind_body left.from_ident)) (statement.check_shape setting earlier decl.type shapes.Any given state_is)
+    ∙ ap (go (behind_body left.from_ident)) (statement.read_body setting earlier decl.type None None given state_is)
     ∙ ap (λ b. go (behind_body b) state_is) is.no_ident)
     ∙ close setting earlier decl base is.base given es

@@ -41,14 +41,14 @@ abbrev pub joined : List (List Ask) → List Ask
 joined [] = []
 joined (asks ∷ more) = asks ++ joined more
 
--- what a statement asks, from what the statements in it ask
+-- What a statement asks, from what the statements in it ask. What those ask that no unit has yet comes with them.
 abbrev pub stmt_asks : Stmt-F (List Ask) → List Ask
 stmt_asks (Stmt-F.DeclareMany slot ident ty) = Many slot ∷ []
 stmt_asks (Stmt-F.ForAttributes names items forward) = joined items
 stmt_asks (Stmt-F.ForItems arms rest) = map Read arms
 stmt_asks (Stmt-F.ReadFlatten slot names) = Flatten slot ∷ []
 stmt_asks (Stmt-F.SetDefault source) = Whole source ∷ []
-stmt_asks (Stmt-F.Build name inits) = map Member inits
+stmt_asks (Stmt-F.Build name variant forwarded inits) = map Member inits
 stmt_asks (Stmt-F.Transform post) = Transform post ∷ []
 stmt_asks _ = []
 

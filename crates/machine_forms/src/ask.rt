@@ -77,8 +77,15 @@ fn push_stmt<'p>(asks: &mut Items<Ask<'p>>, stmt: &'p Stmt, nesting: usize) -> M
         | Stmt::DeclareBuffer
         | Stmt::CheckMissing { .. }
         | Stmt::CheckErrors { .. }
-        | Stmt::CheckShape
-        | Stmt::ReadBody => Ok(()),
+        | Stmt::DeclareForward { .. }
+        | Stmt::ForwardDone { .. }
+        | Stmt::CheckShape { .. }
+        | Stmt::ReadBody { .. }
+        | Stmt::ReadGenerics { .. }
+        | Stmt::Delegate { .. }
+        | Stmt::Variants { .. }
+        | Stmt::UnitNames { .. }
+        | Stmt::Call { .. } => Ok(()),
     }
 }
 

@@ -4,7 +4,7 @@ use Rattle.std.specs.Borrow.{Bor}
 use Rattle.node_expr.specs.declared.path.Path.{Path}
 use Rattle.node_expr.specs.declared.ty.«Type».{«Type» as Type'}
 use Rattle.node_core.specs.declared.derive.DeriveInput.{DeriveInput}
-use Rattle.util_core.specs.declared.callable.Callable.{Callable}
+use Rattle.codegen_program.specs.declared.callable.Callable.{Callable}
 use Rattle.law_spans.specs.Erased.{erased_expr, erased_type}
 use Rattle.law_spans_items.specs.Erased.{erased_derive_input}
 use Rattle.machine_value.specs.declared.value.Value.{Value}

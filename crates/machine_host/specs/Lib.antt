@@ -25,5 +25,5 @@ pub use Rattle.util_core.specs.Rows
 pub use Rattle.util_core.specs.Sets
 pub use Rattle.util_core.specs.Syntax
 pub use Rattle.util_core.specs.Wrappers
-pub use Rattle.util_core.specs.declared.callable.Callable
+pub use Rattle.codegen_program.specs.declared.callable.Callable
 pub use Rattle.util_core.specs.declared.over_ride.Override

@@ -6,9 +6,12 @@ use Rattle.node_expr.specs.declared.ty.«Type».{«Type» as Type'}
 use Rattle.codegen_program.specs.declared.arm.Arm.{Arm}
 use Rattle.codegen_program.specs.declared.arm.PostfixTransform.{PostfixTransform}
 use Rattle.codegen_program.specs.declared.arm.Rest.{Rest}
+use Rattle.codegen_program.specs.declared.callable.Callable.{Callable}
 use Rattle.codegen_program.specs.declared.forward.Forward.{Forward}
+use Rattle.codegen_program.specs.declared.forwarded.Forwarded.{Forwarded}
 use Rattle.codegen_program.specs.declared.init.DefaultSource.{DefaultSource}
 use Rattle.codegen_program.specs.declared.init.Init.{Init}
+use Rattle.codegen_program.specs.declared.shape.ShapeSpec.{ShapeSpec}
 use Rattle.codegen_program.specs.declared.stmt.Stmt.{Stmt, roll-Stmt, fold-roll-Stmt}
 use Rattle.codegen_program.specs.declared.stmt.Stmt.TheOpen.{Stmt-F}
 use Rattle.codegen_program.specs.declared.stmt.Stmt.TheVariants as stmt
@@ -56,17 +59,26 @@ module _ (setting : Setting) (earlier : Earlier) (type : Type') where
   pub set_default : (source : DefaultSource) → Steps (stmt.SetDefault source) (stmt_step setting earlier type (Stmt-F.SetDefault source))
   set_default source = stepped (stmt.SetDefault source) (Stmt-F.SetDefault source) (stmt_step setting earlier type (Stmt-F.SetDefault source)) (stmt.rolls-SetDefault source) (fold-roll-Stmt Doing (stmt_step setting earlier type) (Stmt-F.SetDefault source))
 
-  pub build : (name : Ident) (inits : List Init) → Steps (stmt.Build name inits) (stmt_step setting earlier type (Stmt-F.Build name inits))
-  build name inits = stepped (stmt.Build name inits) (Stmt-F.Build name inits) (stmt_step setting earlier type (Stmt-F.Build name inits)) (stmt.rolls-Build name inits) (fold-roll-Stmt Doing (stmt_step setting earlier type) (Stmt-F.Build name inits))
+  pub build : (name : Ident) (variant : Option Ident) (forwarded : List Forwarded) (inits : List Init)
+      → Steps (stmt.Build name variant forwarded inits) (stmt_step setting earlier type (Stmt-F.Build name variant forwarded inits))
+  build name variant forwarded inits =
+      stepped (stmt.Build name variant forwarded inits) (Stmt-F.Build name variant forwarded inits)
+      (stmt_step setting earlier type (Stmt-F.Build name variant forwarded inits)) (stmt.rolls-Build name variant forwarded inits)
+      (fold-roll-Stmt Doing (stmt_step setting earlier type) (Stmt-F.Build name variant forwarded inits))
 
   pub transform : (post : PostfixTransform) → Steps (stmt.Transform post) (stmt_step setting earlier type (Stmt-F.Transform post))
   transform post = stepped (stmt.Transform post) (Stmt-F.Transform post) (stmt_step setting earlier type (Stmt-F.Transform post)) (stmt.rolls-Transform post) (fold-roll-Stmt Doing (stmt_step setting earlier type) (Stmt-F.Transform post))
 
-  pub check_shape : Steps stmt.CheckShape (stmt_step setting earlier type Stmt-F.CheckShape)
-  check_shape = stepped stmt.CheckShape Stmt-F.CheckShape (stmt_step setting earlier type Stmt-F.CheckShape) stmt.rolls-CheckShape (fold-roll-Stmt Doing (stmt_step setting earlier type) Stmt-F.CheckShape)
+  pub check_shape : (shapes : ShapeSpec) → Steps (stmt.CheckShape shapes) (stmt_step setting earlier type (Stmt-F.CheckShape shapes))
+  check_shape shapes =
+      stepped (stmt.CheckShape shapes) (Stmt-F.CheckShape shapes) (stmt_step setting earlier type (Stmt-F.CheckShape shapes))
+      (stmt.rolls-CheckShape shapes) (fold-roll-Stmt Doing (stmt_step setting earlier type) (Stmt-F.CheckShape shapes))
 
-  pub read_body : Steps stmt.ReadBody (stmt_step setting earlier type Stmt-F.ReadBody)
-  read_body = stepped stmt.ReadBody Stmt-F.ReadBody (stmt_step setting earlier type Stmt-F.ReadBody) stmt.rolls-ReadBody (fold-roll-Stmt Doing (stmt_step setting earlier type) Stmt-F.ReadBody)
+  pub read_body : (ident : Option Ident) (with : Option Callable)
+      → Steps (stmt.ReadBody ident with) (stmt_step setting earlier type (Stmt-F.ReadBody ident with))
+  read_body ident with =
+      stepped (stmt.ReadBody ident with) (Stmt-F.ReadBody ident with) (stmt_step setting earlier type (Stmt-F.ReadBody ident with))
+      (stmt.rolls-ReadBody ident with) (fold-roll-Stmt Doing (stmt_step setting earlier type) (Stmt-F.ReadBody ident with))
 
   -- one list behind another
   pub run_append : (xs ys : List Stmt) (given : Given) (progress : Progress) → run_from setting earlier type (xs ++ ys) given progress ≡ run_from setting earlier type ys given (run_from setting earlier type xs given progress)

@@ -18,16 +18,19 @@ use Rattle.machine_host.specs.Seen.{NothingSeen, IdentSeen}
 use Rattle.machine_host.specs.declared.place.Use.TheVariants as use_at
 use Rattle.machine_value.specs.declared.value.Value.{Value as Datum}
 use Rattle.machine_value.specs.Members.{struct_of, labelled}
+use Rattle.codegen_program.specs.declared.forwarded.Forwarded.{Forwarded}
 use Rattle.codegen_program.specs.declared.init.DefaultSource.{DefaultSource}
 use Rattle.codegen_program.specs.declared.init.DefaultSource.TheVariants as sources
 use Rattle.codegen_program.specs.declared.init.Init.{Init}
+use Rattle.codegen_program.specs.declared.shape.ShapeSpec.{ShapeSpec}
+use Rattle.codegen_program.specs.declared.shape.ShapeSpec.TheVariants as shapes
 use Rattle.codegen_program.specs.declared.stmt.Stmt.{Stmt, fold-Stmt}
 use Rattle.codegen_program.specs.declared.stmt.Stmt.TheOpen.{Stmt-F}
 use Rattle.machine_steps.specs.Setting.{Setting, ask, outcome_of}
 use Rattle.machine_steps.specs.Convert.{Earlier, default}
 use Rattle.machine_steps.specs.Reading.{transformed}
 use Rattle.machine_steps.specs.State.{Slot, One, Several, State, put, slot_at, step, with_faults}
-use Rattle.machine_steps.specs.Progress.{Given, Items, Input, items_given, attributes_given, Progress, Going, start, going, building, unless_faults, on_outcome, built_or_stuck}
+use Rattle.machine_steps.specs.Progress.{Given, Items, Input, items_given, attributes_given, Progress, Going, Stuck, start, going, building, unless_faults, on_outcome, built_or_stuck}
 use Rattle.machine_steps.specs.Slots.{read_flat, check_missing, init_values}
 
 -- what a statement makes of the progress of a run
@@ -71,6 +74,23 @@ abbrev pub built_struct : Ident → List Init → Outcome (List Datum) → Outco
 built_struct name inits values =
     on_value (λ values. struct_of (ident_text name) (labelled (map (λ init. init.member) inits) values)) values
 
+-- builds the receiver from its slots; no unit builds a variant yet, or takes parts of the element
+abbrev pub build_step : Setting → Ident → Option Ident → List Forwarded → List Init → Progress → Progress
+build_step setting name None [] inits =
+    going (λ state. built_or_stuck (option_map (built_struct name inits) (init_values setting state.whole state.slots inits)))
+build_step setting name None (part ∷ parts) inits = λ progress. Stuck
+build_step setting name (Some variant) forwarded inits = λ progress. Stuck
+
+-- looks at the shape of the element; no unit asks for one yet
+abbrev pub shape_step : ShapeSpec → Progress → Progress
+shape_step shapes.Any progress = progress
+shape_step _ progress = Stuck
+
+-- reads the body into a field; no unit has such a field yet
+abbrev pub body_step : Option Ident → Progress → Progress
+body_step None progress = progress
+body_step (Some ident) progress = Stuck
+
 module _ (setting : Setting) (earlier : Earlier) (type : Type') where
   -- what the identifier of an item makes
   abbrev pub from_ident : Given → Outcome Datum
@@ -84,7 +104,7 @@ module _ (setting : Setting) (earlier : Earlier) (type : Type') where
   source_value given (sources.Explicit callable) = ask setting callable use_at.Default type NothingSeen
   source_value given sources.FromIdent = from_ident given
 
-  -- what a statement does, from what the statements in it do
+  -- What a statement does, from what the statements in it do. Those of forms that no unit has yet are stuck.
   abbrev pub stmt_step : Stmt-F Doing → Doing
   stmt_step Stmt-F.DeclareErrors given = going (λ state. Going (record state { faults = [] }))
   stmt_step (Stmt-F.DeclareOne number ident ty) given = going (λ state. Going (with_slot (One ty false None) state))
@@ -100,11 +120,11 @@ module _ (setting : Setting) (earlier : Earlier) (type : Type') where
   stmt_step (Stmt-F.CheckErrors location) given = going (λ state. unless_faults (placed location state.faults) state)
   stmt_step (Stmt-F.SetDefault source) given =
       going (λ state. on_outcome (source_value given source) (λ whole. Going (record state { whole = whole })))
-  stmt_step (Stmt-F.Build name inits) given =
-      going (λ state. built_or_stuck (option_map (built_struct name inits) (init_values setting state.whole state.slots inits)))
+  stmt_step (Stmt-F.Build name variant forwarded inits) given = build_step setting name variant forwarded inits
   stmt_step (Stmt-F.Transform post) given = building (transformed setting earlier (Some post) type)
-  stmt_step Stmt-F.CheckShape given = λ progress. progress
-  stmt_step Stmt-F.ReadBody given = λ progress. progress
+  stmt_step (Stmt-F.CheckShape shapes) given = shape_step shapes
+  stmt_step (Stmt-F.ReadBody ident with) given = body_step ident
+  stmt_step _ given = λ progress. Stuck
 
   abbrev pub does : Stmt → Doing
   does = fold-Stmt Doing stmt_step

@@ -1,3 +1,4 @@
+pub mod Callable
 pub mod Lists
 pub mod Rows
 pub mod Sets

@@ -1,5 +1,6 @@
 //! The types that are read: one implementation a row of the conversions.
 
+mod callables;
 mod literals;
 mod maps;
 mod name_lists;

@@ -12,4 +12,4 @@ pub use Rattle.util_core.specs.PathList
 pub use Rattle.util_core.specs.PathLists
 pub use Rattle.util_core.specs.Rows
 pub use Rattle.util_core.specs.Syntax
-pub use Rattle.util_core.specs.declared.callable.Callable as UtilCoreCallable
+pub use Rattle.codegen_program.specs.declared.callable.Callable as UtilCoreCallable

@@ -17,7 +17,7 @@ use Rattle.util_core.specs.Nodes.{nested_span}
 use Rattle.util_core.specs.NestedMeta.{NestedMeta}
 use Rattle.util_core.specs.NestedMeta.TheVariants as nested
 use Rattle.util_core.specs.Cells.{Cells, no_cells}
-use Rattle.options_types.specs.declared.shapes.DataShape.{DataShape}
+use Rattle.codegen_program.specs.declared.shape.DataShape.{DataShape}
 use Rattle.options_types.specs.declared.shapes.DeriveInputShapeSet.{DeriveInputShapeSet}
 
 -- the words of `supports` where items are read

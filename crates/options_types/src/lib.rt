@@ -11,11 +11,12 @@ mod spanned_read;
 mod spanned_value;
 mod with_original;
 
+pub use codegen_program::DataShape;
 pub use default_expression::DefaultExpression;
 pub use forward_attrs::ForwardAttrsFilter;
 pub use forwarded_field::ForwardedField;
 pub use ignored::Ignored;
-pub use shapes::{DataShape, DeriveInputShapeSet};
+pub use shapes::DeriveInputShapeSet;
 pub use spanned_value::SpannedValue;
 pub use util_core::{Callable, Flag, FromMeta, NestedMeta, PathList, items_of};
 pub use with_original::WithOriginal;

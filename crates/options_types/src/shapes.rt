@@ -6,57 +6,13 @@ ghost use Rattle.error_core.specs.Each.{each};
 ghost use Rattle.options_types.specs.Shapes as spec;
 
 use base_core::{Items, Mem, Text, TryClone};
+use codegen_program::DataShape;
 use error_core::{Error, Fail, Result};
 use node_core::Meta;
 use node_expr::PathSegment;
 use std::alloc::Global;
 use tok_types::Ident;
 use util_core::{Call, FromMeta, NestedMeta};
-
-/// The shapes of structs, or of an enum's variants, that a receiver takes.
-#[derive(Clone, Copy, Default, PartialEq, Eq)]
-pub struct DataShape {
-    pub newtype: bool,
-    pub named: bool,
-    pub tuple: bool,
-    pub unit: bool,
-    /// Every shape.
-    pub any: bool,
-}
-
-impl DataShape {
-    /// The shapes of structs that the words name.
-    fn of_structs(words: &[Text]) -> DataShape
-        ensures { result ≡ spec.struct_shape words.now }
-    {
-        DataShape {
-            newtype: has(words, "struct_newtype"),
-            named: has(words, "struct_named"),
-            tuple: has(words, "struct_tuple"),
-            unit: has(words, "struct_unit"),
-            any: has(words, "struct_any"),
-        }
-    }
-
-    /// The shapes of variants that the words name.
-    fn of_enums(words: &[Text]) -> DataShape
-        ensures { result ≡ spec.enum_shape words.now }
-    {
-        DataShape {
-            newtype: has(words, "enum_newtype"),
-            named: has(words, "enum_named"),
-            tuple: has(words, "enum_tuple"),
-            unit: has(words, "enum_unit"),
-            any: has(words, "enum_any"),
-        }
-    }
-}
-
-impl TryClone for DataShape {
-    fn try_clone(&self, _alloc: Global) -> Mem<DataShape> {
-        Ok(*self)
-    }
-}
 
 /// The shapes of items that a receiver takes: `supports(struct_named, enum_unit)`
 #[derive(Clone, Copy, Default)]
@@ -99,9 +55,35 @@ fn shape_set(words: &[Text]) -> DeriveInputShapeSet
     ensures { result ≡ spec.shape_set words.now }
 {
     DeriveInputShapeSet {
-        enum_values: DataShape::of_enums(words),
-        struct_values: DataShape::of_structs(words),
+        enum_values: enum_shape(words),
+        struct_values: struct_shape(words),
         any: has(words, "any"),
+    }
+}
+
+/// The shapes of structs that the words name.
+fn struct_shape(words: &[Text]) -> DataShape
+    ensures { result ≡ spec.struct_shape words.now }
+{
+    DataShape {
+        newtype: has(words, "struct_newtype"),
+        named: has(words, "struct_named"),
+        tuple: has(words, "struct_tuple"),
+        unit: has(words, "struct_unit"),
+        any: has(words, "struct_any"),
+    }
+}
+
+/// The shapes of variants that the words name.
+fn enum_shape(words: &[Text]) -> DataShape
+    ensures { result ≡ spec.enum_shape words.now }
+{
+    DataShape {
+        newtype: has(words, "enum_newtype"),
+        named: has(words, "enum_named"),
+        tuple: has(words, "enum_tuple"),
+        unit: has(words, "enum_unit"),
+        any: has(words, "enum_any"),
     }
 }
 

@@ -13,7 +13,7 @@ use tests_checks::{Tested, given, hash, kind_of, row_of, tokens};
 use tok_core::{MAX_LEN, to_text};
 use util_core::extract_option::{from_mut, from_owned, from_ref};
 use util_core::parse_expr::{parse_str_literal, preserve_str_literal};
-use util_core::{Callable, IdentString, parse_attribute_to_meta_list};
+use util_core::{IdentString, parse_attribute_to_meta_list, parse_callable};
 use util_table::{RenameRule, RenameTable, TableFail};
 
 /// Asks each row of a table of one kind.
@@ -126,7 +126,7 @@ fn common(alloc: Global, lists: &str) -> Tested<Text> {
 /// The callable that the tokens are, or the parser's fault.
 fn callable(alloc: Global, text: &str) -> Tested<Text> {
     let tokens = tokens(alloc, 0, text)?;
-    match Callable::parse(alloc, &tokens) {
+    match parse_callable(alloc, &tokens) {
         Ok(it) => printed(alloc, it.as_ref()),
         Err(ParseFail::Syn(error)) => Ok(Text::from_str(alloc, error.first.1.as_str())?),
         Err(ParseFail::NoMemory) => Err(Fail::new(format_args!("no memory is left"))),

@@ -74,8 +74,9 @@ fn push_stmt(alloc: Global, stmt: &Stmt, text: &mut Text) -> Mem<()> {
             Ok(())
         }
         Stmt::Transform { .. } => text.push_str("transform"),
-        Stmt::CheckShape => text.push_str("shape"),
-        Stmt::ReadBody => text.push_str("body"),
+        Stmt::CheckShape { .. } => text.push_str("shape"),
+        Stmt::ReadBody { .. } => text.push_str("body"),
+        _ => text.push_str("none that a unit has yet"),
     }
 }
 

@@ -1,5 +1,4 @@
 pub mod Attributes
-pub mod Callable
 pub mod Exprs
 pub mod ExtractOption
 pub mod Flag
@@ -8,7 +7,9 @@ pub mod Ignored
 pub mod Lending
 pub mod Override
 pub mod Pairs
+pub mod ParseCallable
 pub use Rattle.meta_core.specs.Call
+pub use Rattle.meta_core.specs.Callable
 pub use Rattle.meta_core.specs.Cells
 pub use Rattle.meta_core.specs.Dispatch
 pub use Rattle.meta_core.specs.Exprs as MetaReadsExprs

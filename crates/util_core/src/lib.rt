@@ -12,7 +12,8 @@ mod parse_attribute;
 pub mod parse_expr;
 mod preserved_str_expr;
 
-pub use callable::Callable;
+pub use callable::parse_callable;
+pub use codegen_program::Callable;
 pub use flag::Flag;
 pub use ident_string::IdentString;
 pub use laws::equal_ident_strings_are_alike;

@@ -1,7 +1,6 @@
 -- What an option may name to be called: a path or a closure.
-use Rattle.std.specs.Prelude.{[], Option, Some, None, option_and_then, option_map, codes}
+use Rattle.std.specs.Prelude.{[], Option, Some, None, option_and_then, codes}
 use Rattle.tok_types.specs.declared.span.Span.{Span}
-use Rattle.tok_types.specs.declared.tree.TokenStream.{TokenStream}
 use Rattle.node_expr.specs.Layers.{ExprLayer}
 use Rattle.node_expr.specs.declared.expr.Expr.{Expr, out-Expr}
 use Rattle.node_expr.specs.declared.expr.Expr.TheOpen.{Expr-F}
@@ -9,28 +8,19 @@ use Rattle.node_expr.specs.declared.expr.Expr.TheVariants as expr
 use Rattle.node_expr.specs.declared.lit.Lit.TheVariants as lit
 use Rattle.node_expr.specs.declared.lit.LitStr.{LitStr}
 use Rattle.node_expr.specs.declared.path.Path.{Path}
-use Rattle.node_make.specs.Make.{make_expr_path}
-use Rattle.node_span.specs.Spanned.{path_span}
-use Rattle.syn_grammar.specs.Trees.{expr_of, path_of}
+use Rattle.syn_grammar.specs.Trees.{path_of}
 use Rattle.error_fault.specs.Fault.{at_span}
 use Rattle.error_fault.specs.Outcome.{Outcome, Value, Faults}
 use Rattle.error_fault.specs.declared.kind.FaultKind.TheVariants.{Custom}
 use Rattle.law_lexed.specs.Lexed.{tokens_in}
-use Rattle.meta_core.specs.Cells.{Cells, no_cells}
-use Rattle.meta_core.specs.Dispatch.{unexpected_expr}
-use Rattle.util_core.specs.declared.callable.Callable.{Callable}
+use Rattle.meta_nested.specs.Cells.{Cells, no_cells}
+use Rattle.meta_nested.specs.Dispatch.{unexpected_expr}
+use Rattle.codegen_program.specs.declared.callable.Callable.{Callable}
+use Rattle.codegen_program.specs.Callables.{path_call}
 
 -- what calls the expression
 abbrev pub callable : Expr → Callable
 callable call = record { call = call }
-
--- the expression that the tokens are, of any kind
-abbrev pub callable_of : TokenStream → Option Callable
-callable_of tokens = option_map callable (expr_of tokens)
-
--- the expression that a path is
-abbrev pub path_call : Path → Expr
-path_call path = expr.Path (make_expr_path None path (path_span path))
 
 -- a string that is no path, at its place
 abbrev pub no_path : {A : Type 0} → Span → Outcome A
