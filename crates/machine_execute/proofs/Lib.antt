@@ -1,12 +1,2 @@
-pub mod Building
-pub mod Errors
-pub mod Faulty
-pub mod Held
-pub mod Listless
-pub mod Metas
-pub mod Places
-pub mod Reading
 pub mod Rooms
-pub mod Steps
-pub mod Stopped
 pub use Rattle.machine_read.proofs.Statements

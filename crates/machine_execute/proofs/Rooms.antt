@@ -11,6 +11,7 @@ use Rattle.machine_read.specs.Setting.{Setting}
 use Rattle.machine_read.specs.Convert.{Earlier}
 use Rattle.machine_read.specs.Below.{below, unread}
 use Rattle.machine_read.specs.Machine.{earlier_units, meta_unit, read_list}
+use Rattle.machine_execute.specs.Units.{declared_list}
 
 module _ (body : Earlier → ℕ → List NestedMeta → Outcome Datum) (items : List NestedMeta) where
   at_bound : (bound number : ℕ) (b : Bool) → nat_eq number bound ≡ b → below body (suc bound) number items ≡ cond b (body (below body bound) bound items) (below body bound number items)
@@ -43,12 +44,16 @@ module _ (body : Earlier → ℕ → List NestedMeta → Outcome Datum) (items :
       by_test bound number (nat_eq number bound) refl le (below_none bound number less)
 
 module _ (setting : Setting) (units : List Unit') (bound number : ℕ) (items : List NestedMeta) (r : Result Datum Fail) where
+  -- what is read by the units below the bound
+  abbrev Reads : Outcome Datum → Type 0
+  Reads = Answers (λ it. it) r
+
   -- a number below the bound is answered by its unit
-  pub answers_below : number < bound → Answers (λ it. it) r (read_list setting (earlier_units setting units number) (meta_unit units number) items) → Answers (λ it. it) r (earlier_units setting units bound number items)
+  pub answers_below : number < bound → Reads (declared_list setting units number items) → Reads (earlier_units setting units bound number items)
   answers_below lt =
-      subst (Answers (λ it. it) r) (sym (below_is (λ earlier number items. read_list setting earlier (meta_unit units number) items) items bound number lt))
+      subst Reads (sym (below_is (λ earlier number items. read_list setting earlier (meta_unit units number) items) items bound number lt))
 
   -- no other number is
-  pub answers_none : bound ≤ number → Answers (λ it. it) r unread → Answers (λ it. it) r (earlier_units setting units bound number items)
+  pub answers_none : bound ≤ number → Reads unread → Reads (earlier_units setting units bound number items)
   answers_none le =
-      subst (Answers (λ it. it) r) (sym (below_none (λ earlier number items. read_list setting earlier (meta_unit units number) items) items bound number le))
+      subst Reads (sym (below_none (λ earlier number items. read_list setting earlier (meta_unit units number) items) items bound number le))

@@ -6,6 +6,8 @@ use Rattle.machine_read.specs.Cells.{Cells, no_cells}
 use Rattle.machine_read.specs.Dispatch.{by_nested_meta}
 use Rattle.error_fault.specs.Outcome.{Outcome}
 use Rattle.machine_read.specs.HostSays.{HostSays}
+use Rattle.machine_read.specs.Setting.{Setting}
+use Rattle.machine_read.specs.Convert.{Earlier}
 use Rattle.machine_value.specs.declared.value.Value.{Value as Datum}
 use Rattle.codegen_program.specs.declared.program.Program.{Program}
 use Rattle.codegen_program.specs.declared.program.«Unit».{«Unit» as Unit'}
@@ -24,15 +26,18 @@ element_of (element.Nested item) = OnNested item.now
 element_of (element.Input input) = OnInput input.now
 
 -- what a unit reads: a list by its function, and no other format
+abbrev pub list_cells : Setting → Earlier → Unit' → Cells Datum
+list_cells setting earlier unit = record no_cells { list = λ items. Some (read_list setting earlier (Some unit) items) }
+
+-- under the program that it is of
 abbrev pub unit_cells : HostSays → Program → Unit' → Cells Datum
 unit_cells host program unit =
-    record no_cells {
-      list = λ items. Some (read_list (setting_of host program) (earlier_units (setting_of host program) program.units unit.decl) (Some unit) items);
-    }
+    list_cells (setting_of host program) (earlier_units (setting_of host program) program.units unit.decl) unit
 
 -- an item of a list is for a unit of `FromMeta`, an item of a text for one of `FromDeriveInput`
 abbrev pub unit_on : HostSays → Program → Unit' → On → Option (Outcome Datum)
-unit_on host program unit (OnNested item) = if is_from_meta unit.derive then Some (by_nested_meta (unit_cells host program unit) item) else None
+unit_on host program unit (OnNested item) =
+    if is_from_meta unit.derive then Some (by_nested_meta (unit_cells host program unit) item) else None
 unit_on host program unit (OnInput input) = machine host program unit input
 
 -- the unit of the number, on an element

@@ -1,8 +1,6 @@
-pub mod Seen
 pub mod Outcome
 pub mod Units
 pub mod Elements
-pub mod Index
 pub use Rattle.machine_read.specs.Below
 pub use Rattle.machine_read.specs.Callable
 pub use Rattle.machine_read.specs.Convert

@@ -4,21 +4,10 @@
 //! `machine_steps` says of it: a value, or all its faults with their places.
 #![tactic(auto)]
 
-mod build;
+mod context;
 mod element;
-mod faults;
-mod flat;
-mod given;
-mod index;
-mod items;
 mod machine;
-mod members;
-mod missing;
 mod outcome;
-mod progress;
-mod run;
-mod slot;
-mod state;
 mod units;
 
 pub use element::Element;

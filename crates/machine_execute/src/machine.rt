@@ -8,15 +8,15 @@ ghost use Rattle.machine_read.specs.Machine as spec;
 ghost use Rattle.machine_read.specs.Dispatch.{by_nested_meta};
 ghost use Rattle.machine_execute.specs.Elements.{HasOutcome, OnNested, element_of, machine_on, unit_cells, unit_on};
 
+use crate::context::Context;
 use crate::element::Element;
-use crate::faults::again;
-use crate::given::Given;
 use crate::outcome::Outcome;
-use crate::units::{Context, Earlier, read_declared, read_list, run_func};
+use crate::units::{Earlier, read_declared, read_list, run_func};
 use base_core::Mem;
 use codegen_program::{Derive, FuncName, Program, Unit};
 use error_core::Result;
 use machine_read::{Call, Declared, Host, NestedMeta, Reader, named_type};
+use machine_run::{Given, again};
 use machine_value::Value;
 use node_core::DeriveInput;
 use std::alloc::{AllocError, Global};
@@ -168,9 +168,8 @@ struct UnitReader<'c, H, D> {
 }
 
 impl<H: Host, D: Declared> Reader for UnitReader<'_, H, D> {
-    ghost use Rattle.std.specs.Prelude.{Some};
-    ghost use Rattle.machine_read.specs.Cells.{no_cells};
-    ghost use Rattle.machine_read.specs.Machine.{read_list, setting_of};
+    ghost use Rattle.machine_execute.specs.Elements.{list_cells};
+    ghost use Rattle.machine_execute.specs.Units.{setting_at};
     ghost use Rattle.machine_value.specs.declared.value.Value.{Value as Datum};
 
     type Value = Value;
@@ -179,7 +178,7 @@ impl<H: Host, D: Declared> Reader for UnitReader<'_, H, D> {
 
     ghost seen = { λ it. it };
 
-    ghost cells = { λ it. record no_cells { list = λ items. Some (read_list (setting_of (H.says it.context.now.host.now) it.context.now.program.now) (D.earlier it.earlier.now) (Some it.unit.now) items) } };
+    ghost cells = { λ it. list_cells (setting_at H.says it.context.now) (D.earlier it.earlier.now) it.unit.now };
 
     ghost is_callable = { λ it. D.reads_within it.earlier.now it.room };
 

@@ -1,38 +1,26 @@
 //! Units of a program: each declaration is read by the unit of its number, and its types name those of lower numbers.
 
-ghost use Rattle.std.specs.Prelude.{◌≡◌, [], IfOk, Some, option_map};
+ghost use Rattle.std.specs.Prelude.{◌≡◌, Some, option_map};
 ghost use Rattle.std.specs.Option.{option_copied};
 ghost use Rattle.error_core.specs.Answers.{Answers};
-ghost use Rattle.machine_read.specs.Made.{named_type as type_named};
 ghost use Rattle.machine_read.specs.Below.{unread as unread_outcome};
 ghost use Rattle.machine_read.specs.Machine as spec;
 ghost use Rattle.machine_read.specs.Progress.{outcome};
 ghost use Rattle.machine_read.specs.Statements.{run as run_of};
-ghost use Rattle.machine_execute.specs.Seen.{answered, given_of};
-ghost use Rattle.machine_execute.specs.Units.{is_such};
+ghost use Rattle.machine_run.specs.Seen.{given_of};
+ghost use Rattle.machine_run.specs.Steps.{IsOutcome};
+ghost use Rattle.machine_execute.specs.Units.{declared_list, is_such, setting_at};
 
-use crate::given::Given;
-use crate::progress::Progress;
-use crate::run::Run;
-use crate::state::State;
+use crate::context::Context;
 use base_core::Mem;
-use codegen_program::{Derive, Func, FuncName, MAX_NESTING, Program, Stmt, Unit};
+use codegen_program::{Derive, Func, FuncName, MAX_NESTING, Stmt, Unit};
 use error_core::{Error, Fail, Result};
 use machine_read::{Declared, Host, NestedMeta, Scope, Setting, named_type};
+use machine_run::{Given, Progress, Run, State};
 use machine_value::Value;
 use node_expr::Type;
 use std::alloc::Global;
 use std::result;
-
-/// A program and its host.
-pub(crate) struct Context<'p, H> {
-    pub alloc: Global,
-    pub host: &'p H,
-    pub program: &'p Program,
-    /// The type of a slot that is not there.
-    pub nameless: &'p Type,
-    ghost is_nameless: { nameless.now ≡ type_named [] },
-}
 
 /// What the declarations below a number read, each by its unit.
 pub(crate) struct Earlier<'p, H, F> {
@@ -47,12 +35,11 @@ where
 {
     ghost use Rattle.std.specs.Prelude.{ℕ, ◌≤◌};
     ghost use Rattle.machine_read.specs.Convert.{Earlier as EarlierSeen};
-    ghost use Rattle.machine_read.specs.Machine.{earlier_units, setting_of};
-    ghost use Rattle.machine_execute.specs.Units.{ReadsUnits, reads-less};
+    ghost use Rattle.machine_execute.specs.Units.{ReadsBelow, earlier_at, reads-less};
 
-    ghost earlier = { λ it. earlier_units (setting_of (H.says it.context.now.host.now) it.context.now.program.now) it.context.now.program.now.units it.bound };
+    ghost earlier = { λ it. earlier_at H.says it.context.now it.bound };
 
-    ghost reads_within = { λ it room. ReadsUnits (setting_of (H.says it.context.now.host.now) it.context.now.program.now) it.context.now.program.now.units it.bound room (λ less number items. F.pre it.read it.context less number items) (λ less number items answer. F.post it.read it.context less number items answer) };
+    ghost reads_within = { λ it room. ReadsBelow H.says it.context.now it.bound room (F.pre it.read it.context) (F.post it.read it.context) };
 
     ghost reads_less = { λ it less room small within. reads-less small within };
 
@@ -80,7 +67,7 @@ pub(crate) fn read_declared<H: Host>(
     number: usize,
     items: &[NestedMeta],
 ) -> Result<Value>
-    ensures { Answers (λ it. it) result (spec.read_list (spec.setting_of (H.says context.now.host.now) context.now.program.now) (spec.earlier_units (spec.setting_of (H.says context.now.host.now) context.now.program.now) context.now.program.now.units number) (spec.meta_unit context.now.program.now.units number) items.now) }
+    ensures { Answers (λ it. it) result (declared_list (setting_at H.says context.now) context.now.program.now.units number items.now) }
 {
     if room == 0 {
         return Err(Fail::NoMemory);
@@ -105,7 +92,7 @@ pub(crate) fn read_list<H: Host, D: Declared>(
     items: &[NestedMeta],
 ) -> Result<Value>
     requires { D.reads_within earlier.now room }
-    ensures { Answers (λ it. it) result (spec.read_list (spec.setting_of (H.says context.now.host.now) context.now.program.now) (D.earlier earlier.now) (Some unit.now) items.now) }
+    ensures { Answers (λ it. it) result (spec.read_list (setting_at H.says context.now) (D.earlier earlier.now) (Some unit.now) items.now) }
 {
     match run_func(
         context,
@@ -150,7 +137,7 @@ pub(crate) fn run_func<H: Host, D: Declared>(
     given: Given<'_>,
 ) -> Mem<Option<result::Result<Value, Error>>>
     requires { D.reads_within earlier.now room }
-    ensures { IfOk result (λ it. option_map answered it ≡ spec.run_func (spec.setting_of (H.says context.now.host.now) context.now.program.now) (D.earlier earlier.now) (is_such name) unit.now (given_of given.entry)) }
+    ensures { IsOutcome result (spec.run_func (setting_at H.says context.now) (D.earlier earlier.now) (is_such name) unit.now (given_of given.entry)) }
 {
     match stmts_named(unit.funcs.as_slice(), name) {
         Some(stmts) => {
@@ -171,7 +158,7 @@ fn run_stmts<H: Host, D: Declared>(
     given: Given<'_>,
 ) -> Mem<Option<result::Result<Value, Error>>>
     requires { D.reads_within earlier.now room }
-    ensures { IfOk result (λ it. option_map answered it ≡ outcome (run_of (spec.setting_of (H.says context.now.host.now) context.now.program.now) (D.earlier earlier.now) ty.now stmts.now (given_of given.entry))) }
+    ensures { IsOutcome result (outcome (run_of (setting_at H.says context.now) (D.earlier earlier.now) ty.now stmts.now (given_of given.entry))) }
 {
     let run = Run {
         scope: Scope {
@@ -211,17 +198,6 @@ fn is_such(name: FuncName, other: FuncName) -> bool
         (FuncName::FromList, FuncName::FromList) => true,
         (FuncName::FromDeriveInput, FuncName::FromDeriveInput) => true,
         _ => false,
-    }
-}
-
-impl<H> Drop for Context<'_, H> {
-    fn drop(self) {
-        let Self {
-            alloc: _,
-            host: _,
-            program: _,
-            nameless: _,
-        } = self;
     }
 }
 

@@ -1,10 +1,11 @@
 -- What a row reads, by its outermost layer.
-use Rattle.std.specs.Prelude.{ℕ}
+use Rattle.std.specs.Prelude.{◌≡◌, ℕ}
 use Rattle.node_expr.specs.declared.ty.«Type».{«Type» as Type'}
 use Rattle.meta_nested.specs.Cells.{Cells}
 use Rattle.machine_leaf.specs.Rows.{unit_cells}
 use Rattle.machine_value.specs.declared.value.Value.{Value as Datum}
 use Rattle.machine_leaf.specs.Leaves.{leaf_cells}
+use Rattle.machine_leaf.specs.RowCells.{row_cells}
 use Rattle.machine_leaf.specs.Shown.{shown_cells}
 use Rattle.machine_leaf.specs.Values.{unit}
 use Rattle.machine_rows.specs.declared.row.Row.{Row}
@@ -19,3 +20,9 @@ layer_reads declared host inside (layer.Leaf it) = leaf_cells it.now
 layer_reads declared host inside (layer.Around it inner) = wrapper_cells it (inside inner.now)
 layer_reads declared host inside (layer.Declared number) = declared number
 layer_reads declared host inside (layer.Host type) = host type.now
+
+-- the row reads what its layer does, whatever declarations and types of the host read
+abbrev pub IsLayerOf : Row → Layer → Type 0
+IsLayerOf row layer =
+    (declared : ℕ → Cells Datum) (host : Type' → Cells Datum)
+    → layer_reads declared host (row_cells declared host) layer ≡ row_cells declared host row

@@ -1,7 +1,7 @@
 //! Rows: what each answers to a call itself, by the row inside.
 
 ghost use Rattle.meta_nested.specs.Cells.{AnswersCell, cell_at};
-ghost use Rattle.machine_read.specs.Scopes.{cells_of, seen_setting};
+ghost use Rattle.machine_read.specs.Scopes.{cells_of, under};
 ghost use Rattle.machine_steps.specs.Convert.{declared_cells};
 
 use crate::declared::Declared;
@@ -30,12 +30,9 @@ impl<H: Host, D: Declared, F> Reader for Inside<'_, '_, H, D, F>
 where
     F: Fn(&Scope<'_, H, D>, usize, &Row, Call<'_>) -> Result<Option<Value>>,
 {
-    ghost use Rattle.std.specs.Prelude.{Option, Result};
-    ghost use Rattle.error_core.specs.declared.fail.Fail.{Fail as FailSeen};
     ghost use Rattle.machine_value.specs.declared.value.Value.{Value as Datum};
-    ghost use Rattle.meta_nested.specs.Cells.{AnswersCell, cell_at};
-    ghost use Rattle.meta_nested.specs.declared.call.Call.{Call as CallSeen};
-    ghost use Rattle.machine_read.specs.Scopes.{cells_of, seen_setting};
+    ghost use Rattle.machine_read.specs.Answers.{ReadsRow};
+    ghost use Rattle.machine_read.specs.Scopes.{cells_of, under};
 
     type Value = Value;
 
@@ -43,12 +40,9 @@ where
 
     ghost seen = { λ it. it };
 
-    ghost cells = { λ it. cells_of (seen_setting (H.says it.scope.now.setting.host.now) it.scope.now.setting.decls.now) (D.earlier it.scope.now.declared.now) it.row.now };
+    ghost cells = { λ it. under H.says D.earlier it.scope.now cells_of it.row.now };
 
-    ghost is_callable = { λ it.
-        ((call : CallSeen) → F.pre it.cell it.scope it.room it.row call)
-        × ((call : CallSeen) (answer : Result (Option Datum) FailSeen) → F.post it.cell it.scope it.room it.row call answer
-        → AnswersCell (λ found. found) answer (cell_at (cells_of (seen_setting (H.says it.scope.now.setting.host.now) it.scope.now.setting.decls.now) (D.earlier it.scope.now.declared.now) it.row.now) call)) };
+    ghost is_callable = { λ it. ReadsRow F.pre F.post it (under H.says D.earlier it.scope.now cells_of it.row.now) };
 
     fn cell(&self, _alloc: Global, call: Call<'_>) -> Result<Option<Value>> {
         (self.cell)(self.scope, self.room, self.row, call)
@@ -63,7 +57,7 @@ pub(crate) fn row_cell<H: Host, D: Declared>(
     call: Call<'_>,
 ) -> Result<Option<Value>>
     requires { D.reads_within scope.now.declared.now room }
-    ensures { AnswersCell (λ it. it) result (cell_at (cells_of (seen_setting (H.says scope.now.setting.host.now) scope.now.setting.decls.now) (D.earlier scope.now.declared.now) row.now) call.entry) }
+    ensures { AnswersCell (λ it. it) result (cell_at (under H.says D.earlier scope.now cells_of row.now) call.entry) }
 {
     if room == 0 {
         return Err(Fail::NoMemory);

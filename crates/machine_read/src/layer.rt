@@ -1,11 +1,6 @@
 //! The outermost layer of a row.
 
-ghost use Rattle.std.specs.Prelude.{◌≡◌, ℕ};
-ghost use Rattle.node_expr.specs.declared.ty.«Type».{«Type» as TypeSeen};
-ghost use Rattle.meta_nested.specs.Cells.{Cells};
-ghost use Rattle.machine_leaf.specs.RowCells.{row_cells};
-ghost use Rattle.machine_read.specs.Layers.{layer_reads};
-ghost use Rattle.machine_value.specs.declared.value.Value.{Value as Datum};
+ghost use Rattle.machine_read.specs.Layers.{IsLayerOf};
 
 use machine_rows::{Leaf, Row, Wrapper};
 use node_expr::Type;
@@ -22,7 +17,7 @@ pub(crate) enum Layer<'a> {
 
 /// The outermost layer of the row.
 pub(crate) fn layer_of(row: &Row) -> Layer<'_>
-    ensures { (declared : ℕ → Cells Datum) (host : TypeSeen → Cells Datum) → layer_reads declared host (row_cells declared host) result ≡ row_cells declared host row.now }
+    ensures { IsLayerOf row.now result }
 {
     match row {
         Row::Unit => Layer::Unit,

@@ -5,13 +5,12 @@ ghost use Rattle.std.specs.Option.{option_copied};
 ghost use Rattle.std.specs.Str.{bytes_eq};
 ghost use Rattle.error_core.specs.Answers.{Answers, refusal};
 ghost use Rattle.error_fault.specs.Outcome as outcomes;
-ghost use Rattle.error_fault.specs.Outcome.{Outcome};
-ghost use Rattle.machine_read.specs.Scopes.{seen_setting};
+ghost use Rattle.machine_read.specs.Answers.{Maps};
+ghost use Rattle.machine_read.specs.Scopes.{under};
 ghost use Rattle.machine_steps.specs.Convert as convert;
-ghost use Rattle.machine_steps.specs.Reading as reading;
+ghost use Rattle.machine_steps.specs.Reading as spec;
 ghost use Rattle.machine_steps.specs.Setting.{called};
 ghost use Rattle.tok_types.specs.Ident.{ident_text};
-ghost use Rattle.machine_value.specs.declared.value.Value.{Value as Datum};
 
 use crate::declared::Declared;
 use crate::inside::{Inside, row_cell};
@@ -39,7 +38,7 @@ impl<H: Host, D: Declared> Scope<'_, H, D> {
     /// An item at a type: a meta and a bad value by their calls, a literal by its own.
     pub fn convert(&self, room: usize, ty: &Type, item: &NestedMeta) -> Result<Value>
         requires { D.reads_within self.now.declared.now room }
-        ensures { Answers (λ it. it) result (convert.convert (seen_setting (H.says self.now.setting.host.now) self.now.setting.decls.now) (D.earlier self.now.declared.now) ty.now item.now) }
+        ensures { Answers (λ it. it) result (under H.says D.earlier self.now convert.convert ty.now item.now) }
     {
         let row = self.setting.row(self.alloc, ty)?;
         let inside = Inside {
@@ -54,7 +53,7 @@ impl<H: Host, D: Declared> Scope<'_, H, D> {
     /// The items of a list at a type.
     pub fn list(&self, room: usize, ty: &Type, items: &[NestedMeta]) -> Result<Value>
         requires { D.reads_within self.now.declared.now room }
-        ensures { Answers (λ it. it) result (convert.list (seen_setting (H.says self.now.setting.host.now) self.now.setting.decls.now) (D.earlier self.now.declared.now) ty.now items.now) }
+        ensures { Answers (λ it. it) result (under H.says D.earlier self.now convert.list ty.now items.now) }
     {
         let row = self.setting.row(self.alloc, ty)?;
         let inside = Inside {
@@ -69,7 +68,7 @@ impl<H: Host, D: Declared> Scope<'_, H, D> {
     /// What a type is without any item, where it is something.
     pub fn none(&self, room: usize, ty: &Type) -> Mem<Option<Value>>
         requires { D.reads_within self.now.declared.now room }
-        ensures { IfOk result (λ it. it ≡ convert.none (seen_setting (H.says self.now.setting.host.now) self.now.setting.decls.now) (D.earlier self.now.declared.now) ty.now) }
+        ensures { IfOk result (λ it. it ≡ under H.says D.earlier self.now convert.none ty.now) }
     {
         let row = self.setting.row(self.alloc, ty)?;
         let inside = Inside {
@@ -88,7 +87,7 @@ impl<H: Host, D: Declared> Scope<'_, H, D> {
         ty: &Type,
         answer: Result<Value>,
     ) -> Result<Value>
-        ensures { (outcome : Outcome Datum) → Answers (λ it. it) answer outcome → Answers (λ it. it) result (reading.transformed (seen_setting (H.says self.now.setting.host.now) self.now.setting.decls.now) (D.earlier self.now.declared.now) (option_copied transform.entry) ty.now outcome) }
+        ensures { Maps (under H.says D.earlier self.now spec.transformed (option_copied transform.entry) ty.now) answer result }
     {
         match transform {
             Some(transform) => match answer {
@@ -101,7 +100,7 @@ impl<H: Host, D: Declared> Scope<'_, H, D> {
 
     /// What a transform makes of a value.
     fn transform(&self, transform: &PostfixTransform, ty: &Type, value: &Value) -> Result<Value>
-        ensures { Answers (λ it. it) result (reading.transformed (seen_setting (H.says self.now.setting.host.now) self.now.setting.decls.now) (D.earlier self.now.declared.now) (Some transform.now) ty.now (outcomes.Value value.now)) }
+        ensures { Answers (λ it. it) result (under H.says D.earlier self.now spec.transformed (Some transform.now) ty.now (outcomes.Value value.now)) }
     {
         let callable = callable_of(self.alloc, &transform.function)?;
         self.setting.ask(
@@ -125,7 +124,7 @@ impl<H: Host, D: Declared> Scope<'_, H, D> {
         item: &NestedMeta,
     ) -> Result<Value>
         requires { D.reads_within self.now.declared.now room }
-        ensures { Answers (λ it. it) result (reading.read_at (seen_setting (H.says self.now.setting.host.now) self.now.setting.decls.now) (D.earlier self.now.declared.now) (option_copied with.entry) (option_copied transform.entry) ty.now item.now) }
+        ensures { Answers (λ it. it) result (under H.says D.earlier self.now spec.read_at (option_copied with.entry) (option_copied transform.entry) ty.now item.now) }
     {
         let read = self.read_with(room, with, self.converted(transform, ty), item);
         spanned(self.transformed(transform, ty, read), item.spanned())
@@ -133,7 +132,7 @@ impl<H: Host, D: Declared> Scope<'_, H, D> {
 
     /// The type that is read: what the transform takes, else the type itself.
     fn converted<'t>(&'t self, transform: Option<&PostfixTransform>, ty: &'t Type) -> &'t Type
-        ensures { result.now ≡ reading.converted (seen_setting (H.says self.now.setting.host.now) self.now.setting.decls.now) (D.earlier self.now.declared.now) (option_copied transform.entry) ty.now }
+        ensures { result.now ≡ under H.says D.earlier self.now spec.converted (option_copied transform.entry) ty.now }
     {
         match transform {
             Some(transform) => match self.setting.host.takes(&transform.function) {
@@ -153,7 +152,7 @@ impl<H: Host, D: Declared> Scope<'_, H, D> {
         item: &NestedMeta,
     ) -> Result<Value>
         requires { D.reads_within self.now.declared.now room }
-        ensures { Answers (λ it. it) result (reading.read_with (seen_setting (H.says self.now.setting.host.now) self.now.setting.decls.now) (D.earlier self.now.declared.now) (option_copied with.entry) ty.now item.now) }
+        ensures { Answers (λ it. it) result (under H.says D.earlier self.now spec.read_with (option_copied with.entry) ty.now item.now) }
     {
         let Some(callable) = with else {
             return self.convert(room, ty, item);
@@ -185,7 +184,7 @@ fn callable_of(alloc: Global, path: &Path) -> Mem<Callable>
 
 /// Where a transform is asked for.
 fn transform_use(transform: &PostfixTransform) -> Use
-    ensures { result ≡ reading.transform_use transform.now }
+    ensures { result ≡ spec.transform_use transform.now }
 {
     if is_and_then(&transform.transformer) {
         Use::AndThen

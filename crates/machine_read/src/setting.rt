@@ -1,14 +1,14 @@
 //! The setting of a run, and what it says of types and functions.
 
-ghost use Rattle.std.specs.Prelude.{◌≡◌, ◌∷◌, IfOk, Some, None};
+ghost use Rattle.std.specs.Prelude.{◌≡◌, ◌∷◌, IfOk, Some};
 ghost use Rattle.error_core.specs.Answers.{Answers};
 ghost use Rattle.error_core.specs.ErrorView.{leaves};
 ghost use Rattle.law_spans.specs.Erased.{erased_type};
 ghost use Rattle.machine_leaf.specs.Defaults.{row_default};
-ghost use Rattle.machine_steps.specs.HostSays.{erased_decls, erased_place};
-ghost use Rattle.machine_steps.specs.Seen.{IdentSeen, seen_arg, seen_item};
-ghost use Rattle.machine_read.specs.Scopes.{seen_setting};
+ghost use Rattle.machine_steps.specs.Seen.{seen_arg, seen_item};
+ghost use Rattle.machine_read.specs.Scopes.{made_of_ident, setting_in};
 ghost use Rattle.machine_steps.specs.Convert as convert;
+ghost use Rattle.machine_steps.specs.Convert.{declared_default, default_said};
 ghost use Rattle.machine_steps.specs.Setting as spec;
 ghost use Rattle.meta_nested.specs.Cells.{AnswersCell, cell_at};
 
@@ -36,14 +36,14 @@ pub struct Setting<'a, H> {
 impl<H: Host> Setting<'_, H> {
     /// The row that a type is.
     pub fn row(&self, alloc: Global, ty: &Type) -> Mem<Row>
-        ensures { IfOk result (λ row. row ≡ spec.row (seen_setting (H.says self.now.host.now) self.now.decls.now) ty.now) }
+        ensures { IfOk result (λ it. it ≡ spec.row (setting_in H.says self.now) ty.now) }
     {
         row_among(alloc, &self.decls, ty)
     }
 
     /// The type of one value of a list that is read item by item.
     pub fn element<'t>(&self, ty: &'t Type) -> &'t Type
-        ensures { result.now ≡ convert.element (seen_setting (H.says self.now.host.now) self.now.decls.now) ty.now }
+        ensures { result.now ≡ convert.element (setting_in H.says self.now) ty.now }
     {
         match element_among(&self.decls, ty) {
             Some(inner) => inner,
@@ -60,7 +60,7 @@ impl<H: Host> Setting<'_, H> {
         ty: &Type,
         arg: Arg<'_>,
     ) -> Result<Value>
-        ensures { Answers (λ it. it) result (spec.ask (seen_setting (H.says self.now.host.now) self.now.decls.now) callable.now at ty.now (seen_arg arg.entry)) }
+        ensures { Answers (λ it. it) result (spec.ask (setting_in H.says self.now) callable.now at ty.now (seen_arg arg.entry)) }
     {
         let place = Place {
             at,
@@ -74,7 +74,7 @@ impl<H: Host> Setting<'_, H> {
 
     /// What the host makes of the identifier that a type is read from.
     pub fn from_ident(&self, alloc: Global, ty: &Type, ident: &Ident) -> Result<Value>
-        ensures { Answers (λ it. it) result (spec.outcome_of ((H.says self.now.host.now).answer (erased_decls self.now.decls.now) None (erased_place (record { at = Use.FromIdent; ty = ty.now })) (IdentSeen ident.now))) }
+        ensures { Answers (λ it. it) result (made_of_ident (setting_in H.says self.now) ty.now ident.now) }
     {
         let place = Place {
             at: Use::FromIdent,
@@ -87,7 +87,7 @@ impl<H: Host> Setting<'_, H> {
 
     /// The default of a type; the empty text, where it has none.
     pub fn default(&self, alloc: Global, ty: &Type) -> Mem<Value>
-        ensures { IfOk result (λ value. value ≡ convert.default (seen_setting (H.says self.now.host.now) self.now.decls.now) ty.now) }
+        ensures { IfOk result (λ it. it ≡ convert.default (setting_in H.says self.now) ty.now) }
     {
         let row = self.row(alloc, ty)?;
         match self.row_default(alloc, &row)? {
@@ -98,7 +98,7 @@ impl<H: Host> Setting<'_, H> {
 
     /// The default of a row, where it has one.
     fn row_default(&self, alloc: Global, row: &Row) -> Mem<Option<Value>>
-        ensures { IfOk result (λ value. value ≡ row_default (convert.declared_default (seen_setting (H.says self.now.host.now) self.now.decls.now)) (convert.default_said (seen_setting (H.says self.now.host.now) self.now.decls.now)) row.now) }
+        ensures { IfOk result (λ it. it ≡ row_default (declared_default (setting_in H.says self.now)) (default_said (setting_in H.says self.now)) row.now) }
     {
         match row {
             Row::Unit => Ok(Some(Value::Unit)),
@@ -120,7 +120,7 @@ impl<H: Host> Setting<'_, H> {
 
     /// The default of a declaration, where it has one.
     fn declared_default(&self, alloc: Global, number: usize) -> Mem<Option<Value>>
-        ensures { IfOk result (λ value. value ≡ convert.declared_default (seen_setting (H.says self.now.host.now) self.now.decls.now) number) }
+        ensures { IfOk result (λ it. it ≡ declared_default (setting_in H.says self.now) number) }
     {
         match self.decls.get(number) {
             Some(decl) => {
@@ -133,7 +133,7 @@ impl<H: Host> Setting<'_, H> {
 
     /// The default that the host says a type has, where it has one.
     fn default_said(&self, alloc: Global, ty: &Type) -> Mem<Option<Value>>
-        ensures { IfOk result (λ value. value ≡ convert.default_said (seen_setting (H.says self.now.host.now) self.now.decls.now) ty.now) }
+        ensures { IfOk result (λ it. it ≡ default_said (setting_in H.says self.now) ty.now) }
     {
         if !self.host.has_default(self.decls, ty) {
             return Ok(None);
@@ -148,7 +148,7 @@ impl<H: Host> Setting<'_, H> {
         ty: &Type,
         call: Call<'_>,
     ) -> Result<Option<Value>>
-        ensures { AnswersCell (λ it. it) result (cell_at (convert.host_cells (seen_setting (H.says self.now.host.now) self.now.decls.now) ty.now) call.entry) }
+        ensures { AnswersCell (λ it. it) result (cell_at (convert.host_cells (setting_in H.says self.now) ty.now) call.entry) }
     {
         match call {
             Call::Meta(it) => self.converted(alloc, ty, HostItem::Meta(it)),

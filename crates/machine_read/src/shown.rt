@@ -2,10 +2,8 @@
 
 ghost use Rattle.std.specs.Prelude.{◌≡◌, IfOk};
 ghost use Rattle.machine_leaf.specs.Maps.{seen_entries};
-ghost use Rattle.machine_leaf.specs.Shown.{shown_cells};
+ghost use Rattle.machine_read.specs.Answers.{Shows};
 ghost use Rattle.machine_read.specs.Entries.{texts};
-ghost use Rattle.meta_nested.specs.Cells.{AnswersCell, Cells, cell_at};
-ghost use Rattle.meta_nested.specs.declared.call.Call.{Call as Asked};
 
 use crate::values::{
     explicit, inherit, kept_faults, kept_meta, original_value, read_value, spanned_value,
@@ -41,7 +39,7 @@ pub(crate) fn as_value<T: IntoValue>(
     alloc: Global,
     answer: Result<Option<T>>,
 ) -> Result<Option<Value>>
-    ensures { (cells : Cells T.Seen) (call : Asked) → AnswersCell T.seen answer (cell_at cells call) → AnswersCell (λ it. it) result (cell_at (shown_cells T.show cells) call) }
+    ensures { Shows T.seen T.show answer result }
 {
     match answer {
         Ok(Some(it)) => Ok(Some(it.into_value(alloc)?)),

@@ -1,7 +1,7 @@
 //! What a type that holds one type answers to a call itself.
 
 ghost use Rattle.meta_nested.specs.Cells.{AnswersCell, cell_at};
-ghost use Rattle.machine_leaf.specs.Wrapped.{hash_map_cells, tree_map_cells};
+ghost use Rattle.machine_leaf.specs.Wrapped.{hash_map_cells};
 ghost use Rattle.machine_read.specs.Wrapped.{wrapper_cells};
 
 use crate::declared::Declared;
@@ -43,14 +43,15 @@ where
         Wrapper::Override => as_value(alloc, override_cell(alloc, inner, call)),
         Wrapper::SpannedValue => as_value(alloc, value_and_span_cell(alloc, inner, call)),
         Wrapper::WithOriginal => as_value(alloc, value_and_meta_cell(alloc, inner, call)),
-        Wrapper::HashMap(key) => hash_map_cell(alloc, key, inner, call),
-        Wrapper::BTreeMap(key) => tree_map_cell(alloc, key, inner, call),
+        Wrapper::HashMap(key) => map_cell(alloc, key, inner, call),
+        Wrapper::BTreeMap(TreeKey::String) => map_cell(alloc, HashKey::String, inner, call),
+        Wrapper::BTreeMap(TreeKey::Ident) => map_cell(alloc, HashKey::Ident, inner, call),
         Wrapper::Vec => Ok(None),
     }
 }
 
-/// `HashMap`, by the type of its keys.
-fn hash_map_cell<H: Host, D: Declared, F>(
+/// A map, by the type of its keys.
+fn map_cell<H: Host, D: Declared, F>(
     alloc: Global,
     key: HashKey,
     inner: &Inside<'_, '_, H, D, F>,
@@ -78,34 +79,6 @@ where
             as_value(
                 alloc,
                 entries_cell::<Path, HashSet<Path>, Inside<'_, '_, H, D, F>>(alloc, inner, call),
-            )
-        }
-    }
-}
-
-/// `BTreeMap`, by the type of its keys.
-fn tree_map_cell<H: Host, D: Declared, F>(
-    alloc: Global,
-    key: TreeKey,
-    inner: &Inside<'_, '_, H, D, F>,
-    call: Call<'_>,
-) -> Result<Option<Value>>
-where
-    F: Fn(&Scope<'_, H, D>, usize, &Row, Call<'_>) -> Result<Option<Value>>,
-    requires { ⟦<Inside<'static, 'static, H, D, F> as Reader>⟧.is_callable inner.now }
-    ensures { AnswersCell (λ it. it) result (cell_at (tree_map_cells (⟦<Inside<'static, 'static, H, D, F> as Reader>⟧.cells inner.now) key) call.entry) }
-{
-    match key {
-        TreeKey::String => {
-            as_value(
-                alloc,
-                entries_cell::<Text, BTreeSet<Text>, Inside<'_, '_, H, D, F>>(alloc, inner, call),
-            )
-        }
-        TreeKey::Ident => {
-            as_value(
-                alloc,
-                entries_cell::<Ident, BTreeSet<Ident>, Inside<'_, '_, H, D, F>>(alloc, inner, call),
             )
         }
     }

@@ -1,0 +1,10 @@
+pub mod Building
+pub mod Errors
+pub mod Faulty
+pub mod Held
+pub mod Listless
+pub mod Metas
+pub mod Places
+pub mod Reading
+pub mod Steps
+pub mod Stopped

@@ -1,0 +1,73 @@
+-- How contracts say what a step of a run does.
+use Rattle.std.specs.Prelude.{◌≡◌, ℕ, List, Option, Result, IfOk, OnOk, option_map}
+use Rattle.std.specs.declared.alloc.AllocError.{AllocError}
+use Rattle.tok_types.specs.declared.ident.Ident.{Ident}
+use Rattle.error_core.specs.Answers.{Answers, Fails}
+use Rattle.error_core.specs.ErrorView.{ErrorView}
+use Rattle.error_core.specs.declared.fail.Fail.{Fail}
+use Rattle.error_fault.specs.declared.fault.Fault.{Fault}
+use Rattle.error_fault.specs.Outcome.{Outcome}
+use Rattle.machine_value.specs.declared.value.Value.{Value as Datum}
+use Rattle.codegen_program.specs.declared.init.Init.{Init}
+use Rattle.machine_read.specs.Setting.{Setting}
+use Rattle.machine_read.specs.Progress.{Progress, Going, building, built_or_stuck, going, on_outcome}
+use Rattle.machine_read.specs.NestedMeta.{NestedMeta}
+use Rattle.machine_read.specs.Slots.{init_value, init_values}
+use Rattle.machine_read.specs.State.{Slot, State, put, slot_at}
+use Rattle.machine_read.specs.Statements.{built_struct, on_items}
+use Rattle.machine_run.specs.declared.progress.Progress.{Progress as Come}
+use Rattle.machine_run.specs.declared.slot.Slot.{Slot as Held}
+use Rattle.machine_run.specs.declared.state.State.{State as Stands}
+use Rattle.machine_run.specs.Seen.{Change, answered, change_of, progress_of, state_of}
+
+-- the progress behind the step is what `step` makes of the progress before
+abbrev pub Goes : (Progress → Progress) → Stands → Come → Stands → Result Come AllocError → Type 0
+Goes step old before new result = IfOk result (λ it. progress_of (state_of new) it ≡ step (progress_of (state_of old) before))
+
+-- a run that goes on goes on from the next state
+abbrev pub Moves : (State → State) → Stands → Come → Stands → Result Come AllocError → Type 0
+Moves next old before new result = Goes (going (λ state. Going (next state))) old before new result
+
+-- the state behind the step is the next one
+abbrev pub Becomes : (State → State) → Stands → Stands → Result (Unit {0}) AllocError → Type 0
+Becomes next old new result = OnOk result (state_of new ≡ next (state_of old))
+
+-- the run has come to this progress, whatever the state is
+abbrev pub Comes : Progress → Result Come AllocError → Type 0
+Comes progress result = (after : State) → IfOk result (λ it. progress_of after it ≡ progress)
+
+-- the run has come to what `make` makes of what was built
+abbrev pub Builds : (Outcome Datum → Outcome Datum) → Come → Result Come AllocError → Type 0
+Builds make before result = (old : State) → Comes (building make (progress_of old before)) result
+
+-- the faults of a list that is none are put behind those before
+abbrev pub Refuses : Fail → Stands → Come → Stands → Result Come AllocError → Type 0
+Refuses fail old before new result =
+    (read : List NestedMeta → Progress → Progress) (outcome : Outcome (List NestedMeta)) → Fails fail outcome
+    → Goes (on_items read outcome) old before new result
+
+-- the slot and its faults are what `make` makes of the answer
+abbrev pub Changes : (Outcome Datum → Change) → Result Datum Fail → Result (Held × List Fault) AllocError → Type 0
+Changes make answer result =
+    (outcome : Outcome Datum) → Answers (λ it. it) answer outcome → IfOk result (λ it. change_of it ≡ make outcome)
+
+-- there is this outcome, or none
+abbrev pub IsOutcome : Result (Option (Result Datum ErrorView)) AllocError → Option (Outcome Datum) → Type 0
+IsOutcome result outcome = IfOk result (λ it. option_map answered it ≡ outcome)
+
+-- the slot of a place is changed, and its faults are put behind those before
+abbrev pub change_at : ℕ → (Slot → Change) → State → State
+change_at place change state = put place (change (slot_at state.slots place)) state
+
+-- goes on with the default of the receiver, and else ends with its faults
+abbrev pub with_default : Outcome Datum → Progress → Progress
+with_default default = going (λ state. on_outcome default (λ whole. Going (record state { whole = whole })))
+
+-- the value of a member, by its slot
+abbrev pub member_value : Setting → State → Init → Option (Outcome Datum)
+member_value setting state init = init_value setting state.whole init.fallback (slot_at state.slots init.slot)
+
+-- the struct of the values of its members, or what a default of one refuses
+abbrev pub struct_built : Setting → Ident → List Init → State → Progress
+struct_built setting name inits state =
+    built_or_stuck (option_map (built_struct name inits) (init_values setting state.whole state.slots inits))

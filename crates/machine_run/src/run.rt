@@ -1,0 +1,228 @@
+//! A run of the statements of a function.
+
+ghost use Rattle.std.specs.Prelude.{◌≡◌, [], fold};
+ghost use Rattle.meta_entries.specs.Attributes.{attribute_items};
+ghost use Rattle.machine_read.specs.Made.{named_type};
+ghost use Rattle.machine_read.specs.Statements as spec;
+ghost use Rattle.machine_run.specs.Seen.{given_of};
+ghost use Rattle.machine_run.specs.Steps.{Goes};
+
+use crate::flat::{check_errors, declare, declare_buffer, declare_errors, refuse_list};
+use crate::given::Given;
+use crate::parts::{check_shape, read_body};
+use crate::progress::Progress;
+use crate::slot::Slot;
+use crate::state::State;
+use base_core::{Items, Mem, Text};
+use codegen_program::Stmt;
+use machine_read::{Declared, Host, NestedMeta, Scope, Setting};
+use meta_entries::{attribute_items, is_named};
+use node_core::{Attribute, Meta};
+use node_expr::Type;
+use std::alloc::AllocError;
+
+/// What a run of a function is under.
+pub struct Run<'p, H, D> {
+    pub scope: Scope<'p, H, D>,
+    /// How many levels deep types are read; what is deeper is want of memory.
+    pub room: usize,
+    /// The type that is read.
+    pub ty: &'p Type,
+    /// The type of a slot that is not there.
+    pub nameless: &'p Type,
+    ghost is_nameless: { nameless.now ≡ named_type [] },
+}
+
+impl<'p, H: Host, D: Declared> Run<'p, H, D> {
+    ghost use Rattle.machine_run.specs.Runs.{in_run, on_list};
+
+    /// Runs the statements one after another. Statements in statements stand no deeper than `nesting` levels; what is
+    /// deeper is want of memory.
+    #[cycle(stmts)]
+    pub fn run_from(
+        &self,
+        given: Given<'_>,
+        stmts: &'p [Stmt],
+        nesting: usize,
+        state: &mut State<'p>,
+        progress: Progress,
+    ) -> Mem<Progress>
+        requires { D.reads_within self.now.scope.declared.now self.now.room }
+        ensures { Goes (in_run H.says D.earlier self.now spec.run_from stmts.now (given_of given.entry)) state.old progress state.new result }
+    {
+        let mut progress = progress;
+        for stmt in stmts {
+            progress = self.act(given, stmt, nesting, state, progress)?;
+        }
+        Ok(progress)
+    }
+
+    /// Runs a statement.
+    #[cycle(stmts)]
+    fn act(
+        &self,
+        given: Given<'_>,
+        stmt: &'p Stmt,
+        nesting: usize,
+        state: &mut State<'p>,
+        progress: Progress,
+    ) -> Mem<Progress>
+        requires { D.reads_within self.now.scope.declared.now self.now.room }
+        ensures { Goes (in_run H.says D.earlier self.now spec.does stmt.now (given_of given.entry)) state.old progress state.new result }
+    {
+        match stmt {
+            Stmt::DeclareErrors => Ok(declare_errors(state, progress)),
+            Stmt::DeclareOne { ty, .. } => declare(Slot::One(ty, false, None), state, progress),
+            Stmt::DeclareMany { ty, .. } => {
+                declare(
+                    Slot::Several(ty, Items::new(self.scope.alloc)),
+                    state,
+                    progress,
+                )
+            }
+            Stmt::DeclareBuffer => Ok(declare_buffer(state, progress)),
+            Stmt::ForAttributes { names, items, .. } => self.for_attributes(
+                given.attributes(),
+                names.as_slice(),
+                items.as_slice(),
+                nesting,
+                state,
+                progress,
+            ),
+            Stmt::ForItems { arms, rest } => {
+                self.for_items(given.items(), arms.as_slice(), rest, state, progress)
+            }
+            Stmt::ReadFlatten { slot, names } => {
+                self.read_flatten(*slot as usize, names.as_slice(), state, progress)
+            }
+            Stmt::CheckMissing { slot, ty, name } => {
+                self.check_missing(*slot as usize, ty, name, state, progress)
+            }
+            Stmt::CheckErrors { location } => {
+                check_errors(self.scope.alloc, location.as_ref(), state, progress)
+            }
+            Stmt::SetDefault { from } => self.set_default(given, from, state, progress),
+            Stmt::Build {
+                name,
+                variant,
+                forwarded,
+                inits,
+            } => self.build_form(
+                name,
+                variant.as_ref(),
+                forwarded.as_slice(),
+                inits.as_slice(),
+                state,
+                progress,
+            ),
+            Stmt::Transform { post } => self.transform(post, progress),
+            Stmt::CheckShape { shapes } => check_shape(shapes, progress),
+            Stmt::ReadBody { ident, .. } => read_body(ident.as_ref(), progress),
+            // No unit has them yet.
+            Stmt::DeclareForward { .. }
+            | Stmt::ForwardDone { .. }
+            | Stmt::ReadGenerics { .. }
+            | Stmt::Delegate { .. }
+            | Stmt::Variants { .. }
+            | Stmt::UnitNames { .. }
+            | Stmt::Call { .. } => Err(AllocError),
+        }
+    }
+
+    /// Reads the items of each attribute of these names, and runs the statements on them.
+    #[cycle(stmts)]
+    fn for_attributes(
+        &self,
+        attributes: &[Attribute],
+        names: &[Text],
+        stmts: &'p [Stmt],
+        nesting: usize,
+        state: &mut State<'p>,
+        progress: Progress,
+    ) -> Mem<Progress>
+        requires { D.reads_within self.now.scope.declared.now self.now.room }
+        ensures { Goes (λ it. fold (spec.on_attribute (on_list H.says D.earlier self.now stmts.now) names.now) it attributes.now) state.old progress state.new result }
+    {
+        let mut progress = progress;
+        for attribute in attributes {
+            if is_named(self.scope.alloc, names, attribute.meta.path())? {
+                progress = self.on_meta(&attribute.meta, stmts, nesting, state, progress)?;
+            }
+        }
+        Ok(progress)
+    }
+
+    /// Reads the items of an attribute, and runs the statements on them. A word gives nothing.
+    #[cycle(stmts)]
+    fn on_meta(
+        &self,
+        meta: &Meta,
+        stmts: &'p [Stmt],
+        nesting: usize,
+        state: &mut State<'p>,
+        progress: Progress,
+    ) -> Mem<Progress>
+        requires { D.reads_within self.now.scope.declared.now self.now.room }
+        ensures { Goes (spec.on_meta (on_list H.says D.earlier self.now stmts.now) meta.now) state.old progress state.new result }
+    {
+        match meta {
+            Meta::Path(_) => Ok(progress),
+            _ => self.on_items(meta, stmts, nesting, state, progress),
+        }
+    }
+
+    /// Runs the statements on the items of an attribute, or puts its faults behind those before.
+    #[cycle(stmts)]
+    fn on_items(
+        &self,
+        meta: &Meta,
+        stmts: &'p [Stmt],
+        nesting: usize,
+        state: &mut State<'p>,
+        progress: Progress,
+    ) -> Mem<Progress>
+        requires { D.reads_within self.now.scope.declared.now self.now.room }
+        ensures { Goes (spec.on_items (on_list H.says D.earlier self.now stmts.now) (attribute_items meta.now)) state.old progress state.new result }
+    {
+        match attribute_items(self.scope.alloc, meta) {
+            Ok(items) => self.inside(items.as_slice(), stmts, nesting, state, progress),
+            Err(fail) => refuse_list(self.scope.alloc, fail, state, progress),
+        }
+    }
+
+    /// Runs the statements that stand in a statement on the items of a list.
+    #[cycle(stmts)]
+    fn inside(
+        &self,
+        items: &[NestedMeta],
+        stmts: &'p [Stmt],
+        nesting: usize,
+        state: &mut State<'p>,
+        progress: Progress,
+    ) -> Mem<Progress>
+        requires { D.reads_within self.now.scope.declared.now self.now.room }
+        ensures { Goes (on_list H.says D.earlier self.now stmts.now items.now) state.old progress state.new result }
+    {
+        if nesting == 0 {
+            return Err(AllocError);
+        }
+        self.run_from(Given::Items(items), stmts, nesting - 1, state, progress)
+    }
+}
+
+impl<H, D> Drop for Run<'_, H, D> {
+    fn drop(self) {
+        let Self {
+            scope,
+            room: _,
+            ty: _,
+            nameless: _,
+        } = self;
+        let Scope {
+            alloc: _,
+            setting,
+            declared: _,
+        } = scope;
+        let Setting { host: _, decls: _ } = setting;
+    }
+}

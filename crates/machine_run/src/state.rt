@@ -1,0 +1,81 @@
+//! The state of a run.
+
+ghost use Rattle.std.specs.Prelude.{◌≡◌, [], OnOk, map, slice_set};
+ghost use Rattle.machine_read.specs.Made.{named_type};
+ghost use Rattle.machine_read.specs.Progress.{start};
+ghost use Rattle.machine_read.specs.State.{put, slot_at};
+ghost use Rattle.machine_run.specs.Seen.{Change, slot_of, state_of};
+
+use crate::slot::Slot;
+use base_core::{Items, Mem, Text};
+use error_fault::Fault;
+use machine_read::NestedMeta;
+use machine_value::Value;
+use node_expr::Type;
+use std::alloc::Global;
+
+/// The state of a run.
+pub struct State<'p> {
+    pub slots: Items<Slot<'p>>,
+    pub faults: Items<Fault>,
+    /// The items that no arm takes, where they are kept.
+    pub kept: Items<NestedMeta>,
+    /// The default of the receiver.
+    pub whole: Value,
+}
+
+impl<'p> State<'p> {
+    /// No slot is declared yet.
+    pub fn new(alloc: Global) -> State<'p>
+        ensures { state_of result ≡ start }
+    {
+        State {
+            slots: Items::new(alloc),
+            faults: Items::new(alloc),
+            kept: Items::new(alloc),
+            whole: Value::Text(Text::new(alloc)),
+        }
+    }
+
+    /// Takes a slot out; one that is not there is an empty list of a type without a name. It is to be put back.
+    pub(crate) fn take(&mut self, alloc: Global, place: usize, nameless: &'p Type) -> Slot<'p>
+        requires { nameless.now ≡ named_type [] }
+        ensures slot { slot_of result ≡ slot_at (map slot_of self.old.slots) place }
+        ensures others { (change : Change) → put place change (state_of self.new) ≡ put place change (state_of self.old) }
+    {
+        let empty = Slot::Several(nameless, Items::new(alloc));
+        if place < self.slots.len() {
+            return self.slots.replace(place, empty);
+        }
+        empty
+    }
+
+    /// Puts a slot back, and faults behind those before.
+    #[tactic(auto, using(crate::proofs::Held::put_is))]
+    pub(crate) fn put(&mut self, place: usize, slot: Slot<'p>, faults: Items<Fault>) -> Mem<()>
+        ensures { OnOk result (state_of self.new ≡ put place (slot_of slot.entry, faults) (state_of self.old)) }
+    {
+        set_at(&mut self.slots, place, slot);
+        self.faults.append(faults)
+    }
+}
+
+/// Puts a slot in the place of another; nothing stands past the last.
+fn set_at<'p>(slots: &mut Items<Slot<'p>>, place: usize, slot: Slot<'p>)
+    ensures { map slot_of slots.new ≡ slice_set (map slot_of slots.old) place (slot_of slot.entry) }
+{
+    if place < slots.len() {
+        slots.set(place, slot);
+    }
+}
+
+impl Drop for State<'_> {
+    fn drop(self) {
+        let Self {
+            slots: _slots,
+            faults: _faults,
+            kept: _kept,
+            whole: _whole,
+        } = self;
+    }
+}
