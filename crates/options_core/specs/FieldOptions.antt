@@ -1,5 +1,5 @@
 -- The options of a field: their table, the faults of an item behind what is set, and what stands behind items.
-use Rattle.std.specs.Prelude.{ℕ, ◌==◌, ◌&&◌, ◌||◌, Bool, true, false, cond, List, [], ◌∷◌, ◌++◌, flat_map, map, codes, Option, is_some}
+use Rattle.std.specs.Prelude.{ℕ, ◌==◌, ◌&&◌, ◌||◌, Bool, true, false, cond, List, [], ◌∷◌, ◌++◌, flat_map, map, codes, Option, None, is_some}
 use Rattle.std.specs.Str.{bytes_eq}
 use Rattle.base_core.specs.declared.text.Text.{Text}
 use Rattle.tok_types.specs.declared.span.Span.{Span}
@@ -116,6 +116,18 @@ clashes set name item = clash_of set item name
 -- what is wrong with an item behind what is set: with reading it, else with what then stands beside it
 abbrev pub field_faults : FieldName → InputField → Meta → List Fault
 field_faults name set item = else_faults (read_faults name set item) (clashes (field_options set (one name item)) name item)
+
+-- the same without the option
+abbrev pub unset : FieldName → InputField → InputField
+unset Multiple set = record set { multiple = None }
+unset Rename set = record set { attr_name = None }
+unset With set = record set { with = None }
+unset Skip set = record set { skip = None }
+unset Map set = record set { post_transform = None }
+unset AndThen set = record set { post_transform = None }
+unset Default set = record set { default = None }
+unset Flatten set = record set { flatten = record { 0 = None } }
+unset Unknown set = set
 
 -- an item, with the option that it is of
 abbrev pub field_named : Meta → Named FieldName

@@ -70,7 +70,7 @@ impl Core {
         })
     }
 
-    /// Sets the option that the item is of.
+    /// Sets the option that the item is of, or for want of memory none.
     pub(crate) fn apply(
         &mut self,
         alloc: Global,
@@ -79,7 +79,7 @@ impl Core {
         table: &RenameTable,
     ) -> Result<()>
         ensures { Does result (core_faults table.now name self.old item.now)
-            (self.new ≡ core_options table.now self.old (one name item.now)) }
+            (core_options table.now self.old (one name item.now)) self.old self.new }
     {
         match name {
             CoreName::Default => once(alloc, &mut self.default, item),
@@ -92,6 +92,18 @@ impl Core {
             CoreName::Crate => once(alloc, &mut self.krate, item),
             CoreName::Unknown => unknown(alloc, item),
         }
+    }
+
+    /// The faults that are found before memory is wanting may stand behind the others.
+    pub(crate) fn push_checks(&self, alloc: Global, errors: &mut Accumulator) -> Mem<()>
+        ensures { OnOk result (held errors.new ≡ held errors.old ++ spec.core_checks self.now) }
+    {
+        let Data::Struct(it) = &self.body else {
+            return Ok(());
+        };
+        check_transparent(alloc, &self.transparent, it.fields.len(), errors)?;
+        let spans = flat_spans(alloc, it.fields.as_slice())?;
+        check_flatten(alloc, spans.as_slice(), errors)
     }
 
     /// Puts a field behind the others. The body of an enum keeps none.
@@ -172,12 +184,14 @@ impl ParseData for Core {
     }
 
     fn validate_body(&self, alloc: Global, errors: &mut Accumulator) -> Mem<()> {
-        let Data::Struct(it) = &self.body else {
-            return Ok(());
-        };
-        check_transparent(alloc, &self.transparent, it.fields.len(), errors)?;
-        let spans = flat_spans(alloc, it.fields.as_slice())?;
-        check_flatten(alloc, spans.as_slice(), errors)
+        let mut found = Error::accumulator(alloc);
+        match self.push_checks(alloc, &mut found) {
+            Ok(()) => errors.extend(alloc, found.into_inner()),
+            Err(fail) => {
+                drop(found.into_inner());
+                Err(fail)
+            }
+        }
     }
 }
 

@@ -60,7 +60,7 @@ impl FdiOptions {
         })
     }
 
-    /// Sets the option that the item is of.
+    /// Sets the option that the item is of, or for want of memory none.
     fn apply(
         &mut self,
         alloc: Global,
@@ -69,7 +69,7 @@ impl FdiOptions {
         table: &RenameTable,
     ) -> Result<()>
         ensures { Does result (fdi_faults table.now name self.old item.now)
-            (self.new ≡ fdi_options table.now self.old (one name item.now)) }
+            (fdi_options table.now self.old (one name item.now)) self.old self.new }
     {
         match name {
             FdiName::Supports => last_given(alloc, &mut self.supports, item),

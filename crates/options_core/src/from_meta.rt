@@ -65,7 +65,7 @@ impl FromMetaOptions {
         })
     }
 
-    /// Sets the option that the item is of.
+    /// Sets the option that the item is of, or for want of memory none.
     fn apply(
         &mut self,
         alloc: Global,
@@ -74,7 +74,7 @@ impl FromMetaOptions {
         table: &RenameTable,
     ) -> Result<()>
         ensures { Does result (meta_faults table.now name self.old item.now)
-            (self.new ≡ meta_options table.now self.old (one name item.now)) }
+            (meta_options table.now self.old (one name item.now)) self.old self.new }
     {
         match name {
             MetaName::FromWord => once_at_path(alloc, &mut self.from_word, item),
@@ -83,6 +83,14 @@ impl FromMetaOptions {
             MetaName::DeriveSynParse => once_at_path(alloc, &mut self.derive_syn_parse, item),
             MetaName::Core(name) => self.base.apply(alloc, name, item, table),
         }
+    }
+
+    /// The faults that are found before memory is wanting may stand behind the others.
+    fn push_checks(&self, alloc: Global, errors: &mut Accumulator) -> Mem<()>
+        ensures { OnOk result (held errors.new ≡ held errors.old ++ body.meta_checks self.now) }
+    {
+        self.base.push_checks(alloc, errors)?;
+        self.check_calls(alloc, errors)
     }
 
     /// What is called for a struct is of use.
@@ -157,8 +165,14 @@ impl ParseData for FromMetaOptions {
     }
 
     fn validate_body(&self, alloc: Global, errors: &mut Accumulator) -> Mem<()> {
-        self.base.validate_body(alloc, errors)?;
-        self.check_calls(alloc, errors)
+        let mut found = Error::accumulator(alloc);
+        match self.push_checks(alloc, &mut found) {
+            Ok(()) => errors.extend(alloc, found.into_inner()),
+            Err(fail) => {
+                drop(found.into_inner());
+                Err(fail)
+            }
+        }
     }
 }
 

@@ -3,6 +3,7 @@
 ghost use Rattle.std.specs.Prelude.{◌≡◌, ◌++◌, flat_map, OnOk, IfOk, codes};
 ghost use Rattle.std.specs.Option.{option_copied};
 ghost use Rattle.tok_types.specs.Ident.{ident_text};
+ghost use Rattle.error_fault.specs.Outcome.{Value, settle};
 ghost use Rattle.error_core.specs.Answers.{Answers};
 ghost use Rattle.error_core.specs.ErrorView.{One, held};
 ghost use Rattle.options_rows.specs.Does.{Does};
@@ -115,19 +116,42 @@ impl InputField {
         }
     }
 
-    /// Sets the option that the item is of, and holds it against `flatten`.
+    /// Sets the option that the item is of, and holds it against `flatten`. Where memory is wanting to tell what may not
+    /// stand there, the option is taken back.
+    #[tactic(auto, using(crate::proofs::UnsetLemmas::unset_set))]
     fn apply(&mut self, alloc: Global, name: FieldName, item: &Meta) -> Result<()>
         ensures { Does result (spec.field_faults name self.old item.now)
-            (self.new ≡ spec.field_options self.old (one name item.now)) }
+            (spec.field_options self.old (one name item.now)) self.old self.new }
     {
         self.read(alloc, name, item)?;
-        self.check(alloc, name, item)
+        let told = self.check(alloc, name, item);
+        if let Err(Fail::NoMemory) = &told {
+            self.unset(name);
+        }
+        told
+    }
+
+    /// Takes the option back.
+    fn unset(&mut self, name: FieldName)
+        ensures { self.new ≡ spec.unset name self.old }
+    {
+        match name {
+            FieldName::Multiple => self.multiple = None,
+            FieldName::Rename => self.attr_name = None,
+            FieldName::With => self.with = None,
+            FieldName::Skip => self.skip = None,
+            FieldName::Map => self.post_transform = None,
+            FieldName::AndThen => self.post_transform = None,
+            FieldName::Default => self.default = None,
+            FieldName::Flatten => self.flatten = Flag(None),
+            FieldName::Unknown => {}
+        }
     }
 
     /// Sets the option that the item is of.
     fn read(&mut self, alloc: Global, name: FieldName, item: &Meta) -> Result<()>
         ensures { Does result (spec.read_faults name self.old item.now)
-            (self.new ≡ spec.field_options self.old (one name item.now)) }
+            (spec.field_options self.old (one name item.now)) self.old self.new }
     {
         match name {
             FieldName::Multiple => once(alloc, &mut self.multiple, item),
@@ -144,7 +168,7 @@ impl InputField {
 
     /// Tells what may not stand beside `flatten`.
     fn check(&self, alloc: Global, name: FieldName, item: &Meta) -> Result<()>
-        ensures { Does result (spec.clashes self.now name item.now) (Unit {0}) }
+        ensures { Answers (λ done. done) result (settle (spec.clashes self.now name item.now) (Value tt)) }
     {
         let mut errors = Error::accumulator(alloc);
         match self.push_clashes(alloc, name, item, &mut errors) {

@@ -52,7 +52,7 @@ impl OuterFrom {
         })
     }
 
-    /// Sets the option that the item is of.
+    /// Sets the option that the item is of, or for want of memory none.
     pub(crate) fn apply(
         &mut self,
         alloc: Global,
@@ -61,7 +61,7 @@ impl OuterFrom {
         table: &RenameTable,
     ) -> Result<()>
         ensures { Does result (outer_faults table.now name self.old item.now)
-            (self.new ≡ outer_options table.now self.old (one name item.now)) }
+            (outer_options table.now self.old (one name item.now)) self.old self.new }
     {
         match name {
             OuterName::Attributes => last(alloc, &mut self.attr_names, item),
@@ -74,6 +74,14 @@ impl OuterFrom {
             }
             OuterName::Core(name) => self.container.apply(alloc, name, item, table),
         }
+    }
+
+    /// The faults that are found before memory is wanting may stand behind the others.
+    fn push_checks(&self, alloc: Global, errors: &mut Accumulator) -> Mem<()>
+        ensures { OnOk result (held errors.new ≡ held errors.old ++ spec.outer_checks self.now) }
+    {
+        self.container.push_checks(alloc, errors)?;
+        check_forwarded(alloc, &self.forward_attrs, &self.attr_names, errors)
     }
 }
 
@@ -135,8 +143,14 @@ impl ParseData for OuterFrom {
     }
 
     fn validate_body(&self, alloc: Global, errors: &mut Accumulator) -> Mem<()> {
-        self.container.validate_body(alloc, errors)?;
-        check_forwarded(alloc, &self.forward_attrs, &self.attr_names, errors)
+        let mut found = Error::accumulator(alloc);
+        match self.push_checks(alloc, &mut found) {
+            Ok(()) => errors.extend(alloc, found.into_inner()),
+            Err(fail) => {
+                drop(found.into_inner());
+                Err(fail)
+            }
+        }
     }
 }
 

@@ -18,12 +18,12 @@ held-same : (new old : List ErrorView) (faults : List Fault) → faults ≡ [] �
 held-same new old faults none is = ap held is ∙ sym (append-nil (held old)) ∙ ap (λ xs. held old ++ xs) (sym none)
 
 -- what the call leaves behind, and its faults
-pub does_handled : {X Left : Type 0} (answer : Result X Fail) (faults : List Fault) (new old : List ErrorView) (found : Option X)
-    → Does answer faults Left → Handles answer old (Ok found) new → Left × (held new ≡ held old ++ faults)
-does_handled (Ok done) faults new old found does takes = (does.1, held-same new old faults does.0 takes.1)
-does_handled (Err (fails.Faults error)) faults new old found does takes =
+pub does_handled : {X S : Type 0} (answer : Result X Fail) (faults : List Fault) (left start end : S) (new old : List ErrorView) (found : Option X)
+    → Does answer faults left start end → Handles answer old (Ok found) new → (end ≡ left) × (held new ≡ held old ++ faults)
+does_handled (Ok done) faults left start end new old found does takes = (does.1, held-same new old faults does.0 takes.1)
+does_handled (Err (fails.Faults error)) faults left start end new old found does takes =
     (does.1, pushed new old error takes.1 ∙ ap (λ xs. held old ++ xs) (sym does.0))
-does_handled (Err fails.NoMemory) faults new old found does takes =
+does_handled (Err fails.NoMemory) faults left start end new old found does takes =
     let never : ⊥ = cc (takes.0) in
     absurd never
 

@@ -1,3 +1,4 @@
 pub mod ReadLemmas
 pub mod WalkLemmas
 pub mod HandleLemmas
+pub mod PrefixLemmas

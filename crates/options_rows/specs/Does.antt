@@ -1,4 +1,4 @@
--- What a call does to what it is lent, beside the faults that it answers.
+-- What a call answers, and what it leaves of what it is lent. Want of memory leaves this as it was.
 use Rattle.std.specs.Prelude.{◌≡◌, List, [], Option, Some, None, Result, Ok, Err}
 use Rattle.error_fault.specs.declared.fault.Fault.{Fault}
 use Rattle.error_fault.specs.Outcome.{Outcome, Value}
@@ -7,27 +7,28 @@ use Rattle.error_core.specs.ErrorView.{leaves}
 use Rattle.error_core.specs.declared.fail.Fail.{Fail}
 use Rattle.error_core.specs.declared.fail.Fail.TheVariants as fails
 
-abbrev pub FailDoes : Fail → List Fault → Type 0 → Type 0
-FailDoes (fails.Faults error) faults Left = (faults ≡ leaves error) × Left
-FailDoes fails.NoMemory faults Left = Unit {0}
+abbrev pub FailDoes : {S : Type 0} → Fail → List Fault → S → S → S → Type 0
+FailDoes (fails.Faults error) faults left old new = (faults ≡ leaves error) × (new ≡ left)
+FailDoes fails.NoMemory faults left old new = new ≡ old
 
--- the call answers these faults, and leaves this behind whether there are some or not; want of memory is free
-abbrev pub Does : {X : Type 0} → Result X Fail → List Fault → Type 0 → Type 0
-Does (Ok done) faults Left = (faults ≡ []) × Left
-Does (Err fail) faults Left = FailDoes fail faults Left
+-- the call answers these faults, and leaves this behind whether there are some or not; want of memory changes nothing
+abbrev pub Does : {X S : Type 0} → Result X Fail → List Fault → S → S → S → Type 0
+Does (Ok done) faults left old new = (faults ≡ []) × (new ≡ left)
+Does (Err fail) faults left old new = FailDoes fail faults left old new
 
 abbrev pub FailTakes : {S : Type 0} → Fail → Outcome S → S → S → Type 0
 FailTakes (fails.Faults error) outcome old new = (outcome ≡ refusal error) × (new ≡ old)
-FailTakes fails.NoMemory outcome old new = Unit {0}
+FailTakes fails.NoMemory outcome old new = new ≡ old
 
--- the call leaves the value of the outcome behind; where this has faults, it answers them and changes nothing
+-- the call leaves the value of the outcome behind; where this has faults, it answers them. These and want of memory
+-- change nothing
 abbrev pub Takes : {X S : Type 0} → Result X Fail → Outcome S → S → S → Type 0
 Takes (Ok done) outcome old new = outcome ≡ Value new
 Takes (Err fail) outcome old new = FailTakes fail outcome old new
 
 abbrev pub FailTakesOwn : {S : Type 0} → Fail → Option (Outcome S) → S → S → Type 0
 FailTakesOwn (fails.Faults error) own old new = (own ≡ Some (refusal error)) × (new ≡ old)
-FailTakesOwn fails.NoMemory own old new = Unit {0}
+FailTakesOwn fails.NoMemory own old new = new ≡ old
 
 abbrev pub FindsOwn : {S : Type 0} → Option (Unit {0}) → Option (Outcome S) → S → S → Type 0
 FindsOwn None own old new = (own ≡ None) × (new ≡ old)

@@ -1,5 +1,5 @@
 -- The members of a body: fields and variants, one after another, and what is checked behind them.
-use Rattle.std.specs.Prelude.{List, [], ◌∷◌, ◌++◌, codes, Option, Some, None}
+use Rattle.std.specs.Prelude.{ℕ, List, [], ◌∷◌, ◌++◌, codes, take, Option, Some, None}
 use Rattle.node_core.specs.Bodies.{field_list}
 use Rattle.node_core.specs.declared.data.Field.{Field}
 use Rattle.node_core.specs.declared.data.Variant.{Variant}
@@ -60,6 +60,11 @@ module _ {S : Type 0} (takes_field : S → Field → Outcome S) (takes_variant :
   -- what the members of a body leave
   abbrev pub after_body : S → «Data» → S
   after_body set it = after_members takes_variant (after_members takes_field set (fields_of it)) (variants_of it)
+
+  -- what the first of them leave
+  abbrev pub after_first : ℕ → S → «Data» → S
+  after_first count set it =
+      after_members takes_variant (after_members takes_field set (take count (fields_of it))) (take count (variants_of it))
 
   abbrev pub body_faults : S → «Data» → List Fault
   body_faults set it =

@@ -1,6 +1,6 @@
 //! The walk over the `darling` attributes of an item or of a part of one.
 
-ghost use Rattle.std.specs.Prelude.{◌≡◌, ◌∷◌, ◌++◌, [], List, map, IfOk, OnOk};
+ghost use Rattle.std.specs.Prelude.{ℕ, ◌≡◌, ◌∷◌, ◌++◌, ◌⊎◌, [], List, map, take, IfOk, OnOk, OnErr};
 ghost use Rattle.error_core.specs.Answers.{Answers};
 ghost use Rattle.error_core.specs.ErrorView.{One, held};
 ghost use Rattle.options_rows.specs.Does.{Does};
@@ -31,10 +31,11 @@ pub trait ParseAttribute: Sized + Drop {
     /// What is wrong with an item behind what stands.
     ghost faults: { Rules → Self → Meta → List Fault };
 
-    /// Reads one item. What it sets may stand although it has faults, as an option beside `flatten` does.
+    /// Reads one item. What it sets may stand although it has faults, as an option beside `flatten` does; want of memory
+    /// sets nothing.
     fn parse_nested(&mut self, alloc: Global, item: &Meta, table: &RenameTable) -> Result<()>
         ensures { Does result (faults table.now self.old item.now)
-            (self.new ≡ options table.now self.old (item.now ∷ [])) };
+            (options table.now self.old (item.now ∷ [])) self.old self.new };
 
     /// What stands does not depend on where the items are cut.
     ghost more: { (rules : Rules) (set : Self) (first rest : List Meta)
@@ -44,7 +45,8 @@ pub trait ParseAttribute: Sized + Drop {
 
     /// Reads the items of all attributes whose path is `darling`.
     ///
-    /// Fails with all faults in order: of attributes that are no lists, of what is no item, and of items.
+    /// Fails with all faults in order: of attributes that are no lists, of what is no item, and of items. What it read
+    /// into is its own: want of memory drops it.
     final fn parse_attributes(
         self,
         alloc: Global,
@@ -66,7 +68,7 @@ pub trait ParseAttribute: Sized + Drop {
     }
 }
 
-/// Each item behind all items before it.
+/// Each item behind all items before it. Where memory is wanting, those are set that were read before.
 fn read_attributes<T: ParseAttribute>(
     alloc: Global,
     target: &mut T,
@@ -74,10 +76,12 @@ fn read_attributes<T: ParseAttribute>(
     table: &RenameTable,
     errors: &mut Accumulator,
 ) -> Mem<()>
-    ensures { OnOk result
+    ensures ok { OnOk result
         ((target.new ≡ T.options table.now target.old (spec.items (spec.option_entries attrs.now)))
         × (held errors.new ≡ held errors.old
         ++ all_faults (T.options table.now) (T.faults table.now) target.old [] (spec.option_entries attrs.now))) }
+    ensures err { OnErr result
+        ((count : ℕ) × (target.new ≡ T.options table.now target.old (spec.items (take count (spec.option_entries attrs.now))))) }
 {
     walk_attributes(alloc, target, attrs, table, errors)
 }
@@ -89,10 +93,13 @@ fn walk_attributes<T: ParseAttribute>(
     table: &RenameTable,
     errors: &mut Accumulator,
 ) -> Mem<()>
-    ensures { OnOk result
+    ensures ok { OnOk result
         ((target.new ≡ walk_state (T.options table.now) (T.faults table.now) target.old (spec.option_entries attrs.now))
         × (held errors.new ≡ held errors.old
         ++ walk_faults (T.options table.now) (T.faults table.now) target.old (spec.option_entries attrs.now))) }
+    ensures err { OnErr result
+        ((count : ℕ) × (target.new
+        ≡ walk_state (T.options table.now) (T.faults table.now) target.old (take count (spec.option_entries attrs.now)))) }
 {
     let entries = darling_entries(alloc, attrs)?;
     walk_entries(alloc, target, entries.as_slice(), table, errors)
@@ -105,10 +112,13 @@ fn walk_entries<T: ParseAttribute>(
     table: &RenameTable,
     errors: &mut Accumulator,
 ) -> Mem<()>
-    ensures { OnOk result
+    ensures ok { OnOk result
         ((target.new ≡ walk_state (T.options table.now) (T.faults table.now) target.old (map spec.option_item entries.now))
         × (held errors.new ≡ held errors.old
         ++ walk_faults (T.options table.now) (T.faults table.now) target.old (map spec.option_item entries.now))) }
+    ensures err { OnErr result
+        ((count : ℕ) × (target.new
+        ≡ walk_state (T.options table.now) (T.faults table.now) target.old (take count (map spec.option_item entries.now)))) }
 {
     for entry in entries {
         walk_entry(alloc, target, entry, table, errors)?;
@@ -123,10 +133,13 @@ fn walk_entry<T: ParseAttribute>(
     table: &RenameTable,
     errors: &mut Accumulator,
 ) -> Mem<()>
-    ensures { OnOk result
+    ensures ok { OnOk result
         ((target.new ≡ after_entry (T.options table.now) (T.faults table.now) target.old (spec.option_item entry.now))
         × (held errors.new ≡ held errors.old
         ++ entry_faults (T.options table.now) (T.faults table.now) target.old (spec.option_item entry.now))) }
+    ensures err { OnErr result
+        ((target.new ≡ target.old)
+        ⊎ (target.new ≡ after_entry (T.options table.now) (T.faults table.now) target.old (spec.option_item entry.now))) }
 {
     match entry {
         Entry::Item(item) => walk_item(alloc, target, item, table, errors),
@@ -142,10 +155,13 @@ fn walk_item<T: ParseAttribute>(
     table: &RenameTable,
     errors: &mut Accumulator,
 ) -> Mem<()>
-    ensures { OnOk result
+    ensures ok { OnOk result
         ((target.new ≡ after_entry (T.options table.now) (T.faults table.now) target.old (spec.option_item (Item item.now)))
         × (held errors.new ≡ held errors.old
         ++ entry_faults (T.options table.now) (T.faults table.now) target.old (spec.option_item (Item item.now)))) }
+    ensures err { OnErr result
+        ((target.new ≡ target.old)
+        ⊎ (target.new ≡ after_entry (T.options table.now) (T.faults table.now) target.old (spec.option_item (Item item.now)))) }
 {
     match item {
         NestedMeta::Meta(item) => {

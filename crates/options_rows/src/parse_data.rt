@@ -1,6 +1,6 @@
 //! The walk over the members of a body.
 
-ghost use Rattle.std.specs.Prelude.{◌≡◌, ◌++◌, List, IfOk, OnOk, false};
+ghost use Rattle.std.specs.Prelude.{ℕ, ◌≡◌, ◌++◌, List, take, IfOk, OnOk, OnErr, false};
 ghost use Rattle.error_fault.specs.Outcome.{Outcome, faults_of};
 ghost use Rattle.error_core.specs.Answers.{Answers};
 ghost use Rattle.error_core.specs.ErrorView.{One, held};
@@ -33,7 +33,7 @@ pub trait ParseData: Sized + Drop {
     /// What is wrong with what stands behind all members.
     ghost checks: { Self → List Fault };
 
-    /// What the type makes of a field itself. `None` where it reads no fields.
+    /// What the type makes of a field itself. `None` where it reads no fields. Faults and want of memory change nothing.
     fn own_field(&mut self, alloc: Global, field: &Field, table: &RenameTable) -> Result<Option<()>>
         ensures { TakesOwn result (of_field table.now self.old field.now) self.old self.new };
 
@@ -46,11 +46,12 @@ pub trait ParseData: Sized + Drop {
     ) -> Result<Option<()>>
         ensures { TakesOwn result (of_variant table.now self.old variant.now) self.old self.new };
 
-    /// Checks what was read.
+    /// Checks what was read: all faults are collected or, for want of memory, none.
     fn validate_body(&self, alloc: Global, errors: &mut Accumulator) -> Mem<()>
-        ensures { OnOk result (held errors.new ≡ held errors.old ++ checks self.now) };
+        ensures ok { OnOk result (held errors.new ≡ held errors.old ++ checks self.now) }
+        ensures err { OnErr result (errors.new ≡ errors.old) };
 
-    /// Reads one field. One that has faults changes nothing.
+    /// Reads one field. One that has faults changes nothing, nor does want of memory.
     final fn parse_field(&mut self, alloc: Global, field: &Field, table: &RenameTable) -> Result<()>
         ensures { Takes result (spec.field_or of_field table.now self.old field.now) self.old self.new }
     {
@@ -60,7 +61,7 @@ pub trait ParseData: Sized + Drop {
         }
     }
 
-    /// Reads one variant. One that has faults changes nothing.
+    /// Reads one variant. One that has faults changes nothing, nor does want of memory.
     final fn parse_variant(
         &mut self,
         alloc: Global,
@@ -77,7 +78,8 @@ pub trait ParseData: Sized + Drop {
 
     /// Reads all members, and checks what was read.
     ///
-    /// Fails with the faults of all members in order, and with those of the checks behind them.
+    /// Fails with the faults of all members in order, and with those of the checks behind them. What it read into is its
+    /// own: want of memory drops it.
     final fn parse_body(self, alloc: Global, body: &Data, table: &RenameTable) -> Result<Self>
         requires { is_union body.now ≡ false }
         ensures { Answers (λ it. it) result (spec.read_body (spec.field_or of_field table.now) (spec.variant_or of_variant table.now) checks self body.now) }
@@ -108,6 +110,8 @@ fn no_variant(alloc: Global, variant: &Variant) -> Mem<Error>
     Ok(Error::unsupported_format(alloc, "enum variant")?.with_span(variant))
 }
 
+/// Where memory is wanting, the first of the members are taken.
+#[tactic(auto, using(crate::proofs::PrefixLemmas::stops_at_end))]
 fn read_body<T: ParseData>(
     alloc: Global,
     target: &mut T,
@@ -116,16 +120,20 @@ fn read_body<T: ParseData>(
     errors: &mut Accumulator,
 ) -> Mem<()>
     requires { is_union body.now ≡ false }
-    ensures { OnOk result
+    ensures ok { OnOk result
         ((target.new ≡ spec.after_body (spec.field_or T.of_field table.now) (spec.variant_or T.of_variant table.now) target.old body.now)
         × (held errors.new ≡ held errors.old
         ++ (spec.body_faults (spec.field_or T.of_field table.now) (spec.variant_or T.of_variant table.now) target.old body.now
         ++ T.checks (spec.after_body (spec.field_or T.of_field table.now) (spec.variant_or T.of_variant table.now) target.old body.now)))) }
+    ensures err { OnErr result
+        ((count : ℕ) × (target.new
+        ≡ spec.after_first (spec.field_or T.of_field table.now) (spec.variant_or T.of_variant table.now) count target.old body.now)) }
 {
     parse_members(alloc, target, body, table, errors)?;
     target.validate_body(alloc, errors)
 }
 
+#[tactic(auto, using(crate::proofs::PrefixLemmas::stops_in_fields, crate::proofs::PrefixLemmas::stops_in_variants))]
 fn parse_members<T: ParseData>(
     alloc: Global,
     target: &mut T,
@@ -134,9 +142,13 @@ fn parse_members<T: ParseData>(
     errors: &mut Accumulator,
 ) -> Mem<()>
     requires { is_union body.now ≡ false }
-    ensures { OnOk result
+    ensures ok { OnOk result
         ((target.new ≡ spec.after_body (spec.field_or T.of_field table.now) (spec.variant_or T.of_variant table.now) target.old body.now)
-        × (held errors.new ≡ held errors.old ++ spec.body_faults (spec.field_or T.of_field table.now) (spec.variant_or T.of_variant table.now) target.old body.now)) }
+        × (held errors.new ≡ held errors.old
+        ++ spec.body_faults (spec.field_or T.of_field table.now) (spec.variant_or T.of_variant table.now) target.old body.now)) }
+    ensures err { OnErr result
+        ((count : ℕ) × (target.new
+        ≡ spec.after_first (spec.field_or T.of_field table.now) (spec.variant_or T.of_variant table.now) count target.old body.now)) }
 {
     match body {
         Data::Struct(it) => parse_fields(alloc, target, it.fields.as_slice(), table, errors),
@@ -152,10 +164,12 @@ fn parse_fields<T: ParseData>(
     table: &RenameTable,
     errors: &mut Accumulator,
 ) -> Mem<()>
-    ensures { OnOk result
+    ensures ok { OnOk result
         ((target.new ≡ spec.after_members (spec.field_or T.of_field table.now) target.old fields.now)
         × (held errors.new ≡ held errors.old
         ++ spec.members_faults (spec.field_or T.of_field table.now) target.old fields.now)) }
+    ensures err { OnErr result
+        ((count : ℕ) × (target.new ≡ spec.after_members (spec.field_or T.of_field table.now) target.old (take count fields.now))) }
 {
     for field in fields {
         parse_one_field(alloc, target, field, table, errors)?;
@@ -171,10 +185,11 @@ fn parse_one_field<T: ParseData>(
     table: &RenameTable,
     errors: &mut Accumulator,
 ) -> Mem<()>
-    ensures { let takes = spec.field_or T.of_field table.now in
+    ensures ok { let takes = spec.field_or T.of_field table.now in
         OnOk result
         ((target.new ≡ spec.after_outcome (takes target.old field.now) target.old)
         × (held errors.new ≡ held errors.old ++ faults_of (takes target.old field.now))) }
+    ensures err { OnErr result (target.new ≡ target.old) }
 {
     errors.handle(alloc, target.parse_field(alloc, field, table))?;
     Ok(())
@@ -187,10 +202,12 @@ fn parse_variants<T: ParseData>(
     table: &RenameTable,
     errors: &mut Accumulator,
 ) -> Mem<()>
-    ensures { OnOk result
+    ensures ok { OnOk result
         ((target.new ≡ spec.after_members (spec.variant_or T.of_variant table.now) target.old variants.now)
         × (held errors.new ≡ held errors.old
         ++ spec.members_faults (spec.variant_or T.of_variant table.now) target.old variants.now)) }
+    ensures err { OnErr result
+        ((count : ℕ) × (target.new ≡ spec.after_members (spec.variant_or T.of_variant table.now) target.old (take count variants.now))) }
 {
     for variant in variants {
         parse_one_variant(alloc, target, variant, table, errors)?;
@@ -206,10 +223,11 @@ fn parse_one_variant<T: ParseData>(
     table: &RenameTable,
     errors: &mut Accumulator,
 ) -> Mem<()>
-    ensures { let takes = spec.variant_or T.of_variant table.now in
+    ensures ok { let takes = spec.variant_or T.of_variant table.now in
         OnOk result
         ((target.new ≡ spec.after_outcome (takes target.old variant.now) target.old)
         × (held errors.new ≡ held errors.old ++ faults_of (takes target.old variant.now))) }
+    ensures err { OnErr result (target.new ≡ target.old) }
 {
     errors.handle(alloc, target.parse_variant(alloc, variant, table))?;
     Ok(())

@@ -1,9 +1,10 @@
 //! What an item does to the option that it is of.
 
-ghost use Rattle.std.specs.Prelude.{◌≡◌, ◌∷◌, ◌++◌, [], Some, IfOk, codes};
+ghost use Rattle.std.specs.Prelude.{◌≡◌, ◌++◌, [], Some, IfOk, codes};
 ghost use Rattle.std.specs.Str.{bytes_eq};
 ghost use Rattle.tok_types.specs.Ident.{ident_text};
-ghost use Rattle.error_fault.specs.Outcome.{faults_of, on_value, value_of};
+ghost use Rattle.error_fault.specs.Outcome.{Faults, faults_of, on_value, value_of};
+ghost use Rattle.error_core.specs.Answers.{Answers};
 ghost use Rattle.error_core.specs.ErrorView.{One};
 ghost use Rattle.options_rows.specs.Does.{Does};
 ghost use Rattle.options_rows.specs.Rows as spec;
@@ -22,7 +23,7 @@ use util_table::{RenameRule, RenameTable};
 /// The first value stands: an option that is set and given again is a duplicate.
 pub fn once<T: OptionValue>(alloc: Global, slot: &mut Option<T>, item: &Meta) -> Result<()>
     ensures { Does result (fresh (λ set. spec.duplicate) slot.old T.meaning item.now)
-        (slot.new ≡ first_of slot.old (list_of (value_of (T.meaning item.now)))) }
+        (first_of slot.old (list_of (value_of (T.meaning item.now)))) slot.old slot.new }
 {
     if slot.is_some() {
         return Err(Fail::Faults(duplicate(alloc, item)?));
@@ -35,7 +36,7 @@ pub fn once<T: OptionValue>(alloc: Global, slot: &mut Option<T>, item: &Meta) ->
 /// The same, where a duplicate stands at the path of the item.
 pub fn once_at_path<T: OptionValue>(alloc: Global, slot: &mut Option<T>, item: &Meta) -> Result<()>
     ensures { Does result (fresh (λ set. spec.duplicate_path) slot.old T.meaning item.now)
-        (slot.new ≡ first_of slot.old (list_of (value_of (T.meaning item.now)))) }
+        (first_of slot.old (list_of (value_of (T.meaning item.now)))) slot.old slot.new }
 {
     if slot.is_some() {
         return Err(Fail::Faults(duplicate_path(alloc, item)?));
@@ -48,7 +49,7 @@ pub fn once_at_path<T: OptionValue>(alloc: Global, slot: &mut Option<T>, item: &
 /// The same of `map` and `and_then`, which exclude each other.
 pub fn once_transform(alloc: Global, slot: &mut Option<PostfixTransform>, item: &Meta) -> Result<()>
     ensures { Does result (fresh spec.exclusive slot.old transform_of item.now)
-        (slot.new ≡ first_of slot.old (list_of (value_of (transform_of item.now)))) }
+        (first_of slot.old (list_of (value_of (transform_of item.now)))) slot.old slot.new }
 {
     match slot {
         Some(set) => Err(Fail::Faults(exclusive(alloc, set, item)?)),
@@ -63,7 +64,7 @@ pub fn once_transform(alloc: Global, slot: &mut Option<PostfixTransform>, item: 
 /// The last value stands.
 pub fn last<T: OptionValue>(alloc: Global, slot: &mut T, item: &Meta) -> Result<()>
     ensures { Does result (faults_of (T.meaning item.now))
-        (slot.new ≡ last_of slot.old (list_of (value_of (T.meaning item.now)))) }
+        (last_of slot.old (list_of (value_of (T.meaning item.now)))) slot.old slot.new }
 {
     let value = T::of_item(alloc, item)?;
     *slot = value;
@@ -73,7 +74,7 @@ pub fn last<T: OptionValue>(alloc: Global, slot: &mut T, item: &Meta) -> Result<
 /// The same, where there may be no value.
 pub fn last_given<T: OptionValue>(alloc: Global, slot: &mut Option<T>, item: &Meta) -> Result<()>
     ensures { Does result (faults_of (T.meaning item.now))
-        (slot.new ≡ last_of slot.old (list_of (value_of (on_value Some (T.meaning item.now))))) }
+        (last_of slot.old (list_of (value_of (on_value Some (T.meaning item.now))))) slot.old slot.new }
 {
     let value = T::of_item(alloc, item)?;
     *slot = Some(value);
@@ -89,7 +90,7 @@ pub fn last_rule(
     table: &RenameTable,
 ) -> Result<()>
     ensures { Does result (faults_of (rule_of table.now item.now))
-        (slot.new ≡ last_of slot.old (list_of (value_of (rule_of table.now item.now)))) }
+        (last_of slot.old (list_of (value_of (rule_of table.now item.now)))) slot.old slot.new }
 {
     *slot = table.rule(alloc, item)?;
     Ok(())
@@ -97,7 +98,7 @@ pub fn last_rule(
 
 /// An item that is of no option.
 pub fn unknown(alloc: Global, item: &Meta) -> Result<()>
-    ensures { Does result (unknown item.now ∷ []) (Unit {0}) }
+    ensures { Answers (λ done. done) result (Faults (unknown item.now) []) }
 {
     Err(Fail::Faults(unknown_error(alloc, item)?))
 }
