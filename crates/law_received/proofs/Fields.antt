@@ -19,6 +19,7 @@ module _ {A : Type 0} (cells : Cells A) (setting : Setting) (earlier : Earlier) 
     (alike : ReadsAlike cells setting earlier field) where
   same_single : (before : List NestedMeta) (item : NestedMeta)
       → entries.own_faults setting earlier field Single before item ≡ single_faults cells field.name before item
+  unfolding single_faults
   same_single [] item = ap (λ faults. at faults field.name) (alike item)
   same_single (first ∷ more) item = refl
 
@@ -32,6 +33,7 @@ module _ {A : Type 0} (cells : Cells A) (setting : Setting) (earlier : Earlier) 
 
   single_missing_is : fallback decl field ≡ None → is_some (none setting earlier field.type) ≡ is_some (from_none cells) → (own_items : List NestedMeta)
       → field_values.missing setting earlier decl field Single own_items ≡ single_missing cells field.name own_items
+  unfolding single_missing
   single_missing_is falls same [] = same_missing (fallback decl field) falls (none setting earlier field.type) (from_none cells) same
   single_missing_is falls same (item ∷ more) = refl
 
@@ -47,6 +49,7 @@ module _ {A : Type 0} (cells : Cells A) (setting : Setting) (earlier : Earlier) 
   same_count (Faults fault more) (Faults other rest) same = refl
 
   same_counts : (items : List NestedMeta) → length (entries.values setting earlier field items) ≡ length (values cells items)
+  unfolding values
   same_counts [] = refl
   same_counts (item ∷ items) =
       length-append (entries.value_list setting earlier (entries.read setting earlier field item)) (entries.values setting earlier field items)
@@ -55,6 +58,7 @@ module _ {A : Type 0} (cells : Cells A) (setting : Setting) (earlier : Earlier) 
 
   same_multiple : (before : List NestedMeta) (item : NestedMeta)
       → entries.own_faults setting earlier field Many before item ≡ multiple_faults cells field.name before item
+  unfolding multiple_faults
   same_multiple before item = ap₂ (λ faults n. at faults (label field.name n)) (alike item) (same_counts before)
 
   many_missing_is : (own_items : List NestedMeta) → field_values.missing setting earlier decl field Many own_items ≡ []

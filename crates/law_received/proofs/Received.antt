@@ -13,8 +13,8 @@ use Rattle.meta_nested.specs.declared.nested.NestedMeta.{NestedMeta}
 use Rattle.machine_steps.specs.Setting.{Setting}
 use Rattle.machine_steps.specs.Convert.{Earlier}
 use Rattle.meta_entries.specs.Entries.{items as items_in}
+use Rattle.meta_entries.specs.declared.entry.Entry.{Entry}
 use Rattle.meta_entries.specs.declared.entry.Entry.TheVariants as entry
-use Rattle.meta_entries.proofs.ItemLemmas.{items-of_items}
 use Rattle.meaning_core.specs.Decl as decls
 use Rattle.meaning_core.specs.Decl.{Decl, FieldDecl, Flat, Many, Shape, Single, is_named_by, names}
 use Rattle.meaning_core.specs.EntryFaults as entries
@@ -23,9 +23,10 @@ use Rattle.meaning_core.specs.Meaning.{joined}
 use Rattle.meaning_core.specs.Owners as owners
 use Rattle.meaning_core.specs.Owners.{each, field_at, owner_named}
 use Rattle.receive_core.specs.Checks.{Checks, flat_faults}
-use Rattle.receive_core.specs.Meaning.{all_item_faults, built, faults_in, field_faults, has_flat, missing_faults, named_faults, names_of}
+use Rattle.receive_core.specs.Meaning.{all_entry_faults, built, faults_in, field_faults, has_flat, item_faults, missing_faults, named_faults, names_of}
 use Rattle.receive_core.specs.Names.{is_among, is_this_name, item_name, own}
 use Rattle.receive_core.specs.Schema.{Schema}
+use Rattle.receive_core.specs.SchemaLaws.{both_empty}
 use Rattle.law_received.specs.Agreement.{AreDistinct, AreFields, IsField}
 use Rattle.law_received.specs.Claims.{SameFaults, SameMeaning, declared_value}
 use Rattle.law_received.proofs.Owners.{OwnsItems, both_false, has_same_name, owns_items, same_name}
@@ -170,28 +171,40 @@ module _ (setting : Setting) (earlier : Earlier) (decl : Decl) where
         are differ (owns_items setting earlier decl checks decl.fields are differ before)
         ∙ by_owner_is before item name (owner_named decl.fields name)
 
-    same_items : (before items : List NestedMeta)
-        → all_item_faults checks false before items ≡ entries.all_entry_faults setting earlier decl before (map entry.Item items)
-    same_items before [] = refl
-    same_items before (item ∷ items) =
+    same_entries : (before : List NestedMeta) (those : List Entry)
+        → all_entry_faults checks false before those ≡ entries.all_entry_faults setting earlier decl before those
+    same_entries before [] = refl
+    same_entries before (entry.Item item ∷ more) =
         ap₂ (λ xs ys. xs ++ ys)
         (same_item before item (item_name item) refl ∙ ap (entries.named_faults setting earlier decl before item) (sym (same_name item)))
-        (same_items (before ++ item ∷ []) items)
+        (same_entries (before ++ item ∷ []) more)
+    same_entries before (entry.Fault fault ∷ more) =
+        ap (λ faults. fault ∷ faults)
+        (same_entries before more ∙ ap (λ items. entries.all_entry_faults setting earlier decl items more) (sym (append-nil before)))
 
 pub same_faults : {A : Type 0} (schema : Schema A) → SameFaults schema
-same_faults schema setting earlier decl is items =
+same_faults schema setting earlier decl is those =
     let checks = schema.fields in
     let fields = decl.fields in
-    let own_by = owns_items setting earlier decl checks fields is.are_fields is.are_distinct items in
-    ap (λ flattened. all_item_faults checks (has_flat flattened) [] items ++ (flat_faults flattened [] items ++ missing_faults checks items)) is.none_flattened
+    let items = items_in those in
+    let own_items = owners.own fields items in
+    ap (λ flattened. all_entry_faults checks (has_flat flattened) [] those ++ (flat_faults flattened [] items ++ missing_faults checks items))
+    is.none_flattened
     ∙ ap₂ (λ xs ys. xs ++ ys)
-    (same_items setting earlier decl checks is.are_fields is.are_distinct is.allows_unknown [] items)
+    (same_entries setting earlier decl checks is.are_fields is.are_distinct is.allows_unknown [] those)
     (sym
     (ap₂ (λ xs ys. xs ++ ys)
-    (all_none_flat setting earlier decl checks fields is.are_fields (items_in (map entry.Item items)) (owners.own fields (items_in (map entry.Item items))))
-    (ap (λ all. joined (each (λ field own_items. values.missing setting earlier decl field field.shape own_items) fields (owners.own fields all)))
-    (items-of_items items)
-    ∙ same_missing setting earlier decl checks fields is.are_fields items (owners.own fields items) own_by)))
+    (all_none_flat setting earlier decl checks fields is.are_fields items own_items)
+    (same_missing setting earlier decl checks fields is.are_fields items own_items
+    (owns_items setting earlier decl checks fields is.are_fields is.are_distinct items))))
+
+-- entries without a fault are items
+all_items : (fields : List Checks) (flat : Bool) (before : List NestedMeta) (those : List Entry) → all_entry_faults fields flat before those ≡ []
+    → map entry.Item (items_in those) ≡ those
+all_items fields flat before [] is = refl
+all_items fields flat before (entry.Item item ∷ more) is =
+    ap (λ rest. entry.Item item ∷ rest) (all_items fields flat (before ++ item ∷ []) more (both_empty (item_faults fields flat before item) _ is).1)
+all_items fields flat before (entry.Fault fault ∷ more) is = absurd (cc is)
 
 settle_same : {A B : Type 0} (show : A → B) (faults : List Fault) (outcome : Outcome A) (other : Outcome B)
     → (faults ≡ [] → on_value show outcome ≡ other) → on_value show (settle faults outcome) ≡ settle faults other
@@ -199,6 +212,10 @@ settle_same show [] outcome other is = is refl
 settle_same show (fault ∷ more) outcome other is = refl
 
 pub same_meaning : {A : Type 0} (schema : Schema A) → SameMeaning schema
-same_meaning schema setting earlier decl is show alike items =
-    settle_same show (faults_in schema items) (built (schema.value [] items)) (declared_value setting earlier decl items) (alike items)
-    ∙ ap (λ faults. settle faults (declared_value setting earlier decl items)) (same_faults schema setting earlier decl is items)
+same_meaning schema setting earlier decl is show alike those =
+    let value = declared_value setting earlier decl in
+    settle_same show (faults_in schema those) (built (schema.value [] (items_in those))) (value those)
+    (λ none.
+    let all = all_items schema.fields (has_flat schema.flattened) [] those (both_empty _ _ none).0 in
+    alike (items_in those) (ap (faults_in schema) all ∙ none) ∙ ap value all)
+    ∙ ap (λ faults. settle faults (value those)) (same_faults schema setting earlier decl is those)

@@ -7,10 +7,11 @@ use Rattle.machine_steps.specs.Setting.{Setting}
 use Rattle.machine_steps.specs.Convert.{Earlier}
 use Rattle.machine_steps.specs.Reading.{transformed}
 use Rattle.meaning_core.specs.Decl.{Decl}
+use Rattle.meta_entries.specs.declared.entry.Entry.{Entry}
 use Rattle.meta_entries.specs.declared.entry.Entry.TheVariants as entry
 use Rattle.meaning_core.specs.Meaning.{built_struct, collected, struct_meaning, whole_default}
 use Rattle.receive_core.specs.Checks.{Checks, FlatChecks}
-use Rattle.receive_core.specs.Meaning.{built, faults_in, meaning, names_of}
+use Rattle.receive_core.specs.Meaning.{built, entry_meaning, faults_in, names_of}
 use Rattle.receive_core.specs.Schema.{Schema}
 use Rattle.law_received.specs.Agreement.{AreDistinct, AreFields}
 
@@ -21,22 +22,24 @@ pub record IsDeclared (fields : List Checks) (flattened : List FlatChecks) (sett
   pub none_flattened : flattened ≡ []
   pub allows_unknown : decl.allows_unknown ≡ false
 
--- the value that the declaration builds of items
-abbrev pub declared_value : Setting → Earlier → Decl → List NestedMeta → Outcome Datum
-declared_value setting earlier decl items =
+-- the value that the declaration builds of the items among entries
+abbrev pub declared_value : Setting → Earlier → Decl → List Entry → Outcome Datum
+declared_value setting earlier decl entries =
     transformed setting earlier decl.transform decl.type
-    (bind (whole_default setting decl.type decl.default) (λ whole. built_struct setting earlier decl whole (map entry.Item items)))
+    (bind (whole_default setting decl.type decl.default) (λ whole. built_struct setting earlier decl whole entries))
 
 module _ {A : Type 0} (schema : Schema A) where
-  -- the same is wrong with any items, in the same order
+  -- the same is wrong with any entries of attributes, in the same order
   abbrev pub SameFaults : Type 0
   SameFaults =
-      (setting : Setting) (earlier : Earlier) (decl : Decl) → IsDeclared schema.fields schema.flattened setting earlier decl → (items : List NestedMeta)
-      → faults_in schema items ≡ collected setting earlier decl (map entry.Item items)
+      (setting : Setting) (earlier : Earlier) (decl : Decl) → IsDeclared schema.fields schema.flattened setting earlier decl → (entries : List Entry)
+      → faults_in schema entries ≡ collected setting earlier decl entries
 
-  -- where the values agree of items with which nothing is wrong, any items mean the same
+  -- where the values agree of items with which nothing is wrong, any entries mean the same, and so any items: their `meaning` is that of
+  -- entries without a fault
   abbrev pub SameMeaning : Type 0
   SameMeaning =
       (setting : Setting) (earlier : Earlier) (decl : Decl) → IsDeclared schema.fields schema.flattened setting earlier decl → (show : A → Datum)
-      → ((items : List NestedMeta) → faults_in schema items ≡ [] → on_value show (built (schema.value [] items)) ≡ declared_value setting earlier decl items)
-      → (items : List NestedMeta) → on_value show (meaning schema items) ≡ struct_meaning setting earlier decl (map entry.Item items)
+      → ((items : List NestedMeta) → faults_in schema (map entry.Item items) ≡ []
+      → on_value show (built (schema.value [] items)) ≡ declared_value setting earlier decl (map entry.Item items))
+      → (entries : List Entry) → on_value show (entry_meaning schema entries) ≡ struct_meaning setting earlier decl entries

@@ -1,11 +1,14 @@
--- Where nothing is wrong with all items, nothing is wrong with any field.
+-- Where nothing is wrong with all entries, nothing is wrong with any field.
 use Rattle.std.proofs.Common.{◌≡◌, ◌∙◌, Bool, true, false, cond, List, [], ◌∷◌, ◌++◌, flat_map, Option, None, Some, refl, sym, ap, ap₂, append-nil}
 use Rattle.std.proofs.lemmas.List.Elements.{filter-append}
 use Rattle.base_core.specs.declared.text.Text.{Text}
 use Rattle.error_fault.specs.declared.fault.Fault.{Fault}
 use Rattle.meta_nested.specs.declared.nested.NestedMeta.{NestedMeta}
+use Rattle.meta_entries.specs.Entries as entries
+use Rattle.meta_entries.specs.declared.entry.Entry.{Entry}
+use Rattle.meta_entries.specs.declared.entry.Entry.TheVariants as entry
 use Rattle.receive_core.specs.Checks.{AreClear, Checks, own_faults}
-use Rattle.receive_core.specs.Meaning.{all_item_faults, field_faults, missing_faults, named_faults, names_of}
+use Rattle.receive_core.specs.Meaning.{all_entry_faults, field_faults, missing_faults, named_faults, names_of}
 use Rattle.receive_core.specs.Names.{is_named, item_name, own}
 use Rattle.receive_core.specs.SchemaLaws.{both_empty}
 
@@ -23,11 +26,13 @@ abbrev IsQuiet : Checks → List NestedMeta → List NestedMeta → Type 0
 IsQuiet checks before [] = Unit {0}
 IsQuiet checks before (item ∷ items) = (field_faults before item checks ≡ []) × IsQuiet checks (before ++ item ∷ []) items
 
-all_quiet : (fields : List Checks) (flat : Bool) (before items : List NestedMeta) → all_item_faults fields flat before items ≡ [] → AreQuiet fields before items
+all_quiet : (fields : List Checks) (flat : Bool) (before : List NestedMeta) (all : List Entry) → all_entry_faults fields flat before all ≡ []
+    → AreQuiet fields before (entries.items all)
 all_quiet fields flat before [] is = tt
-all_quiet fields flat before (item ∷ items) is =
+all_quiet fields flat before (entry.Item item ∷ more) is =
     let parts = both_empty (named_faults (names_of fields) flat item (item_name item) (flat_map (field_faults before item) fields)) _ is in
-    (named_empty (names_of fields) flat item (item_name item) _ parts.0, all_quiet fields flat (before ++ item ∷ []) items parts.1)
+    (named_empty (names_of fields) flat item (item_name item) _ parts.0, all_quiet fields flat (before ++ item ∷ []) more parts.1)
+all_quiet fields flat before (entry.Fault fault ∷ more) is = absurd (cc is)
 
 first_quiet : (checks : Checks) (fields : List Checks) (before items : List NestedMeta) → AreQuiet (checks ∷ fields) before items
     → IsQuiet checks before items × AreQuiet fields before items
@@ -57,9 +62,11 @@ fields_clear (checks ∷ fields) items is there =
     let both = both_empty (checks.missing (own checks.name items)) (missing_faults fields items) there in
     ((own_empty checks [] items parts.0, both.0), fields_clear fields items parts.1 both.1)
 
-pub all_clear : (fields : List Checks) (flat : Bool) (items : List NestedMeta) (flat_faults : List Fault)
-    → all_item_faults fields flat [] items ++ (flat_faults ++ missing_faults fields items) ≡ [] → AreClear fields items × (flat_faults ≡ [])
-all_clear fields flat items flat_faults is =
-    let parts = both_empty (all_item_faults fields flat [] items) (flat_faults ++ missing_faults fields items) is in
+pub all_clear : (fields : List Checks) (flat : Bool) (all : List Entry) (flat_faults : List Fault)
+    → all_entry_faults fields flat [] all ++ (flat_faults ++ missing_faults fields (entries.items all)) ≡ []
+    → AreClear fields (entries.items all) × (flat_faults ≡ [])
+all_clear fields flat all flat_faults is =
+    let items = entries.items all in
+    let parts = both_empty (all_entry_faults fields flat [] all) (flat_faults ++ missing_faults fields items) is in
     let more = both_empty flat_faults (missing_faults fields items) parts.1 in
-    (fields_clear fields items (all_quiet fields flat [] items parts.0) more.1, more.0)
+    (fields_clear fields items (all_quiet fields flat [] all parts.0) more.1, more.0)

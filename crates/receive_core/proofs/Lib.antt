@@ -1,4 +1,5 @@
 pub mod ErrorLemmas
+pub mod SeenLemmas
 pub mod SlotLemmas
 pub mod ClearLemmas
 pub mod MeaningLemmas

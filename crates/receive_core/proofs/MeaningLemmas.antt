@@ -10,8 +10,12 @@ use Rattle.error_core.specs.Answers.{Answers}
 use Rattle.error_core.specs.declared.fail.Fail.{Fail}
 use Rattle.error_core.proofs.AnswersLemmas.{answers-on_value}
 use Rattle.meta_nested.specs.declared.nested.NestedMeta.{NestedMeta}
+use Rattle.meta_entries.specs.Entries as entries
+use Rattle.meta_entries.specs.declared.entry.Entry.{Entry}
+use Rattle.meta_entries.specs.declared.entry.Entry.TheVariants as entry
+use Rattle.meta_entries.proofs.ItemLemmas.{items-of_items}
 use Rattle.receive_core.specs.Checks.{Checks, FlatChecks, flat_faults}
-use Rattle.receive_core.specs.Meaning.{all_item_faults, built, faults_in, field_faults, has_flat, meaning, missing_faults, named_faults, names_of}
+use Rattle.receive_core.specs.Meaning.{all_entry_faults, built, entry_meaning, faults_in, field_faults, has_flat, meaning, missing_faults, named_faults, names_of}
 use Rattle.receive_core.specs.Names.{item_name, own}
 use Rattle.receive_core.specs.Reading.{after_field, after_flattened, faults_by_item}
 use Rattle.receive_core.specs.Schema.{Schema}
@@ -64,15 +68,16 @@ in_fields (checks ∷ fields) all before item more is =
     (ap (λ xs. get_or (faults_by_item checks [] xs) (length before) []) is ∙ at_item checks [] before item more)
     (in_fields fields all before item more is)
 
-in_items : (fields : List Checks) (flat : Bool) (all before items : List NestedMeta) → all ≡ before ++ items
-    → faults_from (names_of fields) flat (by_field all fields) (length before) items ≡ all_item_faults fields flat before items
-in_items fields flat all before [] is = refl
-in_items fields flat all before (item ∷ items) is =
+in_entries : (fields : List Checks) (flat : Bool) (all before : List NestedMeta) (those : List Entry) → all ≡ before ++ entries.items those
+    → faults_from (names_of fields) flat (by_field all fields) (length before) those ≡ all_entry_faults fields flat before those
+in_entries fields flat all before [] is = refl
+in_entries fields flat all before (entry.Item item ∷ more) is =
     ap₂ (λ xs ys. xs ++ ys)
-    (ap (named_faults (names_of fields) flat item (item_name item)) (in_fields fields all before item items is))
-    (ap (λ n. faults_from (names_of fields) flat (by_field all fields) n items)
+    (ap (named_faults (names_of fields) flat item (item_name item)) (in_fields fields all before item (entries.items more) is))
+    (ap (λ n. faults_from (names_of fields) flat (by_field all fields) n more)
     (sym (length-append before (item ∷ []) ∙ add-one (length before)))
-    ∙ in_items fields flat all (before ++ item ∷ []) items (is ∙ sym (append_assoc before (item ∷ []) items)))
+    ∙ in_entries fields flat all (before ++ item ∷ []) more (is ∙ sym (append_assoc before (item ∷ []) (entries.items more))))
+in_entries fields flat all before (entry.Fault fault ∷ more) is = ap (λ faults. fault ∷ faults) (in_entries fields flat all before more is)
 
 -- behind flattened fields
 module _ (names : List Text) (items : List NestedMeta) where
@@ -110,15 +115,16 @@ fields_told : (fields : List Checks) (reader : FieldReader) → (fold after_fiel
 fields_told [] reader = refl
 fields_told (checks ∷ fields) reader = fields_told fields (after_field reader checks)
 
-end_is : (reader : FieldReader) (fields : List Checks) (flat : Bool) (faults : List Fault) (items : List NestedMeta) → IsBehind reader fields
-    → reader.has_flat ≡ flat → reader.flat_faults ≡ faults → reader.items.now ≡ items
-    → end_faults reader ≡ all_item_faults fields flat [] items ++ (faults ++ missing_faults fields items)
-end_is reader fields flat faults items is same told these =
+-- the faults at the end, of entries whose items the reader has
+end_is : (reader : FieldReader) (fields : List Checks) (flat : Bool) (faults : List Fault) (those : List Entry) → IsBehind reader fields
+    → reader.has_flat ≡ flat → reader.flat_faults ≡ faults → reader.items.now ≡ entries.items those
+    → end_faults reader those ≡ all_entry_faults fields flat [] those ++ (faults ++ missing_faults fields (entries.items those))
+end_is reader fields flat faults those is same told has =
     ap₂ (λ xs ys. xs ++ ys)
-    (ap₂ (λ names by_field. faults_from names reader.has_flat by_field 0 reader.items.now) is.0 is.1
-    ∙ in_items fields reader.has_flat reader.items.now [] reader.items.now refl
-    ∙ ap₂ (λ b xs. all_item_faults fields b [] xs) same these)
-    (ap₂ (λ xs ys. xs ++ ys) told (is.2 ∙ ap (missing_faults fields) these))
+    (ap₂ (λ names by_field. faults_from names reader.has_flat by_field 0 those) is.0 is.1
+    ∙ in_entries fields reader.has_flat reader.items.now [] those has
+    ∙ ap (λ b. all_entry_faults fields b [] those) same)
+    (ap₂ (λ xs ys. xs ++ ys) told (is.2 ∙ ap (missing_faults fields) has))
 
 settled : {X A : Type 0} (seen : X → A) (faults : List Fault) (found : Option X)
     → on_value seen (settle faults (built found)) ≡ settle faults (built (option_map seen found))
@@ -136,20 +142,6 @@ module _ {X A : Type 0} (seen : X → A) (schema : Schema A) (start end : FieldR
     (told : start.flat_faults ≡ [])
     (goes : end ≡ fold (after_flattened start.names start.items.now) (fold after_field start schema.fields) schema.flattened)
     (finds : option_map seen found ≡ schema.value start.names start.items.now) where
-  ends : end_faults end ≡ faults_in schema start.items.now
-  ends =
-      let ns = start.names in
-      let is = start.items.now in
-      let mid = fold after_field start schema.fields in
-      let last = fold (after_flattened ns is) mid schema.flattened in
-      ap end_faults goes
-      ∙ end_is last schema.fields (has_flat schema.flattened) (flat_faults schema.flattened [] is) is
-      (fields_stay ns is schema.flattened schema.fields mid (behind_all schema.fields [] start (names, item_faults, missing)))
-      (is_flat ns is schema.flattened mid (fields_flat schema.fields start ∙ flat))
-      (flat_told ns is schema.flattened mid
-      ∙ ap₂ (λ xs ns. xs ++ flat_faults schema.flattened ns is) (fields_told schema.fields start ∙ told) names)
-      (ap (λ it. it.now) (flat_items ns is schema.flattened mid ∙ items_stay schema.fields start))
-
   pub reads_names : end.names ≡ names_of schema.fields
   reads_names =
       let ns = start.names in
@@ -158,20 +150,52 @@ module _ {X A : Type 0} (seen : X → A) (schema : Schema A) (start end : FieldR
       ap (λ f. f.names) goes
       ∙ (fields_stay ns is schema.flattened schema.fields mid (behind_all schema.fields [] start (names, item_faults, missing))).0
 
-  finds_from : option_map seen found ≡ schema.value [] start.items.now
-  finds_from = finds ∙ ap (λ ns. schema.value ns start.items.now) names
+  reads_items : end.items.now ≡ start.items.now
+  reads_items =
+      let mid = fold after_field start schema.fields in
+      ap (λ f. f.items.now) goes
+      ∙ ap (λ it. it.now) (flat_items start.names start.items.now schema.flattened mid ∙ items_stay schema.fields start)
+
+  -- of entries whose items are read
+  module _ (those : List Entry) (has : start.items.now ≡ entries.items those) where
+    ends : end_faults end those ≡ faults_in schema those
+    ends =
+        let ns = start.names in
+        let is = start.items.now in
+        let mid = fold after_field start schema.fields in
+        let last = fold (after_flattened ns is) mid schema.flattened in
+        ap (λ f. end_faults f those) goes
+        ∙ end_is last schema.fields (has_flat schema.flattened) (flat_faults schema.flattened [] (entries.items those)) those
+        (fields_stay ns is schema.flattened schema.fields mid (behind_all schema.fields [] start (names, item_faults, missing)))
+        (is_flat ns is schema.flattened mid (fields_flat schema.fields start ∙ flat))
+        (flat_told ns is schema.flattened mid
+        ∙ ap₂ (λ xs ns. xs ++ flat_faults schema.flattened ns is) (fields_told schema.fields start ∙ told) names
+        ∙ ap (flat_faults schema.flattened []) has)
+        (ap (λ it. it.now) (flat_items ns is schema.flattened mid ∙ items_stay schema.fields start) ∙ has)
+
+    finds_from : option_map seen found ≡ schema.value [] (entries.items those)
+    finds_from = finds ∙ ap₂ schema.value names has
+
+    pub reads_entries : (result : Result X Fail) → Answers (λ it. it) result (settle (end_faults end those) (built found))
+        → Answers seen result (entry_meaning schema those)
+    reads_entries result is =
+        subst (Answers seen result)
+        (settled seen (end_faults end those) found ∙ ap₂ (λ faults value. settle faults (built value)) ends finds_from)
+        (answers-on_value seen result _ is)
+
+    -- where nothing was found wrong, a value was found
+    pub reads_whole : end_faults end those ≡ [] → IsSome found
+    reads_whole none =
+        let rest = flat_faults schema.flattened [] (entries.items those) in
+        let clear = all_clear schema.fields (has_flat schema.flattened) those rest (sym ends ∙ none) in
+        some_seen seen found (subst IsSome (sym finds_from) (schema.whole [] (entries.items those) clear.0 clear.1))
+
+  -- of the items themselves
+  pub reads_items_whole : end_faults end (map entry.Item end.items.now) ≡ [] → IsSome found
+  reads_items_whole = reads_whole (map entry.Item end.items.now) (sym reads_items ∙ sym (items-of_items end.items.now))
 
   pub reads_meaning : (items : List NestedMeta) (result : Result X Fail) → start.items.now ≡ items
-      → Answers (λ it. it) result (settle (end_faults end) (built found)) → Answers seen result (meaning schema items)
-  reads_meaning items result these is =
-      subst (Answers seen result)
-      (settled seen (end_faults end) found
-      ∙ ap₂ (λ faults value. settle faults (built value)) ends finds_from
-      ∙ ap (meaning schema) these)
-      (answers-on_value seen result _ is)
-
-  -- where nothing was found wrong, a value was found
-  pub reads_whole : end_faults end ≡ [] → IsSome found
-  reads_whole none =
-      let clear = all_clear schema.fields (has_flat schema.flattened) start.items.now (flat_faults schema.flattened [] start.items.now) (sym ends ∙ none) in
-      some_seen seen found (subst IsSome (sym finds_from) (schema.whole [] start.items.now clear.0 clear.1))
+      → Answers (λ it. it) result (settle (end_faults end (map entry.Item end.items.now)) (built found)) → Answers seen result (meaning schema items)
+  reads_meaning items result has is =
+      reads_entries (map entry.Item items) (has ∙ sym (items-of_items items)) result
+      (subst (λ items. Answers (λ it. it) result (settle (end_faults end (map entry.Item items)) (built found))) (reads_items ∙ has) is)

@@ -8,7 +8,7 @@ use Rattle.error_fault.specs.declared.fault.Fault.{Fault}
 use Rattle.meta_nested.specs.Cells.{Cells}
 use Rattle.meta_nested.specs.Dispatch.{from_nested_meta}
 use Rattle.meta_nested.specs.declared.nested.NestedMeta.{NestedMeta}
-use Rattle.receive_core.specs.Checks.{Checks, multiple_checks, single_checks, single_faults, value_list, values}
+use Rattle.receive_core.specs.Checks.{Checks, multiple_checks, multiple_faults, single_checks, single_faults, value_list, values}
 use Rattle.receive_core.specs.Meaning.{field_faults}
 use Rattle.receive_core.specs.Names.{is_named, own}
 use Rattle.receive_core.specs.Reading.{faults_by_item}
@@ -39,6 +39,7 @@ module _ {A : Type 0} (cells : Cells A) (name : Text) where
   slot_put_is (first ∷ more) item = refl
 
   put_faults_is : (before : List NestedMeta) (item : NestedMeta) → single_faults cells name before item ≡ put_faults cells name (slot_of cells before) item
+  unfolding single_faults
   put_faults_is [] item = refl
   put_faults_is (first ∷ more) item = refl
 
@@ -62,6 +63,7 @@ module _ {A : Type 0} (cells : Cells A) (name : Text) where
 
   values_more : (before : List NestedMeta) (item : NestedMeta) (b : Bool)
       → values cells (before ++ cond b (item ∷ []) []) ≡ values cells before ++ cond b (value_list (from_nested_meta cells item)) []
+  unfolding values
   values_more before item true =
       flat_map-append (λ it. value_list (from_nested_meta cells it)) before (item ∷ [])
       ∙ ap (λ xs. values cells before ++ xs) (append-nil (value_list (from_nested_meta cells item)))
@@ -93,6 +95,7 @@ module _ {A : Type 0} (cells : Cells A) (name : Text) where
       → new ≡ old ++ values_of cells name x → faults ≡ value_faults cells name old x → next ≡ had ++ faults ∷ []
       → (new ≡ values cells (own name (take (i + 1) items)))
       × (next ++ faults_by_item (multiple_checks cells name) (take (i + 1) items) (drop (i + 1) items) ≡ start)
+  unfolding multiple_faults
   values_turn items i x lt at old new had next start faults was all gives tells put =
       let before = own name (take i items) in (
         gives

@@ -54,22 +54,22 @@ value_list (Faults fault more) = []
 
 module _ {A : Type 0} (cells : Cells A) where
   -- the value of the first item, or without one that of the type
-  abbrev pub single_value : List NestedMeta → Option A
+  unfoldable pub single_value : List NestedMeta → Option A
   single_value [] = from_none cells
   single_value (item ∷ more) = value_of (from_nested_meta cells item)
 
   -- the value of the first item
-  abbrev pub optional_value : List NestedMeta → Option A
+  unfoldable pub optional_value : List NestedMeta → Option A
   optional_value [] = None
   optional_value (item ∷ more) = value_of (from_nested_meta cells item)
 
   -- the values of those items that have one
-  abbrev pub values : List NestedMeta → List A
+  unfoldable pub values : List NestedMeta → List A
   values own_items = flat_map (λ item. value_list (from_nested_meta cells item)) own_items
 
 module _ {A : Type 0} (cells : Cells A) (name : Text) where
   -- only the first item is read; each other is a duplicate
-  abbrev pub single_faults : List NestedMeta → NestedMeta → List Fault
+  unfoldable pub single_faults : List NestedMeta → NestedMeta → List Fault
   single_faults [] item = at (faults_of (from_nested_meta cells item)) name
   single_faults (first ∷ more) item = at_span (DuplicateField name) (nested_span item) ∷ []
 
@@ -78,11 +78,11 @@ module _ {A : Type 0} (cells : Cells A) (name : Text) where
   missing_by (Some value) = []
 
   -- without an item a value is missing, unless the type has one for that
-  abbrev pub single_missing : List NestedMeta → List Fault
+  unfoldable pub single_missing : List NestedMeta → List Fault
   single_missing [] = missing_by (from_none cells)
   single_missing (item ∷ more) = []
 
-  abbrev pub multiple_faults : List NestedMeta → NestedMeta → List Fault
+  unfoldable pub multiple_faults : List NestedMeta → NestedMeta → List Fault
   multiple_faults before item = at (faults_of (from_nested_meta cells item)) (label name (length (values cells before)))
 
   abbrev pub single_checks : Checks

@@ -5,3 +5,4 @@ pub mod Schema
 pub mod Meaning
 pub mod Reading
 pub mod Steps
+pub use Rattle.meta_entries.specs.Entries

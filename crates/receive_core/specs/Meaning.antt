@@ -1,4 +1,4 @@
--- What items mean to a receiver: what is built of them, or all that is wrong with them.
+-- What items mean to a receiver, and the entries of attributes: what is built of them, or all that is wrong with them.
 use Rattle.std.specs.Prelude.{Bool, true, false, ◌||◌, cond, List, [], ◌∷◌, ◌++◌, map, flat_map, Option, Some, None, codes}
 use Rattle.base_core.specs.declared.text.Text.{Text}
 use Rattle.error_fault.specs.declared.fault.Fault.{Fault}
@@ -8,6 +8,9 @@ use Rattle.error_fault.specs.Kind.{set_of}
 use Rattle.error_fault.specs.Outcome.{Outcome, Value, refused, settle}
 use Rattle.meta_nested.specs.Nodes.{nested_span}
 use Rattle.meta_nested.specs.declared.nested.NestedMeta.{NestedMeta}
+use Rattle.meta_entries.specs.Entries.{items}
+use Rattle.meta_entries.specs.declared.entry.Entry.{Entry}
+use Rattle.meta_entries.specs.declared.entry.Entry.TheVariants as entry
 use Rattle.receive_core.specs.Names.{is_among, is_named, item_name, own}
 use Rattle.receive_core.specs.Checks.{Checks, FlatChecks, flat_faults}
 use Rattle.receive_core.specs.Schema.{Schema}
@@ -33,11 +36,12 @@ abbrev pub item_faults : List Checks → Bool → List NestedMeta → NestedMeta
 item_faults fields has_flat before item =
     named_faults (names_of fields) has_flat item (item_name item) (flat_map (field_faults before item) fields)
 
--- the faults of all items in order, each behind those before it
-abbrev pub all_item_faults : List Checks → Bool → List NestedMeta → List NestedMeta → List Fault
-all_item_faults fields has_flat before [] = []
-all_item_faults fields has_flat before (item ∷ items) =
-    item_faults fields has_flat before item ++ all_item_faults fields has_flat (before ++ item ∷ []) items
+-- the faults of all entries in order: those of each item behind the items before it, and those that stand in the place of items
+abbrev pub all_entry_faults : List Checks → Bool → List NestedMeta → List Entry → List Fault
+all_entry_faults fields has_flat before [] = []
+all_entry_faults fields has_flat before (entry.Item item ∷ entries) =
+    item_faults fields has_flat before item ++ all_entry_faults fields has_flat (before ++ item ∷ []) entries
+all_entry_faults fields has_flat before (entry.Fault fault ∷ entries) = fault ∷ all_entry_faults fields has_flat before entries
 
 -- the faults of missing fields, in the order of the fields
 abbrev pub missing_faults : List Checks → List NestedMeta → List Fault
@@ -47,17 +51,21 @@ abbrev pub has_flat : List FlatChecks → Bool
 has_flat [] = false
 has_flat (faults ∷ flattened) = true
 
--- all that is wrong: the faults of the items, those of the flattened fields, and those of missing fields
-abbrev pub faults_in : {A : Type 0} → Schema A → List NestedMeta → List Fault
-faults_in schema items =
-    all_item_faults schema.fields (has_flat schema.flattened) [] items
-    ++ (flat_faults schema.flattened [] items ++ missing_faults schema.fields items)
+-- all that is wrong: the faults of the entries, those of the flattened fields, and those of missing fields
+abbrev pub faults_in : {A : Type 0} → Schema A → List Entry → List Fault
+faults_in schema entries =
+    all_entry_faults schema.fields (has_flat schema.flattened) [] entries
+    ++ (flat_faults schema.flattened [] (items entries) ++ missing_faults schema.fields (items entries))
 
 -- the value; the schema's law rules out that nothing is built where nothing is wrong
 abbrev pub built : {A : Type 0} → Option A → Outcome A
 built None = refused (Custom (codes "no value"))
 built (Some value) = Value value
 
--- all that is wrong with the items, else what is built of them
+-- all that is wrong with the entries, else what is built of their items
+abbrev pub entry_meaning : {A : Type 0} → Schema A → List Entry → Outcome A
+entry_meaning schema entries = settle (faults_in schema entries) (built (schema.value [] (items entries)))
+
+-- what items mean that stand among no faults
 abbrev pub meaning : {A : Type 0} → Schema A → List NestedMeta → Outcome A
-meaning schema items = settle (faults_in schema items) (built (schema.value [] items))
+meaning schema items = entry_meaning schema (map entry.Item items)

@@ -9,7 +9,7 @@ use Rattle.meta_nested.specs.Cells.{Cells}
 use Rattle.meta_nested.specs.Dispatch.{from_nested_meta, from_none}
 use Rattle.meta_nested.specs.declared.nested.NestedMeta.{NestedMeta}
 use Rattle.receive_core.specs.Names.{own}
-use Rattle.receive_core.specs.Checks.{AreClear, Checks, FlatChecks, IsClear, applied, flat_faults, missing_by, single_checks, single_value}
+use Rattle.receive_core.specs.Checks.{AreClear, Checks, FlatChecks, IsClear, applied, flat_faults, missing_by, single_checks, single_faults, single_missing, single_value}
 
 pub both_empty : {A : Type 0} (xs ys : List A) → xs ++ ys ≡ [] → (xs ≡ []) × (ys ≡ [])
 both_empty [] ys is = (refl, is)
@@ -29,6 +29,7 @@ module _ {A : Type 0} (cells : Cells A) (name : Text) where
   read_is_some (Faults fault others) more is = absurd (cc is)
 
   pub single_is_some : (own_items : List NestedMeta) → IsClear (single_checks cells name) own_items → IsSome (single_value cells own_items)
+  unfolding single_value single_faults single_missing
   single_is_some [] is = none_is_some (from_none cells) is.1
   single_is_some (item ∷ more) is = read_is_some (from_nested_meta cells item) _ is.0
 

@@ -10,6 +10,8 @@ use Rattle.meta_nested.specs.Cells.{Cells}
 use Rattle.meta_nested.specs.Dispatch.{from_nested_meta}
 use Rattle.meta_nested.specs.Nodes.{nested_span}
 use Rattle.meta_nested.specs.declared.nested.NestedMeta.{NestedMeta}
+use Rattle.meta_entries.specs.declared.entry.Entry.{Entry}
+use Rattle.meta_entries.specs.declared.entry.Entry.TheVariants as entry
 use Rattle.receive_core.specs.Names.{is_named, item_name}
 use Rattle.receive_core.specs.Checks.{Checks, label, value_list}
 use Rattle.receive_core.specs.Meaning.{named_faults}
@@ -66,12 +68,24 @@ at_number number faults = get_or faults number []
 abbrev pub faults_at : List (List (List Fault)) → ℕ → List Fault
 faults_at item_faults number = flat_map (at_number number) item_faults
 
--- the faults of these items, which stand from this number on
-abbrev pub faults_from : List Text → Bool → List (List (List Fault)) → ℕ → List NestedMeta → List Fault
-faults_from names has_flat item_faults number [] = []
-faults_from names has_flat item_faults number (item ∷ items) =
-    named_faults names has_flat item (item_name item) (faults_at item_faults number) ++ faults_from names has_flat item_faults (suc number) items
+-- the faults of an entry, whose item has this number
+abbrev pub entry_faults_at : List Text → Bool → List (List (List Fault)) → ℕ → Entry → List Fault
+entry_faults_at names has_flat item_faults number (entry.Item item) =
+    named_faults names has_flat item (item_name item) (faults_at item_faults number)
+entry_faults_at names has_flat item_faults number (entry.Fault fault) = fault ∷ []
 
--- all faults
-abbrev pub end_faults : FieldReader → List Fault
-end_faults reader = faults_from reader.names reader.has_flat reader.item_faults zero reader.items.now ++ (reader.flat_faults ++ reader.missing)
+-- the number of the first item behind an entry
+abbrev pub number_behind : ℕ → Entry → ℕ
+number_behind number (entry.Item item) = suc number
+number_behind number (entry.Fault fault) = number
+
+-- the faults of these entries, whose items have the numbers from this one on
+abbrev pub faults_from : List Text → Bool → List (List (List Fault)) → ℕ → List Entry → List Fault
+faults_from names has_flat item_faults number [] = []
+faults_from names has_flat item_faults number (it ∷ entries) =
+    entry_faults_at names has_flat item_faults number it ++ faults_from names has_flat item_faults (number_behind number it) entries
+
+-- all faults, those of the items in their places among the entries
+abbrev pub end_faults : FieldReader → List Entry → List Fault
+end_faults reader entries =
+    faults_from reader.names reader.has_flat reader.item_faults zero entries ++ (reader.flat_faults ++ reader.missing)

@@ -3,6 +3,7 @@
 ghost use Rattle.std.specs.Prelude.{◌≡◌, ◌++◌, [], false, IfOk, IsSome, OnOk, map, option_map};
 ghost use Rattle.error_core.specs.Answers.{Answers};
 ghost use Rattle.error_core.specs.ErrorView.{held};
+ghost use Rattle.meta_entries.specs.declared.entry.Entry.TheVariants as entry;
 ghost use Rattle.error_fault.specs.Outcome.{faults_of, settle, value_of};
 ghost use Rattle.receive_core.specs.Checks as spec;
 ghost use Rattle.receive_core.specs.Meaning.{built};
@@ -11,12 +12,13 @@ ghost use Rattle.receive_core.specs.Reading.{after_field, after_flat};
 ghost use Rattle.receive_core.specs.Schema.{flat_outcome};
 ghost use Rattle.receive_core.specs.Steps.{after_items, end_faults, slot_of, slot_seen};
 
-use crate::collect::{collect_items, push_all};
+use crate::collect::{collect_entries, collect_items};
 use crate::items::{read_multiple, read_single, sibling_faults, unclaimed};
 use base_core::{Items, Mem, Text};
 use error_core::{Accumulator, Error, Fail, Result};
 use error_fault::Fault;
 use meta_core::FromMeta;
+use meta_entries::Entry;
 use meta_nested::NestedMeta;
 use std::alloc::Global;
 
@@ -60,8 +62,10 @@ impl<'a> FieldReader<'a> {
 
     /// The value of the one item of this name. Without an item the field is missing, unless the type has a value for that, as
     /// `Option` and `Flag` have. Each item behind the first is a duplicate.
+    #[tactic(auto, unfolding(crate::specs::Checks::single_value, crate::specs::Checks::single_missing))]
     pub fn single<T: FromMeta + Drop>(&mut self, name: &str) -> Mem<Option<T>>
         ensures reads { OnOk result (self.new ≡ after_field self.old (spec.single_checks T.cells name.now)) }
+        ensures items { OnOk result (self.new.items.now ≡ self.old.items.now) }
         ensures value { IfOk result (λ found. option_map T.seen found
             ≡ spec.single_value T.cells (own name.now self.old.items.now)) }
     {
@@ -79,8 +83,10 @@ impl<'a> FieldReader<'a> {
 
     /// As [`single`](FieldReader::single), but no item is no fault: `.unwrap_or(3)` behind the call is a default. Where the
     /// item has no value, the default stands in for it, and the item's faults are kept.
+    #[tactic(auto, unfolding(crate::specs::Checks::optional_value))]
     pub fn optional<T: FromMeta + Drop>(&mut self, name: &str) -> Mem<Option<T>>
         ensures reads { OnOk result (self.new ≡ after_field self.old (spec.optional_checks T.cells name.now)) }
+        ensures items { OnOk result (self.new.items.now ≡ self.old.items.now) }
         ensures value { IfOk result (λ found. option_map T.seen found
             ≡ spec.optional_value T.cells (own name.now self.old.items.now)) }
     {
@@ -93,6 +99,7 @@ impl<'a> FieldReader<'a> {
     /// The values of all items of this name, in order. A fault stands in the field `name[k]`, where `k` values stand before it.
     pub fn multiple<T: FromMeta + Drop>(&mut self, name: &str) -> Mem<Items<T>>
         ensures reads { OnOk result (self.new ≡ after_field self.old (spec.multiple_checks T.cells name.now)) }
+        ensures items { OnOk result (self.new.items.now ≡ self.old.items.now) }
         ensures value { IfOk result (λ found. map T.seen found
             ≡ spec.values T.cells (own name.now self.old.items.now)) }
     {
@@ -109,6 +116,7 @@ impl<'a> FieldReader<'a> {
     /// alternatives too.
     pub fn flatten<T: FromMeta + Drop>(&mut self) -> Mem<Option<T>>
         ensures reads { OnOk result (self.new ≡ after_flat self.old (faults_of (flat_outcome T.cells self.old.names self.old.items.now))) }
+        ensures items { OnOk result (self.new.items.now ≡ self.old.items.now) }
         ensures value { IfOk result (λ found. option_map T.seen found
             ≡ value_of (flat_outcome T.cells self.old.names self.old.items.now)) }
     {
@@ -140,24 +148,55 @@ impl<'a> FieldReader<'a> {
 
     /// The value, where nothing was found wrong; else all faults.
     pub(crate) fn finish<T: Drop>(self, found: Option<T>) -> Result<T>
-        requires { end_faults self ≡ [] → IsSome found }
-        ensures { Answers (λ value. value) result (settle (end_faults self.entry) (built found)) }
+        requires { end_faults self (map entry.Item self.items.now) ≡ [] → IsSome found }
+        ensures { Answers (λ value. value) result
+            (settle (end_faults self.entry (map entry.Item self.entry.items.now)) (built found)) }
     {
-        let alloc = self.alloc;
-        let mut errors = Error::accumulator(alloc);
-        match self.collect(&mut errors) {
-            Ok(()) => match found {
-                Some(value) => errors.finish_with(value),
-                None => {
-                    errors.finish()?;
-                    unreachable!()
-                }
-            },
-            Err(_) => {
-                drop(errors.into_inner());
-                Err(Fail::NoMemory)
-            }
-        }
+        let mut faults = Items::new(self.alloc);
+        collect_items(
+            self.alloc,
+            self.items,
+            self.names.as_slice(),
+            self.has_flat,
+            self.item_faults.as_slice(),
+            &mut faults,
+        )?;
+        self.finish_behind(faults, found)
+    }
+
+    /// As [`finish`](FieldReader::finish), of the items among these entries: each fault stands in its place among theirs.
+    pub(crate) fn finish_among<T: Drop>(self, entries: &[Entry], found: Option<T>) -> Result<T>
+        requires { end_faults self entries.now ≡ [] → IsSome found }
+        ensures { Answers (λ value. value) result (settle (end_faults self.entry entries.now) (built found)) }
+    {
+        let mut faults = Items::new(self.alloc);
+        collect_entries(
+            self.alloc,
+            entries,
+            self.names.as_slice(),
+            self.has_flat,
+            self.item_faults.as_slice(),
+            &mut faults,
+        )?;
+        self.finish_behind(faults, found)
+    }
+
+    /// The value, where nothing was found wrong; else these faults, then those of the flattened field and of missing fields.
+    fn finish_behind<T: Drop>(self, faults: Items<Fault>, found: Option<T>) -> Result<T>
+        requires { faults ++ (self.flat_faults ++ self.missing) ≡ [] → IsSome found }
+        ensures { Answers (λ value. value) result
+            (settle (faults ++ (self.entry.flat_faults ++ self.entry.missing)) (built found)) }
+    {
+        let FieldReader {
+            alloc,
+            flat_faults,
+            missing,
+            ..
+        } = self;
+        let mut faults = faults;
+        faults.append(flat_faults)?;
+        faults.append(missing)?;
+        answer(alloc, faults, found)
     }
 
     /// The names that were asked for.
@@ -167,20 +206,36 @@ impl<'a> FieldReader<'a> {
         let FieldReader { names, .. } = self;
         names
     }
+}
 
-    /// Puts all faults behind the errors: those of the items in order, of the flattened field, and of missing fields.
-    fn collect(&self, errors: &mut Accumulator) -> Mem<()>
-        ensures { OnOk result (held errors.new ≡ held errors.old ++ end_faults self.now) }
-    {
-        collect_items(
-            self.alloc,
-            self.items,
-            self.names.as_slice(),
-            self.has_flat,
-            self.item_faults.as_slice(),
-            errors,
-        )?;
-        push_all(self.alloc, self.flat_faults.as_slice(), errors)?;
-        push_all(self.alloc, self.missing.as_slice(), errors)
+/// The value, where there is no fault; else all of them as one error.
+fn answer<T: Drop>(alloc: Global, faults: Items<Fault>, found: Option<T>) -> Result<T>
+    requires { faults ≡ [] → IsSome found }
+    ensures { Answers (λ value. value) result (settle faults (built found)) }
+{
+    let mut errors = Error::accumulator(alloc);
+    match push_all(alloc, faults, &mut errors) {
+        Ok(()) => match found {
+            Some(value) => errors.finish_with(value),
+            None => {
+                errors.finish()?;
+                unreachable!()
+            }
+        },
+        Err(_) => {
+            drop(errors.into_inner());
+            Err(Fail::NoMemory)
+        }
     }
+}
+
+/// Puts the faults behind the errors, each as an error of its own.
+#[tactic(auto, using(crate::proofs::ErrorLemmas::pushed))]
+fn push_all(alloc: Global, faults: Items<Fault>, errors: &mut Accumulator) -> Mem<()>
+    ensures { OnOk result (held errors.new ≡ held errors.old ++ faults) }
+{
+    for fault in faults.into_vec() {
+        errors.push(alloc, Error::from_fault(alloc, fault)?)?;
+    }
+    Ok(())
 }

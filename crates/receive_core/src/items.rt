@@ -4,6 +4,7 @@ ghost use Rattle.std.specs.Prelude.{◌≡◌, ◌++◌, [], None, IfOk, OnOk, m
 ghost use Rattle.error_core.specs.Answers.{Fails};
 ghost use Rattle.error_fault.specs.Faults.{at};
 ghost use Rattle.error_fault.specs.Outcome.{Outcome, faults_of, value_of, with_siblings};
+ghost use Rattle.meta_entries.specs.Entries as spec_entries;
 ghost use Rattle.receive_core.specs.Checks as spec;
 ghost use Rattle.receive_core.specs.Names as by_name;
 ghost use Rattle.receive_core.specs.Reading.{faults_by_item};
@@ -13,6 +14,7 @@ use base_core::{Items, Mem, Text, TryClone};
 use error_core::Fail;
 use error_fault::Fault;
 use meta_core::FromMeta;
+use meta_entries::Entry;
 use meta_nested::NestedMeta;
 use node_make::path_to_string;
 use node_span::Spanned;
@@ -67,6 +69,7 @@ fn take_single<T: FromMeta + Drop>(
 }
 
 /// Puts the values of the items of the name behind the others; the faults of each item.
+#[tactic(auto, unfolding(crate::specs::Checks::values))]
 pub(crate) fn read_multiple<T: FromMeta + Drop>(
     alloc: Global,
     name: &str,
@@ -167,6 +170,19 @@ pub(crate) fn sibling_faults<T: FromMeta>(
             .into_faults(alloc),
         None => Err(AllocError),
     }
+}
+
+/// Copies of the items among the entries, in order: a reader of fields has all of them in one slice.
+pub(crate) fn items_among(alloc: Global, entries: &[Entry]) -> Mem<Items<NestedMeta>>
+    ensures { IfOk result (λ items. items ≡ spec_entries.items entries.now) }
+{
+    let mut items = Items::new(alloc);
+    for entry in entries {
+        if let Entry::Item(item) = entry {
+            items.push(item.try_clone(alloc)?)?;
+        }
+    }
+    Ok(items)
 }
 
 /// Copies of the items of none of the names, in order.

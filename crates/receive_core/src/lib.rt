@@ -2,7 +2,8 @@
 //! one pass.
 //!
 //! A [`Receiver`] asks a [`FieldReader`] for one field after another. [`Receiver::from_items`] then tells the faults in the
-//! order of the items, and those of missing fields behind them, as a derived parser does.
+//! order of the items, and those of missing fields behind them, as a derived parser does; [`Receiver::from_attributes`] reads the
+//! items of all attributes of some names so.
 #![tactic(auto)]
 
 mod collect;
@@ -14,4 +15,5 @@ pub use base_core::{Items, Mem, Text};
 pub use error_core::{Error, Fail, Result};
 pub use fields::FieldReader;
 pub use meta_core::{Call, FromMeta, NestedMeta, items_of};
+pub use node_core::Attribute;
 pub use receiver::{Nested, Receiver};

@@ -13,6 +13,6 @@ pub use attribute::{doc_of, printed_as, rename};
 pub use fail::TextFail;
 pub use faults::named_fields;
 pub use fields::{fields_of, names_of};
-pub use lint::{Lint, lint_of};
+pub use lint::{Lint, lint_of, lint_of_attributes};
 pub use texts::{item_of, nested_items_of, type_of};
 pub use verbosity::{Verbosity, verbosity_of};

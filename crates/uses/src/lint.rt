@@ -1,10 +1,12 @@
 //! A receiver of several fields.
 
+ghost use Rattle.std.specs.Prelude.{[], ◌∷◌, codes};
 ghost use Rattle.meta_core.specs.Answers.{Answers};
-ghost use Rattle.receive_core.specs.Meaning.{meaning};
+ghost use Rattle.receive_core.specs.Entries.{named_entries};
+ghost use Rattle.receive_core.specs.Meaning.{entry_meaning, meaning};
 ghost use Rattle.uses.specs.Lint.{lint_schema};
 
-use receive_core::{FieldReader, Items, Mem, NestedMeta, Receiver, Result, Text};
+use receive_core::{Attribute, FieldReader, Items, Mem, NestedMeta, Receiver, Result, Text};
 use std::alloc::Global;
 
 /// `#[lint(name = "..", allow = "..", allow = "..", level = 5)]`
@@ -44,4 +46,12 @@ pub fn lint_of(alloc: Global, items: &[NestedMeta]) -> Result<Lint>
     ensures { Answers (λ lint. lint) result (meaning lint_schema items.now) }
 {
     Lint::from_items(alloc, items)
+}
+
+/// The lint that the attributes `#[lint(..)]` are together, or all that is wrong with them.
+pub fn lint_of_attributes(alloc: Global, attributes: &[Attribute]) -> Result<Lint>
+    ensures { Answers (λ lint. lint) result (entry_meaning lint_schema (named_entries (codes "lint" ∷ []) attributes.now)) }
+{
+    let names = Items::of(alloc, Text::from_str(alloc, "lint")?)?;
+    Lint::from_attributes(alloc, names.as_slice(), attributes)
 }
