@@ -1,3 +1,4 @@
+pub mod Types
 pub use Rattle.machine_execute.specs.Elements
 pub use Rattle.machine_execute.specs.Outcome
 pub use Rattle.machine_fit.specs.Answer
@@ -18,11 +19,13 @@ pub use Rattle.machine_fit.specs.Refusals
 pub use Rattle.machine_execute.specs.Setting
 pub use Rattle.machine_execute.specs.State
 pub use Rattle.machine_execute.specs.Statements
-pub use Rattle.machine_fit.specs.Types
+pub use Rattle.machine_fit.specs.Types as PlaceTypes
 pub use Rattle.machine_fit.specs.Unfitness
 pub use Rattle.machine_fit.specs.Units
-pub use Rattle.machine_execute.specs.HostSays
-pub use Rattle.machine_execute.specs.Lawful
-pub use Rattle.machine_execute.specs.MachineHostSeen as Seen
+pub use Rattle.machine_host.specs as host
+pub use Rattle.machine_host.proofs.Fitting as FittingLemmas
+pub use Rattle.machine_host.proofs.Values as ValueLemmas
+pub use Rattle.machine_rows.specs as rows
+pub use Rattle.machine_std.specs.Functions as StdFunctions
 pub use Rattle.machine_std.specs.StdLaws
 pub use Rattle.machine_std.specs.StdSays

@@ -40,7 +40,7 @@ use Rattle.machine_host.specs.Made.{named_type}
 use Rattle.machine_host.specs.declared.place.Place.{Place}
 use Rattle.machine_host.specs.declared.place.Use.{Use}
 use Rattle.machine_std.specs.Defaults.{decl_default, declared_in, default_among, default_below, default_in, each_of, member_default, named_in, named_of, none_of_host, struct_default, type_default, with_first}
-use Rattle.machine_std.specs.Functions.{chosen, head_leaf, layer_path, leaf_in, offer_by, offer_for, offered_at, path_in}
+use Rattle.machine_std.specs.Functions.{chosen, head_leaf, is_function, is_path_of, layer_path, leaf_in, offer_by, offer_for, offered_at, path_in}
 use Rattle.machine_std.specs.StdSays.{is_tag, taken}
 use Rattle.machine_std.proofs.Heads.{are_bare-bare, bared_head, head_of-bare, path_text-bare, segments_in-bare}
 use Rattle.machine_std.proofs.Nodes.{opened_expr, opened_expr_path}
@@ -92,6 +92,13 @@ offer_by-bare at (Some path) (Some it) = ap (λ text. chosen text it (offered_at
 pub call-bare : (call : Option (Bor Callable)) → option_and_then path_in (erased_call call) ≡ option_map erased_path (option_and_then path_in (option_copied call))
 call-bare None = refl
 call-bare (Some it) = path_in-bare it.now
+
+is_path_of-bare : (name : Text) (path : Option Path) → is_path_of name (option_map erased_path path) ≡ is_path_of name path
+is_path_of-bare name None = refl
+is_path_of-bare name (Some path) = ap (bytes_eq name) (path_text-bare path)
+
+pub is_function-bare : (name : Text) (call : Option (Bor Callable)) → is_function name (erased_call call) ≡ is_function name (option_copied call)
+is_function-bare name call = ap (is_path_of name) (call-bare call) ∙ is_path_of-bare name (option_and_then path_in (option_copied call))
 
 pub offer_for-bare : (decls : List DeriveInput) (call : Option (Bor Callable)) (place : Place) → offer_for (erased_decls decls) (erased_call call) (erased_place place) ≡ offer_for decls (option_copied call) place
 offer_for-bare decls call place =

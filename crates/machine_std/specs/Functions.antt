@@ -129,6 +129,14 @@ layer_path _ = None
 abbrev pub path_in : Callable → Option Path
 path_in callable = layer_path (out-Expr callable.call)
 
+abbrev pub is_path_of : Text → Option Path → Bool
+is_path_of name (Some path) = bytes_eq name (path_text path)
+is_path_of name None = false
+
+-- the callable is the function of this path, as `text::trim`
+abbrev pub is_function : Text → Option Callable → Bool
+is_function name call = is_path_of name (option_and_then path_in call)
+
 abbrev pub head_leaf : Head Type' → Option Leaf
 head_leaf (head.Leaf it) = Some it
 head_leaf _ = None

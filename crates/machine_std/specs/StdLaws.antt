@@ -145,7 +145,8 @@ proper_in Here There Absent f (said.Given it) h = f it h
 proper_in Here There Absent f said.Absent h = h
 proper_in Here There Absent f (said.Faults fault more) h = tt
 
-leaf_fits_type : (decls : List DeriveInput) (ty : Type') (kind : Leaf) → leaf_in decls ty ≡ Some kind → (it : Datum) → FitsLeaf kind it → Fits decls ty it
+-- what fits a type of the table fits a type that is it
+pub leaf_fits_type : (decls : List DeriveInput) (ty : Type') (kind : Leaf) → leaf_in decls ty ≡ Some kind → (it : Datum) → FitsLeaf kind it → Fits decls ty it
 leaf_fits_type decls ty kind e it h =
     inl (fits_at (FitsAmong decls) (row_of (decl_names decls) ty) (row.Leaf kind) (Row-F.Leaf kind) it (row_of-leaf (decl_names decls) ty kind e) (row.rolls-Leaf kind) h)
 

@@ -52,7 +52,7 @@ pub fn function_for(
 }
 
 /// The path that the callable is, where no type stands in front.
-fn path_in(callable: &Callable) -> Option<&Path>
+pub fn path_in(callable: &Callable) -> Option<&Path>
     ensures { option_copied result ≡ spec.path_in callable.now }
 {
     match &callable.call {
@@ -62,7 +62,7 @@ fn path_in(callable: &Callable) -> Option<&Path>
 }
 
 /// The type of the table that the type is.
-fn leaf_in(decls: &[DeriveInput], ty: &Type) -> Option<Leaf>
+pub fn leaf_in(decls: &[DeriveInput], ty: &Type) -> Option<Leaf>
     ensures { result ≡ spec.leaf_in decls.now ty.now }
 {
     match head_of(&decls, ty) {

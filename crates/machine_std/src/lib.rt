@@ -1,9 +1,10 @@
 //! The host of the program: the type `Tag`, the defaults of declarations, and the functions that options name.
 //!
 //! [`StdHost`] is the host. What it answers to each call stands in one record, `std_says`, of which the table of
-//! functions is a part.
+//! functions is a part. A host of one's own asks [`is_function`] and [`leaf_of`] what it is handed.
 #![tactic(auto)]
 
+mod asked;
 mod function;
 mod has_default;
 mod make_default;
@@ -13,4 +14,5 @@ mod std_host;
 mod tag;
 mod texts;
 
+pub use asked::{is_function, leaf_of};
 pub use std_host::StdHost;

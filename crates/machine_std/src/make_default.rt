@@ -28,7 +28,7 @@ pub const MAX_LEVEL: usize = 256;
 
 /// How deep a default may be, in levels of types and of declarations. A deeper one is as a want of memory: neither
 /// its making nor its drop would find room on the stack.
-pub const ROOM: usize = 4096;
+pub const ROOM: usize = 1024;
 
 /// The named fields of a struct. Nothing else has a default.
 pub fn named_in(decl: &DeriveInput) -> Option<&[Field]>

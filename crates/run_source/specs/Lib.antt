@@ -11,11 +11,13 @@ pub use Rattle.law_options.specs.Form
 pub use Rattle.law_options.specs.HostSays
 pub use Rattle.law_options.specs.InputField
 pub use Rattle.law_options.specs.Members
+pub use Rattle.law_options.specs.Places
 pub use Rattle.law_options.specs.Rows
 pub use Rattle.law_options.specs.Stages
 pub use Rattle.law_options.specs.Table
 pub use Rattle.law_options.specs.Values
 pub use Rattle.law_options.specs.Walk
 pub use Rattle.run_accepted.specs.Accepted
+pub use Rattle.run_accepted.specs.Unbuilt
 pub use Rattle.run_accepted.specs.declared.error.RunError
 pub use Rattle.run_accepted.specs.declared.rejected.Rejected

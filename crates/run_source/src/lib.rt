@@ -11,11 +11,11 @@ mod run;
 mod source;
 mod units;
 
-pub use law_options::{Form, Host, RefusingHost, RenameTable, TableFail};
+pub use law_options::{Form, Host, RefusingHost, RenameTable, TableFail, earliest};
 pub use laws::{an_accepted_program_fits, an_accepted_program_is_meant};
 pub use machine_execute::Outcome;
 pub use report::Report;
 pub use run::run_program;
-pub use run_accepted::{Rejected, RunError, accepted};
+pub use run_accepted::{Rejected, RunError, accepted, unbuilt};
 pub use source::run_source;
 pub use units::receiver;

@@ -1,0 +1,2 @@
+pub mod VersionHost
+pub mod Run
