@@ -1,0 +1,10 @@
+pub mod Left
+pub mod Runs
+pub mod Bare
+pub mod Order
+pub mod Compiled
+pub mod Accepted
+pub mod Slots
+pub mod Members
+pub mod Owned
+pub mod Rows

@@ -1,0 +1,111 @@
+-- A unit that options give is of the declaration of its number.
+use Rattle.std.proofs.Common.{◌≡◌, ◌∙◌, ◌<◌, ◌^◌, ℕ, Bool, true, false, if◌then◌else◌, [], ◌∷◌, flat_map, length, map, Option, Some, None, refl, sym, ap, subst}
+use Rattle.std.specs.Prelude.{IfSome}
+use Rattle.std.specs.Option.{option_copied}
+use Rattle.std.proofs.lemmas.List.{length-map}
+use Rattle.std.proofs.lemmas.List.Elements.{All-from_recursion}
+use mathlib.Core.List.{map-map}
+use Rattle.node_expr.specs.declared.path.Path.{Path}
+use Rattle.node_core.specs.declared.data.Fields.{Fields}
+use Rattle.node_core.specs.declared.data.Fields.TheVariants as fields
+use Rattle.node_core.specs.declared.data.«Data».{«Data»}
+use Rattle.node_core.specs.declared.data.«Data».TheVariants as body
+use Rattle.node_core.specs.declared.derive.DeriveInput.{DeriveInput}
+use Rattle.codegen_program.specs.declared.program.Derive.{Derive}
+use Rattle.codegen_program.specs.declared.program.Derive.TheVariants as derive
+use Rattle.codegen_program.specs.declared.program.Func.{Func}
+use Rattle.codegen_program.specs.declared.program.«Unit».{«Unit» as Unit'}
+use Rattle.codegen_core.specs.Compiled.{fields_of as left_fields, is_usual, other_krate, unit_with}
+use Rattle.codegen_core.specs.declared.trait_impl.TraitImpl.{TraitImpl}
+use Rattle.node_core.specs.Bodies.{field_list}
+use Rattle.law_options.specs.Body.{start_body, with_fields}
+use Rattle.law_options.specs.Core.{Core}
+use Rattle.law_options.specs.Members.{fields_of}
+use Rattle.law_options.specs.Stages.{container_options, fdi_reader, field_faults, good_fields, meta_reader, options_of}
+use Rattle.law_options.specs.Values.{Rules}
+use Rattle.run_accepted.specs.Attributes.{body_without, field_without, fields_without, generics_without, without_attributes}
+use Rattle.run_accepted.specs.Compiled.{IsUnitUnder}
+use Rattle.run_accepted.specs.Pairs.{faults_under}
+use Rattle.run_accepted.specs.Views.{IsImpl}
+use Rattle.run_accepted.proofs.ListLemmas.{at_place}
+use Rattle.law_given.specs.Claims.{GivenIsOfDeclarations}
+use Rattle.law_given.specs.Given.{HasFewFields, IsGivenUnit}
+use Rattle.law_given.specs.Owned.{IsOfDeclaration, member_of, numbered, slots_of}
+use Rattle.law_given.proofs.Members.{no_field_faults, struct_members}
+use Rattle.law_given.proofs.Runs.{left_at}
+use Rattle.law_given.proofs.Slots.{input_slots, left_member, list_slots}
+
+-- ---- fields without attributes
+
+listed_bare : (it : Fields) → field_list (fields_without it) ≡ map field_without (field_list it)
+listed_bare (fields.Named it) = refl
+listed_bare (fields.Unnamed it) = refl
+listed_bare fields.Unit = refl
+
+fields_bare : (it : «Data») → fields_of (body_without it) ≡ map field_without (fields_of it)
+fields_bare (body.Struct it) = listed_bare it.fields
+fields_bare (body.Enum it) = refl
+fields_bare (body.Union it) = refl
+
+members_bare : (it : «Data») → map member_of (fields_of (body_without it)) ≡ map member_of (fields_of it)
+members_bare it = ap (map member_of) (fields_bare it) ∙ map-map member_of field_without (fields_of it)
+
+few_bare : (it : «Data») → length (fields_of it) < 2 ^ 32 → length (fields_of (body_without it)) < 2 ^ 32
+few_bare it few = subst (λ n. n < 2 ^ 32) (sym (ap length (fields_bare it) ∙ length-map (fields_of it) field_without)) few
+
+-- ---- the path to `darling`
+
+unusual_if : (path : Path) (usual : Bool) → is_usual path ≡ usual → IfSome (if usual then None else Some path) (λ it. is_usual it ≡ false)
+unusual_if path true is = tt
+unusual_if path false is = is
+
+unusual : (krate : Option Path) → IfSome (other_krate krate) (λ it. is_usual it ≡ false)
+unusual None = tt
+unusual (Some path) = unusual_if path (is_usual path) refl
+
+-- ---- units
+
+module _ (rules : Rules) (decl : DeriveInput) (few : HasFewFields decl) where
+  -- a unit that is compiled from all that the options of the declaration leave
+  unit_owned : (core whole : Core) (left : TraitImpl) (number : ℕ) (it : Derive) (parse : Bool) (func : Func) → IsImpl left whole
+      → whole.ident ≡ decl.ident → whole.generics ≡ decl.generics
+      → whole.body ≡ with_fields (start_body decl.body) (good_fields rules core (fields_of decl.body))
+      → flat_map (field_faults rules core) (fields_of decl.body) ≡ [] → slots_of func ≡ numbered (map left_member (left_fields left))
+      → IsOfDeclaration (without_attributes decl) (unit_with number it left parse (func ∷ []))
+  unit_owned core whole left number it parse func is ident generics same none slots =
+      let members = struct_members rules core decl.body left whole is same none ∙ sym (members_bare decl.body) in
+      record {
+        ident = is.ident ∙ ident;
+        generics = ap generics_without (is.generics ∙ generics);
+        slots =
+            All-from_recursion (λ func. slots_of func ≡ numbered (map member_of (fields_of (body_without decl.body)))) (func ∷ [])
+            (slots ∙ ap numbered members, tt);
+        few = few_bare decl.body few;
+        krate = unusual (option_copied left.krate);
+      }
+
+  owned : (number : ℕ) (it : Derive) (unit : Unit') → faults_under rules decl it ≡ [] → IsUnitUnder rules number decl it unit
+      → IsOfDeclaration (without_attributes decl) unit
+  owned number derive.FromMeta unit none (left, is, compiled) =
+      let set = container_options (meta_reader rules decl) decl in
+      let whole = (options_of (meta_reader rules decl) decl).base in
+      subst (IsOfDeclaration (without_attributes decl)) (sym compiled)
+      (unit_owned set.base whole left.base number derive.FromMeta left.derive_syn_parse _ is.base refl refl refl
+      (no_field_faults (meta_reader rules decl) decl none) (list_slots left.base))
+  owned number derive.FromDeriveInput unit none (left, is, compiled) =
+      let set = container_options (fdi_reader rules decl) decl in
+      let whole = (options_of (fdi_reader rules decl) decl).base.container in
+      subst (IsOfDeclaration (without_attributes decl)) (sym compiled)
+      (unit_owned set.base.container whole left.base number derive.FromDeriveInput false _ is.base refl refl refl
+      (no_field_faults (fdi_reader rules decl) decl none) (input_slots left))
+  owned number derive.FromAttributes unit none is = absurd is
+  owned number derive.FromField unit none is = absurd is
+  owned number derive.FromTypeParam unit none is = absurd is
+  owned number derive.FromVariant unit none is = absurd is
+
+pub given_is_of_declarations : GivenIsOfDeclarations
+given_is_of_declarations program number unit given at =
+    let is = at_place (IsGivenUnit program.decls) program.units number unit given.units at in (
+      left_at program number unit given at,
+      (without_attributes is.written, is.stands, owned is.rules is.written is.few unit.decl unit.derive unit is.faultless is.compiled),
+    )
