@@ -43,13 +43,14 @@ Status: 0 done, 2 usage, 3 refused, 4 read fault, 5 write fault, 6 out of memory
 const VERSION: &str = "darling 0.1.0\n";
 
 const NO_MEMORY_TEXT: &str = "\
-error: out of memory, or declarations are flattened into each other in more than 512 levels
+error: out of memory, or more than 512 declarations are flattened into each other, or a default is over 1,024 levels deep
 ";
 
-/// How many bytes of stack the deepest tree takes, and some more.
-const DEEPEST: usize = 2 << 20;
+/// How many bytes of stack the deepest run takes, and some more: that of 512 declarations that are flattened into each other takes some
+/// 4,300 kB. `bench/limits.sh` fails where a run takes more than this.
+const DEEPEST: usize = 5 << 20;
 
-/// Touches as much of the stack as the deepest tree takes. The pages stay, so that memory ends where a status tells
+/// Touches as much of the stack as the deepest run takes. The pages stay, so that memory ends where a status tells
 /// it, and not where a deep tree is dropped.
 #[inline(never)]
 fn take_stack(word_count: usize) -> bool {

@@ -12,8 +12,8 @@ use syn_core::{Data, DeriveInput, Fields, Ident, Items, parse_path};
 use tests_checks::{Tested, given, row_of, tokens};
 use tok_core::{MAX_LEN, TryClone, to_text};
 use uses::{
-    Lint, doc_of, fields_of, item_of, lint_of, named_fields, nested_items_of, printed_as, type_of,
-    verbosity_of,
+    Lint, doc_of, fields_of, item_of, lint_of, lint_of_attributes, named_fields, nested_items_of,
+    printed_as, type_of, verbosity_of,
 };
 
 fn refused(text: &str) -> Tested<Text> {
@@ -61,6 +61,7 @@ fn of_item(alloc: Global, kind: &str, item: &DeriveInput) -> Tested<Text> {
     match kind {
         "documentation" => Ok(doc_of(alloc, item.attrs.as_slice())?),
         "under another path" => renamed(alloc, item),
+        "lint of attributes" => lint_told(alloc, lint_of_attributes(alloc, item.attrs.as_slice())),
         _ => named(alloc, item),
     }
 }
@@ -127,7 +128,11 @@ fn lint(alloc: Global, text: &str) -> Tested<Text>
     let Ok(items) = nested_items_of(alloc, text) else {
         return refused(text);
     };
-    match lint_of(alloc, items.as_slice()) {
+    lint_told(alloc, lint_of(alloc, items.as_slice()))
+}
+
+fn lint_told(alloc: Global, answer: Result<Lint, Refusal>) -> Tested<Text> {
+    match answer {
         Ok(lint) => lint_text(alloc, &lint),
         Err(refusal) => fault_lines(alloc, refusal),
     }
@@ -163,18 +168,34 @@ fn lint_faults(alloc: Global, table: &str) -> Tested<()> {
     for row in table.lines() {
         let (items, faults) = row_of(row);
         let spaced = format!(in alloc; "       {items}")?;
-        let told = told(alloc, "lint", spaced.as_str())?;
-        if !told.is(lines_of(alloc, faults)?.as_str()) {
-            return Err(Fail::new(format_args!("{row}: {}", told.as_str())));
-        }
-        must_end(
-            alloc,
-            format!(in alloc; "{LINT}#[lint({items})] struct S;\n")?.as_str(),
-            0,
-            report_of(alloc, faults)?.as_str(),
-        )?;
+        has_faults(alloc, "lint", spaced.as_str(), faults)?;
+        let item = format!(in alloc; "#[lint({items})] struct S;")?;
+        tool_tells(alloc, item.as_str(), faults)?;
     }
     Ok(())
+}
+
+/// The attributes of each row's item have these faults, and the tool says the same of the item.
+fn attribute_faults(alloc: Global, table: &str) -> Tested<()> {
+    for row in table.lines() {
+        let (item, faults) = row_of(row);
+        has_faults(alloc, "lint of attributes", item, faults)?;
+        tool_tells(alloc, item, faults)?;
+    }
+    Ok(())
+}
+
+fn has_faults(alloc: Global, kind: &str, text: &str, faults: &str) -> Tested<()> {
+    let told = told(alloc, kind, text)?;
+    if told.is(lines_of(alloc, faults)?.as_str()) {
+        return Ok(());
+    }
+    Err(Fail::new(format_args!("{kind}, {text}: {}", told.as_str())))
+}
+
+fn tool_tells(alloc: Global, item: &str, faults: &str) -> Tested<()> {
+    let text = format!(in alloc; "{LINT}{item}\n")?;
+    must_end(alloc, text.as_str(), 0, report_of(alloc, faults)?.as_str())
 }
 
 /// What the tool writes of an item with these faults.
@@ -223,6 +244,17 @@ const LINT_FAULTS: &str =
 name = 5, name = "n" => 14..15 Unexpected type `int` at name / 17..27 Duplicate field `name`
 level = , level, allow => 13..14 expected an expression at level / 17..22 Duplicate field `level` / 24..29 Unexpected meta-item format `word` at allow[0] / - Missing field `name`"#;
 
+// The attributes of a lint are read as one list, whatever stands between them.
+const LINT_ATTRIBUTES: &str =
+    r#"#[lint(name = "n")] #[other(name = 1)] #[lint(allow = "a", level = 7)] struct S; => n,a;7
+#[lint] #[lint(allow = "b")] #[lint(name = "n", allow = "a")] struct S; => n,b,a;3"#;
+
+// What is wrong with an attribute stands in its place among the faults of the items.
+const ATTRIBUTE_FAULTS: &str =
+    r#"#[lint(name = 5)] #[lint = "x"] #[other(y)] #[lint(nam = "n", allow = "b")] #[lint(a b)] #[lint(name = "n", 3)] struct S; => 14..15 Unexpected type `int` at name / 20..30 Name-value arguments are not supported. Use #[lint(...)] / 51..60 Unknown field: `nam`. Available values: `allow`, `level`, `name` / 83..86 expected a meta list / 96..106 Duplicate field `name` / 108..109 Unexpected meta-item format `literal`
+#[lint = 1] #[lint(level = 300)] struct S; => 2..10 Name-value arguments are not supported. Use #[lint(...)] / 27..30 number too large to fit in target type at level / - Missing field `name`
+#[other(name = "n")] struct S; => - Missing field `name`"#;
+
 // The same receiver as a declaration.
 const LINT: &str = r#"#[derive(FromDeriveInput)]
 #[darling(attributes(lint))]
@@ -252,5 +284,7 @@ fn callers(rt: HostRuntime) -> Tested<()> {
     rows(alloc, "type", "&'a [Vec<T>; 8] => & 'a [Vec < T > ; 8]")?;
     rows(alloc, "level", LEVELS)?;
     rows(alloc, "lint", LINTS)?;
-    lint_faults(alloc, LINT_FAULTS)
+    lint_faults(alloc, LINT_FAULTS)?;
+    rows(alloc, "lint of attributes", LINT_ATTRIBUTES)?;
+    attribute_faults(alloc, ATTRIBUTE_FAULTS)
 }

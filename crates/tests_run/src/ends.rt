@@ -13,6 +13,11 @@ const TAKEN: usize = 8;
 
 const KEPT: usize = 4096;
 
+// What a row wants where nothing is written: there is no item, or no memory.
+const NOTHING: &str = "nothing";
+
+const NO_MEMORY: &str = "out of memory";
+
 /// The program's number and what is written, where the tool runs on `bytes` and the read and the
 /// write of these numbers fail.
 fn end_of(
@@ -58,11 +63,21 @@ pub fn rows(alloc: Global, tables: &[&str]) -> Tested<()> {
             let (given, wanted) = row_of(row);
             let input = input_of(alloc, given)?;
             let text = report_of(alloc, wanted)?;
-            let number = if wanted.starts_with("refused") { 3 } else { 0 };
-            must_end(alloc, input.as_str(), number, text.as_str())?;
+            must_end(alloc, input.as_str(), number_of(wanted), text.as_str())?;
         }
     }
     Ok(())
+}
+
+/// The program's number where the tool ends so.
+fn number_of(wanted: &str) -> u8 {
+    if wanted.starts_with("refused") {
+        3
+    } else if wanted == NO_MEMORY {
+        6
+    } else {
+        0
+    }
 }
 
 /// The input of a row: fields of a receiver and items, or all of its lines.
@@ -83,7 +98,7 @@ fn input_of(alloc: Global, given: &str) -> Tested<String> {
 /// The report of a row. A line of a fault begins with two spaces.
 fn report_of(alloc: Global, wanted: &str) -> Tested<String> {
     let mut report = String::new(alloc);
-    if wanted == "nothing" {
+    if wanted == NOTHING || wanted == NO_MEMORY {
         return Ok(report);
     }
     for line in wanted.split(" / ") {

@@ -60,7 +60,9 @@ const DEEP: &str =
     r#"#[derive(FromDeriveInput)] / #[darling(attributes(my))] / struct Opts {} / %% / #[a⟨127 (⟩⟨127 )⟩] struct S; => ok S Opts {}
 #[derive(FromDeriveInput)] / #[darling(attributes(my))] / struct Opts {} / %% / #[a⟨128 (⟩⟨128 )⟩] struct S; => refused: too deep in part 2 at 130
 " / %% / #[a⟨128 (⟩⟨128 )⟩] struct S; => refused: too deep in part 2 at 130
-#[derive(FromMeta)] struct D0 { x: u8 } ⟨98 #[derive(FromMeta)] struct D$ { #[darling(flatten)] a: D^ } ⟩#[derive(FromDeriveInput)] #[darling(attributes(my))] struct D99 { #[darling(flatten)] a: D98 } / %% / #[my(x = 1)] struct S; => ok S ⟨99 D~ {a: ⟩D0 {x: 1}⟨99 }⟩"#;
+#[derive(FromMeta)] struct D0 { x: u8 } ⟨98 #[derive(FromMeta)] struct D$ { #[darling(flatten)] a: D^ } ⟩#[derive(FromDeriveInput)] #[darling(attributes(my))] struct D99 { #[darling(flatten)] a: D98 } / %% / #[my(x = 1)] struct S; => ok S ⟨99 D~ {a: ⟩D0 {x: 1}⟨99 }⟩
+#[derive(FromMeta)] struct D0 { x: u8 } ⟨250 #[derive(FromMeta)] struct D$ { a: D^ } ⟩#[derive(FromDeriveInput)] struct D { #[darling(default)] a: D250 } / %% / struct S; => ok S D {a: ⟨250 D~ {a: ⟩D0 {x: 0}⟨250 }⟩}
+#[derive(FromMeta)] struct D0 { x: u8 } ⟨1100 #[derive(FromMeta)] struct D$ { a: D^ } ⟩#[derive(FromDeriveInput)] struct D { #[darling(default)] a: D1100 } / %% / struct S; => out of memory"#;
 
 const REALISTIC: &str = r##"#[derive(FromMeta)]
 struct Limits { min: u32, max: Option<u32> }

@@ -8,6 +8,8 @@ mod declarations;
 #[cfg(test)]
 mod ends;
 #[cfg(test)]
+mod hosts;
+#[cfg(test)]
 mod inputs;
 #[cfg(test)]
 mod library;
