@@ -28,14 +28,14 @@ def handed_on(crate):
     """The modules of other crates that a crate hands on, each by its name there."""
     path = os.path.join(TOP, crate, "specs", "Lib.antt")
     found = {}
-    for other, inside, name in re.findall(r"^pub use Rattle\.(\w+)\.specs\.(\S+?)(?: as (\S+))?$", text_of(path) if os.path.isfile(path) else "", re.M):
-        found[name or inside.split(".")[-1]] = (other, inside.split("."))
+    for other, inside, name in re.findall(r"^pub use Rattle\.(\w+)\.specs(?:\.(\S+?))?(?: as (\S+))?$", text_of(path) if os.path.isfile(path) else "", re.M):
+        found[name or inside.split(".")[-1]] = (other, inside.split(".") if inside else [])
     return found
 
 
 def file_of(crate, parts):
     """The file of definitions CRATE/specs/A/B.antt that the longest front of a module's path names, there or where the crate has it from."""
-    if parts[0] == "declared":
+    if not parts or parts[0] == "declared":
         return None
     for end in range(len(parts), 0, -1):
         path = os.path.join(TOP, crate, "specs", *parts[:end]) + ".antt"

@@ -1,6 +1,6 @@
 #!/usr/bin/env python3
-"""Each example in a `///` is a run of lines of crates/uses or of a test, indented as it may be, and each item that a caller
-meets first has one."""
+"""Each example in a `///` is a run of lines of crates/uses, of crates/uses_run or of a test, indented as it may be, and each
+item that a caller meets first has one."""
 import glob
 import os
 import re
@@ -55,14 +55,14 @@ def examples(path):
 
 
 def main():
-    known = "\n".join("\n".join(it.strip() for it in lines(path)) for path in sources("uses", "tests_*"))
+    known = "\n".join("\n".join(it.strip() for it in lines(path)) for path in sources("uses", "uses_run", "tests_*"))
     wrong, met, count = [], set(), 0
     for path in sources("*"):
         for item, example in examples(path):
             met |= {item, item.rpartition("::")[2]}
             count += 1
             if "\n".join(example) not in known or not 3 <= len(example) <= 12:
-                wrong.append(f"{os.path.relpath(path, TOP)}: the example of {item} is no run of lines of uses or of a test")
+                wrong.append(f"{os.path.relpath(path, TOP)}: the example of {item} is no run of lines of uses, uses_run or a test")
     wrong += [f"{item} has no example" for item in sorted(FIRST - met)]
     print(*wrong, f"{count} examples of items, {len(wrong)} wrong", sep="\n")
     return 1 if wrong else 0

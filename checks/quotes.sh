@@ -1,6 +1,6 @@
 #!/bin/sh
-# Each block of Rust in README.md and docs/CALLERS.md stands in crates/uses/src, function by function, or is a type of one of
-# the files below, without its attributes; each block of definitions stands in crates/uses/specs. Each other block of
+# Each block of Rust in README.md and docs/CALLERS.md stands in crates/uses/src or crates/uses_run/src, function by function,
+# or is a type of one of the files below, without its attributes; each block of definitions stands in their specs. Each other block of
 # README.md and docs/VALUES.md is an example, or what the tool writes of it behind the command. checks/declarations.py
 # holds docs/DECLARATIONS.md
 # against the tests and the sources, checks/pages.py looks at all links and at the length of README.md, and
@@ -10,7 +10,7 @@ wrong=0
 cd "$(dirname "$0")/.." || exit 1
 types="node_core/src/derive node_core/src/data node_core/src/attr node_expr/src/path meta_nested/src/nested meta_nested/src/call"
 {
-    cat crates/uses/src/*.rt crates/uses/specs/*.antt examples/*.txt examples/*.out
+    cat crates/uses/src/*.rt crates/uses/specs/*.antt crates/uses_run/src/*.rt crates/uses_run/specs/*.antt examples/*.txt examples/*.out
     for input in examples/refused/*.txt; do cat "${input%.txt}.out" "${input%.txt}.err"; done
     for type in $types; do sed '/^ *#\[/d' "crates/$type.rt"; done
 } | awk '
