@@ -7,3 +7,4 @@ pub mod WalkLemmas
 pub mod WrittenLemmas
 pub mod SplitLemmas
 pub mod WiderLemmas
+mod SiblingLemmas

@@ -6,7 +6,7 @@ ghost use Rattle.error_core.specs.Changes.{leaf};
 
 use crate::error::Error;
 use base_core::{Mem, Text};
-use error_fault::{Fault, FaultKind, Shared, name_set};
+use error_fault::{Alts, Fault, FaultKind, Shared, name_set};
 use std::alloc::Global;
 use std::collections::BTreeSet;
 
@@ -47,7 +47,7 @@ impl Error {
         ensures { IfOk result (λ error. error ≡ leaf (FaultKind.UnknownField name.now (set_of []))) }
     {
         let name = Text::from_str(alloc, name)?;
-        let alts = Shared::new(alloc, BTreeSet::new(alloc))?;
+        let alts = Alts::of(alloc, Shared::new(alloc, BTreeSet::new(alloc))?);
         Error::leaf(alloc, FaultKind::UnknownField { name, alts })
     }
 
@@ -57,7 +57,7 @@ impl Error {
             ≡ leaf (FaultKind.UnknownField field.now (set_of alts.now))) }
     {
         let name = Text::from_str(alloc, field)?;
-        let alts = Shared::new(alloc, name_set(alloc, alts)?)?;
+        let alts = Alts::of(alloc, Shared::new(alloc, name_set(alloc, alts)?)?);
         Error::leaf(alloc, FaultKind::UnknownField { name, alts })
     }
 
@@ -103,7 +103,7 @@ impl Error {
         ensures { IfOk result (λ error. error ≡ leaf (FaultKind.UnknownValue value.now (set_of []))) }
     {
         let name = Text::from_str(alloc, value)?;
-        let alts = Shared::new(alloc, BTreeSet::new(alloc))?;
+        let alts = Alts::of(alloc, Shared::new(alloc, BTreeSet::new(alloc))?);
         Error::leaf(alloc, FaultKind::UnknownValue { name, alts })
     }
 
@@ -113,7 +113,7 @@ impl Error {
             ≡ leaf (FaultKind.UnknownValue value.now (set_of alts.now))) }
     {
         let name = Text::from_str(alloc, value)?;
-        let alts = Shared::new(alloc, name_set(alloc, alts)?)?;
+        let alts = Alts::of(alloc, Shared::new(alloc, name_set(alloc, alts)?)?);
         Error::leaf(alloc, FaultKind::UnknownValue { name, alts })
     }
 

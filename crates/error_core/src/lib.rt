@@ -24,7 +24,7 @@ pub use accumulator::Accumulator;
 pub use base_core::{Items, Mem, Text, TryClone};
 pub use compile_errors::into_compile_error;
 pub use error::Error;
-pub use error_fault::{Fault, FaultKind, Shared};
+pub use error_fault::{Alts, Fault, FaultKind, Shared};
 pub use fail::{Fail, Result};
 pub use iter::IntoIter;
 pub use laws::flat_stays_flat;

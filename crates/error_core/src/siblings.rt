@@ -1,14 +1,18 @@
 //! The alternatives of siblings, for unknown fields that stand in no field.
 
-ghost use Rattle.std.specs.Prelude.{◌≡◌, IfOk};
+ghost use Rattle.std.specs.Prelude.{◌≡◌, List, IfOk};
+ghost use Rattle.base_core.specs.declared.text.Text.{Text as TextSeen};
 ghost use Rattle.error_fault.specs.Faults.{siblings};
+ghost use Rattle.error_fault.specs.Kind.{set_of};
 ghost use Rattle.error_core.specs.ErrorView.{leaves, span_of};
 ghost use Rattle.error_core.specs.Changes.{widened};
 ghost use Rattle.error_core.specs.Wider.{widen, changed, passed, with_kind_widened};
 
 use crate::error::{Error, Node};
 use base_core::{Items, Mem, Text};
+use error_fault::{Shared, name_set};
 use std::alloc::Global;
+use std::collections::BTreeSet;
 
 impl Error {
     /// An unknown field that stands in no field has these alternatives too; all else stays. Want of
@@ -18,14 +22,24 @@ impl Error {
         ensures leaves { IfOk result (λ error. leaves error ≡ siblings (leaves self) alts.now) }
         ensures span { IfOk result (λ error. span_of error ≡ span_of self) }
     {
+        let shared = Shared::new(alloc, name_set(alloc, alts)?)?;
+        self.add_sibling_alts_among(alloc, &shared)
+    }
+
+    /// As [`Error::add_sibling_alts_for_unknown_field`], where many errors share the set of the alternatives.
+    pub fn add_sibling_alts_among(self, alloc: Global, alts: &Shared<BTreeSet<Text>>) -> Mem<Error>
+        ensures told { (names : List TextSeen) → alts.now ≡ set_of names → IfOk result (λ error. error ≡ widened self names) }
+        ensures leaves { (names : List TextSeen) → alts.now ≡ set_of names → IfOk result (λ error. leaves error ≡ siblings (leaves self) names) }
+        ensures span { IfOk result (λ error. span_of error ≡ span_of self) }
+    {
         let nodes = widen(alloc, self.into_nodes().into_vec(), alts)?;
         Ok(Error { nodes, alloc })
     }
 }
 
 /// The nodes, each widened or passed by. Those below a node in a field are passed by.
-fn widen(alloc: Global, nodes: Vec<Node>, alts: &[Text]) -> Mem<Items<Node>>
-    ensures { IfOk result (λ wider. wider ≡ widen alts.now 0 nodes.items) }
+fn widen(alloc: Global, nodes: Vec<Node>, alts: &Shared<BTreeSet<Text>>) -> Mem<Items<Node>>
+    ensures { IfOk result (λ wider. wider ≡ widen alts.now.keys 0 nodes.items) }
 {
     let mut wider = Items::new(alloc);
     let mut left: usize = 0;
@@ -51,8 +65,8 @@ fn passed(node: &Node, left: usize) -> usize
 }
 
 /// The node, widened where none are passed by and it stands in no field.
-fn changed(alloc: Global, node: Node, left: usize, alts: &[Text]) -> Mem<Node>
-    ensures { IfOk result (λ it. it ≡ changed alts.now left node) }
+fn changed(alloc: Global, node: Node, left: usize, alts: &Shared<BTreeSet<Text>>) -> Mem<Node>
+    ensures { IfOk result (λ it. it ≡ changed alts.now.keys left node) }
 {
     if left > 0 || !node.locations.is_empty() {
         return Ok(node);
@@ -61,8 +75,8 @@ fn changed(alloc: Global, node: Node, left: usize, alts: &[Text]) -> Mem<Node>
 }
 
 /// A leaf with these alternatives too; an inner node as it is.
-fn widened(alloc: Global, node: Node, alts: &[Text]) -> Mem<Node>
-    ensures { IfOk result (λ it. it ≡ with_kind_widened alts.now node.kind node) }
+fn widened(alloc: Global, node: Node, alts: &Shared<BTreeSet<Text>>) -> Mem<Node>
+    ensures { IfOk result (λ it. it ≡ with_kind_widened alts.now.keys node.kind node) }
 {
     let (size, locations, span, kind) = node.into_parts();
     let kind = match kind {

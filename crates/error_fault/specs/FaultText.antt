@@ -1,5 +1,5 @@
 -- The text of a fault, and the line that shows it.
-use Rattle.std.specs.Prelude.{ℕ, ◌==◌, ◌&&◌, nat_lt, if◌then◌else◌, List, [], ◌∷◌, ◌++◌, length, flat_map, codes, decimal, chars, encode_utf8, Option, Some, None}
+use Rattle.std.specs.Prelude.{ℕ, Bool, ◌==◌, ◌&&◌, ◌||◌, nat_lt, if◌then◌else◌, List, [], ◌∷◌, ◌++◌, length, flat_map, codes, decimal, chars, encode_utf8, Option, Some, None}
 use Rattle.std.specs.List.{join_by}
 use Rattle.tok_types.specs.Ascii.{backslash, carriage_return, line_feed}
 use Rattle.base_core.specs.declared.text.Text.{Text}
@@ -62,6 +62,10 @@ escaped_char c =
     else if c == 9 then codes "\\t"
     else if c == 0 then codes "\\0"
     else encode_utf8 c
+
+-- whether the character has an escape
+abbrev pub has_escape : ℕ → Bool
+has_escape c = c == backslash || (c == line_feed || (c == carriage_return || (c == 9 || c == 0)))
 
 -- the text as a line shows it
 abbrev pub escaped : List ℕ → List ℕ

@@ -2,6 +2,7 @@
 
 ghost use Rattle.std.specs.Prelude.{◌≡◌, IfOk};
 
+use crate::alts::Alts;
 use crate::kind::FaultKind;
 use crate::names::name_set;
 use crate::shared::Shared;
@@ -82,7 +83,7 @@ impl Fault {
         ensures { IfOk result (λ fault. fault ≡ at_span (FaultKind.UnknownField name.now alts.now) span) }
     {
         let name = Text::from_str(alloc, name)?;
-        let alts = alts.try_clone(alloc)?;
+        let alts = Alts::of(alloc, alts.try_clone(alloc)?);
         Ok(Fault::at_span(alloc, FaultKind::UnknownField { name, alts }, span))
     }
 

@@ -2,9 +2,9 @@
 
 ghost use Rattle.std.specs.Prelude.{◌≡◌, IfOk};
 
-use crate::names::{add_names, clone_names};
+use crate::alts::Alts;
 use crate::shared::Shared;
-use base_core::{Mem, Text};
+use base_core::{Mem, Text, TryClone};
 use std::alloc::Global;
 use std::collections::BTreeSet;
 
@@ -25,7 +25,7 @@ pub enum FaultKind {
     /// A field that is not known; `alts` are those that are.
     UnknownField {
         name: Text,
-        alts: Shared<BTreeSet<Text>>,
+        alts: Alts,
     },
     /// An item of another format than is read, as a word in the place of a list.
     UnexpectedFormat(Text),
@@ -34,7 +34,7 @@ pub enum FaultKind {
     /// A value that is not known; `alts` are those that are.
     UnknownValue {
         name: Text,
-        alts: Shared<BTreeSet<Text>>,
+        alts: Alts,
     },
     /// Fewer items than the count, which is the least that is taken.
     TooFewItems(usize),
@@ -47,14 +47,12 @@ impl FaultKind {
 
     /// An unknown field with these alternatives too; every other kind as it is. Want of memory drops
     /// the kind.
-    pub fn with_alternatives(self, alloc: Global, names: &[Text]) -> Mem<FaultKind>
-        ensures { IfOk result (λ kind. kind ≡ with_alternatives self names.now) }
+    pub fn with_alternatives(self, alloc: Global, names: &Shared<BTreeSet<Text>>) -> Mem<FaultKind>
+        ensures { IfOk result (λ kind. kind ≡ with_alternatives self names.now.keys) }
     {
         match self {
             FaultKind::UnknownField { name, alts } => {
-                let own = clone_names(alloc, alts.get())?;
-                let all = add_names(alloc, own, names)?;
-                let alts = Shared::new(alloc, all)?;
+                let alts = alts.widen(names.try_clone(alloc)?)?;
                 Ok(FaultKind::UnknownField { name, alts })
             }
             other => Ok(other),

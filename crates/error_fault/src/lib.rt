@@ -4,6 +4,7 @@
 //! and the text of each fault.
 #![tactic(auto)]
 
+mod alts;
 mod clone;
 mod fault;
 mod kind;
@@ -11,6 +12,7 @@ mod names;
 mod shared;
 mod text;
 
+pub use alts::Alts;
 pub use fault::Fault;
 pub use kind::FaultKind;
 pub use names::name_set;

@@ -1,9 +1,10 @@
 //! The texts of faults.
 
 ghost use Rattle.std.specs.Prelude.{◌≡◌, ◌++◌, codes, decimal, IfOk, OnOk, OnErr};
-ghost use Rattle.std.specs.List.{join_by};
-ghost use Rattle.error_fault.specs.FaultText.{quoted, alternatives_text, expected_text, kind_text, path_text, fault_text, span_text, escaped_char, escaped, fault_line};
+ghost use Rattle.std.specs.List.{join_by, list_any};
+ghost use Rattle.error_fault.specs.FaultText.{quoted, alternatives_text, expected_text, kind_text, path_text, fault_text, span_text, escaped_char, has_escape, escaped, fault_line};
 
+use crate::alts::Alts;
 use crate::fault::Fault;
 use crate::kind::FaultKind;
 use base_core::{Mem, Text};
@@ -72,19 +73,46 @@ pub fn push_span(alloc: Global, out: &mut Text, span: Option<Span>) -> Mem<()>
 pub fn escaped(alloc: Global, text: &str) -> Mem<Text>
     ensures { IfOk result (λ it. it ≡ escaped text.now) }
 {
-    let mut shown = Text::new(alloc);
-    for c in text.chars() {
-        push_escaped_char(&mut shown, c)?;
+    if has_escapes(text) {
+        escaped_by_char(alloc, text)
+    } else {
+        Text::from_str(alloc, text)
     }
-    Ok(shown)
 }
 
 pub fn push_escaped(alloc: Global, out: &mut Text, text: &str) -> Mem<()>
     ensures ok { OnOk result (out.new ≡ out.old ++ escaped text.now) }
     ensures err { OnErr result (out.new ≡ out.old) }
 {
-    let shown = escaped(alloc, text)?;
-    out.push_str(shown.as_str())
+    if has_escapes(text) {
+        let shown = escaped_by_char(alloc, text)?;
+        out.push_str(shown.as_str())
+    } else {
+        out.push_str(text)
+    }
+}
+
+/// Whether a character of the text has an escape. Each that has one is ASCII, so that the bytes tell it.
+fn has_escapes(text: &str) -> bool
+    ensures { result ≡ list_any has_escape text.now }
+{
+    text.as_bytes().iter().any(|byte| has_escape(*byte))
+}
+
+fn has_escape(byte: u8) -> bool
+    ensures { result ≡ has_escape byte }
+{
+    matches!(byte, b'\\' | b'\n' | b'\r' | b'\t' | b'\0')
+}
+
+fn escaped_by_char(alloc: Global, text: &str) -> Mem<Text>
+    ensures { IfOk result (λ it. it ≡ escaped text.now) }
+{
+    let mut shown = Text::new(alloc);
+    for c in text.chars() {
+        push_escaped_char(&mut shown, c)?;
+    }
+    Ok(shown)
 }
 
 pub fn push_escaped_char(out: &mut Text, c: char) -> Mem<()>
@@ -132,7 +160,7 @@ fn push_kind(alloc: Global, out: &mut Text, kind: &FaultKind) -> Mem<()>
         }
         FaultKind::UnknownField { name, alts } => {
             push_naming(out, "Unknown field: ", name)?;
-            push_alternatives(out, alts.get())
+            push_alternatives(alloc, out, alts)
         }
         FaultKind::UnexpectedFormat(format) => {
             push_naming(out, "Unexpected meta-item format ", format)
@@ -140,7 +168,7 @@ fn push_kind(alloc: Global, out: &mut Text, kind: &FaultKind) -> Mem<()>
         FaultKind::UnexpectedType(name) => push_naming(out, "Unexpected type ", name),
         FaultKind::UnknownValue { name, alts } => {
             push_naming(out, "Unknown value: ", name)?;
-            push_alternatives(out, alts.get())
+            push_alternatives(alloc, out, alts)
         }
         FaultKind::TooFewItems(least) => {
             push_counting(alloc, out, "Too few items: Expected at least ", *least)
@@ -185,14 +213,17 @@ fn push_expected(out: &mut Text, expected: &Option<Text>) -> Mem<()>
     out.push('.')
 }
 
-fn push_alternatives(out: &mut Text, alts: &BTreeSet<Text>) -> Mem<()>
+fn push_alternatives(alloc: Global, out: &mut Text, alts: &Alts) -> Mem<()>
     ensures { OnOk result (out.new ≡ out.old ++ alternatives_text alts.now.keys) }
 {
-    if alts.is_empty() || alts.len() > MOST_NAMED {
+    let Some(names) = alts.up_to(alloc, MOST_NAMED)? else {
+        return Ok(());
+    };
+    if names.is_empty() {
         return Ok(());
     }
     out.push_str(". Available values: ")?;
-    push_names(out, alts)
+    push_names(out, &names)
 }
 
 fn push_names(out: &mut Text, names: &BTreeSet<Text>) -> Mem<()>

@@ -1,11 +1,7 @@
-use Rattle.std.proofs.Common.{flat_map, sym, ap, ◌∙◌, map-id}
-use Rattle.std.proofs.lemmas.Iterator.{YieldsList-from_chars}
-use Rattle.std.proofs.lemmas.Iterator.Consumers.{YieldsList-end}
-use Rattle.error_fault.specs.FaultText.{escaped_char}
+use Rattle.std.proofs.Common.{rules}
+use Rattle.error_fault.proofs.EscapeLemmas.{escaped-plain}
 use Rattle.error_fault.proofs.text.escaped.Goals as goal
 
--- the characters that came are all of the text's
-pub returns : goal.returns
-returns c =
-    let end = YieldsList-end (YieldsList-from_chars c.args.text.now c.utf8.text cc) c.loop-c.yielded _ c.loop-c.yielded_by _ _ c.in-None.is c.next.ensures.steps in
-    c.loop-c.invariant ∙ ap (flat_map escaped_char) (sym (map-id c.loop-c.yielded) ∙ end.0)
+pub returns-else-has_escapes : goal.returns-else-has_escapes
+returns-else-has_escapes c =
+    rw (escaped-plain c.args.text.now c.utf8.text (search rules)) c.from_str.ensures

@@ -10,7 +10,7 @@ returns-in_ok-push_naming-in-UnsupportedShape c =
 pub returns-in_ok-push_naming-in-UnknownField : goal.returns-in_ok-push_naming-in-UnknownField
 returns-in_ok-push_naming-in-UnknownField c =
     rw c.in-UnknownField.is
-    (OnOk-append _ _ _ _ _ _ c.in_ok-push_naming-in-UnknownField.ensures (rw c.get.ensures at c.push_alternatives.ensures))
+    (OnOk-append _ _ _ _ _ _ c.in_ok-push_naming-in-UnknownField.ensures c.push_alternatives.ensures)
 
 pub returns-in-UnexpectedFormat : goal.returns-in-UnexpectedFormat
 returns-in-UnexpectedFormat c =
@@ -22,7 +22,7 @@ returns-in-UnexpectedType c = rw c.in-UnexpectedType.is c.push_naming-in-Unexpec
 pub returns-in_ok-push_naming-in-UnknownValue : goal.returns-in_ok-push_naming-in-UnknownValue
 returns-in_ok-push_naming-in-UnknownValue c =
     rw c.in-UnknownValue.is
-    (OnOk-append _ _ _ _ _ _ c.in_ok-push_naming-in-UnknownValue.ensures (rw c.get-in-UnknownValue.ensures at c.push_alternatives-in-UnknownValue.ensures))
+    (OnOk-append _ _ _ _ _ _ c.in_ok-push_naming-in-UnknownValue.ensures c.push_alternatives-in-UnknownValue.ensures)
 
 pub returns-in-TooManyItems : goal.returns-in-TooManyItems
 returns-in-TooManyItems c = rw c.in-TooManyItems.is c.push_counting-in-TooManyItems.ensures
