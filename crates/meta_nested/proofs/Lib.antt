@@ -2,6 +2,7 @@ pub mod GroupLemmas
 pub mod PlaceLemmas
 pub mod Least
 pub mod Readings
+pub mod Literals
 pub mod Numbers
 pub mod Runs
 pub mod Commas

@@ -88,6 +88,19 @@ number-runs trees none count = by (run_of number_in trees count) refl
         let same = sym (ap (λ trees. run_of number_in trees 2) number.1 ∙ two) ∙ none in
         absurd cc
 
+-- nor where no mark comes first
+pub number-unmarked : (trees : List TokenTree) → mark_of trees ≡ 0 → run_of number_in trees 2 ≡ None
+unfolding mark_of
+number-unmarked trees none = by (run_of number_in trees 2) refl
+  where
+    by : (run : Option Lit) → run_of number_in trees 2 ≡ run → run_of number_in trees 2 ≡ None
+    by None is = is
+    by (Some found) is =
+        let number = number-run trees 2 found is in
+        let minus : mark_of trees ≡ 45 = ap mark_of number.1 ∙ number.0.begins in
+        let differ : zero ≡ 45 = sym none ∙ minus in
+        absurd cc
+
 -- Before its two tokens no run is there: neither a comma nor the end follows.
 pub number-goes-on : (trees : List TokenTree) (found : Lit) → run_of number_in trees 2 ≡ Some found → (count : ℕ) → count < 2 → stops (drop count trees) ≡ false
 unfolding mark_of

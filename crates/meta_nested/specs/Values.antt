@@ -8,7 +8,8 @@ use Rattle.node_expr.specs.declared.expr.Expr.{Expr}
 use Rattle.node_expr.specs.declared.expr.Expr.TheVariants as expr
 use Rattle.node_expr.specs.declared.lit.Lit.{Lit}
 use Rattle.syn_grammar.specs.Input.{Parser, ◌>>=◌, ◌>>◌, pure, test, skip_by}
-use Rattle.syn_grammar.specs.Token.{is_comma, span_of}
+use Rattle.syn_grammar.specs.Literals.{lit_of}
+use Rattle.syn_grammar.specs.Token.{is_comma, literal_of, span_of}
 use Rattle.law_prefix.specs.SameLookahead.{stops}
 use Rattle.tok_types.specs.Stream.{stream_of}
 use Rattle.syn_items.specs.Attributes.{number_in, expr_in}
@@ -22,6 +23,10 @@ either_value None found = found
 -- the value that all of the tokens are: a number with its sign, or an expression
 abbrev pub value_in : List TokenTree → Option Expr
 value_in trees = either_value (number_in trees) (expr_in trees)
+
+-- the literal that comes next
+abbrev pub next_literal : List TokenTree → Option Lit
+next_literal trees = option_map lit_of (literal_of trees)
 
 -- what so many tokens of the front are, if a comma or nothing follows them
 abbrev pub run_of : {A : Type 0} → (List TokenTree → Option A) → List TokenTree → ℕ → Option A

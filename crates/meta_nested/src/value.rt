@@ -9,12 +9,12 @@ ghost use Rattle.meta_nested.specs.Nested.{expected_expression, with_value};
 ghost use Rattle.meta_nested.specs.Values as spec;
 
 use crate::nested::{MetaNameValueInvalidExpr, NestedMeta};
-use base_core::Mem;
+use base_core::{Mem, TryClone};
 use error_core::Error;
 use node_core::{Meta, MetaNameValue};
 use node_expr::{Expr, Lit, Path};
 use std::alloc::{AllocError, Global};
-use syn_grammar::{Cursor, ReadFail, is_comma, span_of};
+use syn_grammar::{Cursor, ReadFail, is_comma, lit_of, literal_of, span_of};
 use syn_items::{number_of, stream_of};
 use syn_rules::read_expr;
 use syn_types::{ANY_LEVEL, MAX_DEPTH};
@@ -91,11 +91,37 @@ fn number_run(alloc: Global, trees: &[TokenTree]) -> Mem<Option<Lit>>
     }
 }
 
+/// The literal that comes next.
+fn next_literal(alloc: Global, trees: &[TokenTree]) -> Mem<Option<Lit>>
+    ensures { IfOk result (λ found. found ≡ spec.next_literal trees.now) }
+{
+    let Some(token) = literal_of(trees) else {
+        return Ok(None);
+    };
+    let token = token.try_clone(alloc)?;
+    Ok(Some(lit_of(alloc, token)?))
+}
+
+/// The literal that stands alone before a comma or the end.
+fn literal_run(alloc: Global, trees: &[TokenTree]) -> Mem<Option<Lit>>
+    ensures { IfOk result (λ found. found ≡ spec.run_of spec.next_literal trees.now 1) }
+{
+    let (front, rest) = trees.split_at(trees.len().min(1));
+    if stops(rest) {
+        next_literal(alloc, front)
+    } else {
+        Ok(None)
+    }
+}
+
 /// The value of the shortest run, and how many tokens it has. What an expression reads of a front it
-/// reads of every longer one too, so that one reading tells them all.
+/// reads of every longer one too, so that one reading tells them all; and a literal alone needs none.
 fn shortest_run(alloc: Global, trees: &[TokenTree]) -> Mem<Option<(Expr, usize)>>
     ensures { IfOk result (λ run. run ≡ spec.shortest_run trees.now) }
 {
+    if let Some(literal) = literal_run(alloc, trees)? {
+        return Ok(Some((Expr::Lit(literal), 1)));
+    }
     if let Some(number) = number_run(alloc, trees)? {
         return Ok(Some((Expr::Lit(number), 2)));
     }

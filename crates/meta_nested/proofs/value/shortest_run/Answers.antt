@@ -1,9 +1,12 @@
 use Rattle.std.proofs.Common.{sym, rules}
-use Rattle.meta_nested.proofs.Runs.{shortest_run-number, shortest_run-expr, shortest_run-on, shortest_run-none}
+use Rattle.meta_nested.proofs.Runs.{shortest_run-literal, shortest_run-number, shortest_run-expr, shortest_run-on, shortest_run-none}
 use Rattle.meta_nested.proofs.value.shortest_run.Goals as goal
 
 pub returns-in-Some : goal.returns-in-Some
-returns-in-Some c = sym (shortest_run-number c.args.trees.now c.in-Some.number (search rules))
+returns-in-Some c = sym (shortest_run-literal c.args.trees.now c.in-Some.literal (search rules))
+
+pub returns-in-Some-2 : goal.returns-in-Some-2
+returns-in-Some-2 c = sym (shortest_run-number c.args.trees.now c.in-Some-2.number (search rules))
 
 pub overflow_sub-result : goal.overflow_sub-result
 overflow_sub-result c =
