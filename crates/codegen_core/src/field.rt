@@ -8,7 +8,7 @@ use crate::default_expression::DefaultExpression;
 use crate::overrideable_callable::OverrideableCallable;
 use base_core::{Items, Mem, Text, TryClone};
 use body_usage::{Mentions, Searched};
-use codegen_program::{Arm, Fallback, Init, PostfixTransform, Stmt};
+use codegen_program::{Alternatives, Arm, Fallback, Init, PostfixTransform, Stmt};
 use node_expr::Type;
 use std::alloc::Global;
 use tok_types::Ident;
@@ -96,7 +96,7 @@ impl<'a> Field<'a> {
         &self,
         alloc: Global,
         slot: u32,
-        names: &Items<Text>,
+        names: &Alternatives,
         stmts: &mut Items<Stmt>,
     ) -> Mem<()>
         ensures { OnOk result (stmts.new ≡ stmts.old ++ spec.flatten names.now slot self.now) }

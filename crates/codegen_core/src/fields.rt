@@ -7,7 +7,7 @@ ghost use Rattle.codegen_core.specs.Fields as spec;
 use crate::field::Field;
 use base_core::{Items, Mem, Text};
 use body_core::ast::Fields;
-use codegen_program::{Arm, Init, Rest, Stmt};
+use codegen_program::{Alternatives, Arm, Arms, Init, Rest, Stmt};
 use std::alloc::Global;
 
 /// The fields of a struct or of a variant, and whether items that are for none of them are let pass.
@@ -47,7 +47,7 @@ impl<'f, 'a> FieldsGen<'f, 'a> {
         requires { length self.now.fields.now < 2 ^ 32 }
         ensures { IfOk result (λ it. it ≡ spec.core_loop self.now.allow_unknown_fields self.now.fields.now) }
     {
-        let arms = self.arms(alloc)?;
+        let arms = Arms::new(alloc, self.arms(alloc)?)?;
         let rest = self.rest(alloc)?;
         Ok(Stmt::ForItems { arms, rest })
     }
@@ -77,7 +77,7 @@ impl<'f, 'a> FieldsGen<'f, 'a> {
         if self.allow_unknown_fields {
             return Ok(Rest::Ignore);
         }
-        Ok(Rest::Unknown(names_of(alloc, self.fields)?))
+        Ok(Rest::Unknown(alternatives(alloc, self.fields)?))
     }
 
     /// Adds the reading of the items that were kept for a flattened field.
@@ -86,7 +86,7 @@ impl<'f, 'a> FieldsGen<'f, 'a> {
         ensures { OnOk result (stmts.new ≡ stmts.old ++ spec.flattens self.now.fields.now) }
     {
         let fields = self.fields;
-        let names = names_of(alloc, fields)?;
+        let names = alternatives(alloc, fields)?;
         let mut slot = 0;
         for field in fields {
             field.push_flatten(alloc, slot, &names, stmts)?;
@@ -130,6 +130,13 @@ fn has_flatten(fields: &[Field<'_>]) -> bool
     ensures { result ≡ list_any (λ field. field.flatten) fields.now }
 {
     fields.iter().any(|field| field.flatten)
+}
+
+/// What faults offer: the names of the fields that have one.
+fn alternatives(alloc: Global, fields: &[Field<'_>]) -> Mem<Alternatives>
+    ensures { IfOk result (λ it. it ≡ spec.names fields.now) }
+{
+    Alternatives::new(alloc, names_of(alloc, fields)?)
 }
 
 /// The names of the fields that have one.

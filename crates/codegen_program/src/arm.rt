@@ -2,8 +2,9 @@
 
 ghost use Rattle.std.specs.Prelude.{◌≡◌};
 
+use crate::alternatives::Alternatives;
 use crate::callable::Callable;
-use base_core::{Items, Mem, Text, TryClone};
+use base_core::{Mem, Text, TryClone};
 use node_expr::Path;
 use std::alloc::Global;
 use tok_types::Ident;
@@ -90,7 +91,7 @@ pub enum Rest {
     Buffer,
     Ignore,
     /// It is a fault, which may propose one of these names.
-    Unknown(Items<Text>),
+    Unknown(Alternatives),
 }
 
 impl Drop for Rest {

@@ -4,9 +4,12 @@
 //! A statement writes the slots of a receiver, which are numbered from 0 in the order of its fields.
 #![tactic(auto)]
 
+mod alternatives;
 mod arm;
+mod arms;
 mod callable;
 mod clone;
+mod decls;
 mod forward;
 mod forwarded;
 mod init;
@@ -15,8 +18,11 @@ mod shape;
 mod stmt;
 mod variant;
 
+pub use alternatives::Alternatives;
 pub use arm::{Arm, PostfixTransform, Rest};
+pub use arms::Arms;
 pub use callable::Callable;
+pub use decls::Decls;
 pub use forward::Forward;
 pub use forwarded::{Forwarded, Magic};
 pub use init::{DefaultSource, Fallback, Init};

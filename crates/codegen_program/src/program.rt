@@ -1,8 +1,9 @@
 //! Programs, their units, and the functions of a unit.
 
+use crate::decls::Decls;
 use crate::stmt::Stmt;
 use base_core::{Items, Mem, TryClone};
-use node_core::{DeriveInput, Generics};
+use node_core::Generics;
 use node_expr::Path;
 use std::alloc::Global;
 use tok_types::Ident;
@@ -27,7 +28,7 @@ impl TryClone for Derive {
 /// The declarations of receivers, and what their derives compile to.
 pub struct Program {
     /// The declarations, without attributes.
-    pub decls: Items<DeriveInput>,
+    pub decls: Decls,
     pub units: Items<Unit>,
 }
 

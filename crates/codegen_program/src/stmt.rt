@@ -1,6 +1,8 @@
 //! Statements.
 
-use crate::arm::{Arm, PostfixTransform, Rest};
+use crate::alternatives::Alternatives;
+use crate::arm::{PostfixTransform, Rest};
+use crate::arms::Arms;
 use crate::callable::Callable;
 use crate::forward::Forward;
 use crate::forwarded::Forwarded;
@@ -50,13 +52,13 @@ pub enum Stmt {
     },
     /// Goes over the items of one attribute or list.
     ForItems {
-        arms: Items<Arm>,
+        arms: Arms,
         rest: Rest,
     },
     /// Reads the flattened field from the items that were kept. The names are those of its siblings.
     ReadFlatten {
         slot: u32,
-        names: Items<Text>,
+        names: Alternatives,
     },
     /// A slot that no item wrote gets the value of its type without item, or is a fault under this name.
     CheckMissing {
@@ -106,12 +108,12 @@ pub enum Stmt {
     /// Reads the variant whose name the one item of a list has. The names are what a fault may propose.
     Variants {
         arms: Items<VariantArm<Stmt>>,
-        names: Items<Text>,
+        names: Alternatives,
     },
     /// Reads the variant that a string names. The names are what a fault may propose.
     UnitNames {
         arms: Items<UnitArm>,
-        names: Items<Text>,
+        names: Alternatives,
     },
     /// Answers what the function gives, in this function of the trait.
     Call {

@@ -10,8 +10,8 @@
 
 pub use base_core::{Boxed, Items, Mem, Text, TryClone};
 pub use codegen_program::{
-    Arm, DefaultSource, Derive, Fallback, Forward, Func, FuncName, Init, PostfixTransform, Program,
-    Rest, Stmt, Unit,
+    Alternatives, Arm, Arms, Decls, DefaultSource, Derive, Fallback, Forward, Func, FuncName, Init,
+    PostfixTransform, Program, Rest, Stmt, Unit,
 };
 pub use error_fault::Fault;
 pub use machine_execute::{

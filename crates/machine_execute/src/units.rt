@@ -165,7 +165,7 @@ fn run_stmts<H: Host, D: Declared>(
             alloc: context.alloc,
             setting: Setting {
                 host: context.host,
-                decls: context.program.decls.as_slice(),
+                decls: &context.program.decls,
             },
             declared: earlier,
         },

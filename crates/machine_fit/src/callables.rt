@@ -69,10 +69,7 @@ impl<H: Host> Checker<'_, H> {
     {
         let ty = ty.try_clone(self.alloc)?;
         let place = Place { at, ty };
-        Ok(
-            self.host
-                .offers(self.program.decls.as_slice(), callable, &place),
-        )
+        Ok(self.host.offers(&self.program.decls, callable, &place))
     }
 
     /// Adds the functions that are asked by a receiver of this type with these fields.
@@ -128,7 +125,7 @@ impl<H: Host> Checker<'_, H> {
         if !many {
             return ty;
         }
-        match element_among(&self.program.decls.as_slice(), ty) {
+        match element_among(&self.program.decls, ty) {
             Some(element) => element,
             None => ty,
         }

@@ -21,7 +21,7 @@ impl<H: Host> Checker<'_, H> {
         if !many {
             return self.type_fits(here, reads, ty);
         }
-        match element_among(&self.program.decls.as_slice(), ty) {
+        match element_among(&self.program.decls, ty) {
             Some(element) => self.type_fits(here, reads, element),
             None => Ok(false),
         }
@@ -40,7 +40,7 @@ impl<H: Host> Checker<'_, H> {
     fn row(&self, ty: &Type) -> Mem<Row>
         ensures { IfOk result (λ row. row ≡ spec.row_in self.now.program.now ty.now) }
     {
-        row_among(self.alloc, &self.program.decls.as_slice(), ty)
+        row_among(self.alloc, &self.program.decls, ty)
     }
 
     fn row_fits(&self, here: usize, reads: bool, row: &Row) -> bool
@@ -123,7 +123,7 @@ impl<H: Host> Checker<'_, H> {
     fn host_has_default(&self, ty: &Type) -> bool
         ensures { result ≡ is_some (convert.default_said (setting_of (H.says self.now.host.now) self.now.program.now) ty.now) }
     {
-        self.host.has_default(self.program.decls.as_slice(), ty)
+        self.host.has_default(&self.program.decls, ty)
     }
 }
 

@@ -10,8 +10,8 @@ use crate::arg::{Arg, HostItem};
 use crate::place::Place;
 use crate::said::Said;
 use base_core::Mem;
+use codegen_program::Decls;
 use machine_value::Value;
-use node_core::DeriveInput;
 use node_expr::{Path, Type};
 use std::alloc::Global;
 use util_core::Callable;
@@ -29,7 +29,7 @@ pub trait Host {
     ghost says: { Self → HostSays };
 
     /// Whether the function may be asked at the place.
-    fn offers(&self, decls: &[DeriveInput], call: Option<&Callable>, place: &Place) -> bool
+    fn offers(&self, decls: &Decls, call: Option<&Callable>, place: &Place) -> bool
         ensures { result ≡ (says self.now).offers (erased_decls decls.now) (erased_call call.entry) (erased_place place.now) };
 
     /// The type of the value that a field's `map` or `and_then` takes.
@@ -44,7 +44,7 @@ pub trait Host {
     fn answer(
         &self,
         alloc: Global,
-        decls: &[DeriveInput],
+        decls: &Decls,
         call: Option<&Callable>,
         place: &Place,
         arg: Arg<'_>,
@@ -52,11 +52,11 @@ pub trait Host {
         ensures { IfOk result (λ said. said ≡ (says self.now).answer (erased_decls decls.now) (erased_call call.entry) (erased_place place.now) (seen_arg arg.entry)) };
 
     /// Whether the type, which is the host's or a declaration, has a default.
-    fn has_default(&self, decls: &[DeriveInput], ty: &Type) -> bool
+    fn has_default(&self, decls: &Decls, ty: &Type) -> bool
         ensures { result ≡ (says self.now).has_default (erased_decls decls.now) (erased_type ty.now) };
 
     /// The default of the type.
-    fn default_of(&self, alloc: Global, decls: &[DeriveInput], ty: &Type) -> Mem<Value>
+    fn default_of(&self, alloc: Global, decls: &Decls, ty: &Type) -> Mem<Value>
         ensures { IfOk result (λ value. value ≡ (says self.now).default_of (erased_decls decls.now) (erased_type ty.now)) };
 
     /// What the type reads from an item.

@@ -10,8 +10,8 @@ use crate::made::{custom, named_type};
 use crate::place::{Place, Use};
 use crate::said::Said;
 use base_core::Mem;
+use codegen_program::Decls;
 use machine_value::Value;
-use node_core::DeriveInput;
 use node_expr::{Path, Type};
 use std::alloc::Global;
 use util_core::Callable;
@@ -44,7 +44,7 @@ impl Host for RefusingHost {
       none_of = λ ty known. tt;
     } };
 
-    fn offers(&self, _decls: &[DeriveInput], _call: Option<&Callable>, place: &Place) -> bool {
+    fn offers(&self, _decls: &Decls, _call: Option<&Callable>, place: &Place) -> bool {
         is_refused(place.at)
     }
 
@@ -59,7 +59,7 @@ impl Host for RefusingHost {
     fn answer(
         &self,
         alloc: Global,
-        _decls: &[DeriveInput],
+        _decls: &Decls,
         _call: Option<&Callable>,
         _place: &Place,
         _arg: Arg<'_>,
@@ -67,11 +67,11 @@ impl Host for RefusingHost {
         custom(alloc, "refused")
     }
 
-    fn has_default(&self, _decls: &[DeriveInput], _ty: &Type) -> bool {
+    fn has_default(&self, _decls: &Decls, _ty: &Type) -> bool {
         false
     }
 
-    fn default_of(&self, _alloc: Global, _decls: &[DeriveInput], _ty: &Type) -> Mem<Value> {
+    fn default_of(&self, _alloc: Global, _decls: &Decls, _ty: &Type) -> Mem<Value> {
         Ok(Value::Unit)
     }
 

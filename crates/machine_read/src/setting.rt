@@ -14,6 +14,7 @@ ghost use Rattle.meta_nested.specs.Cells.{AnswersCell, cell_at};
 
 use crate::values::{inherit, spanned_value};
 use base_core::{Items, Mem, Text, TryClone};
+use codegen_program::Decls;
 use error_core::{Error, Fail, Result};
 use error_fault::Fault;
 use machine_leaf::{Callable, leaf_default};
@@ -21,7 +22,6 @@ use machine_rows::{Row, element_among, row_among};
 use machine_steps::{Arg, Host, HostItem, Place, Said, Use, named_type};
 use machine_value::Value;
 use meta_nested::Call;
-use node_core::DeriveInput;
 use node_expr::Type;
 use std::alloc::Global;
 use tok_types::{Ident, Span};
@@ -30,7 +30,7 @@ use tok_types::{Ident, Span};
 #[derive(Clone, Copy)]
 pub struct Setting<'a, H> {
     pub host: &'a H,
-    pub decls: &'a [DeriveInput],
+    pub decls: &'a Decls,
 }
 
 impl<H: Host> Setting<'_, H> {
@@ -38,14 +38,14 @@ impl<H: Host> Setting<'_, H> {
     pub fn row(&self, alloc: Global, ty: &Type) -> Mem<Row>
         ensures { IfOk result (λ it. it ≡ spec.row (setting_in H.says self.now) ty.now) }
     {
-        row_among(alloc, &self.decls, ty)
+        row_among(alloc, self.decls, ty)
     }
 
     /// The type of one value of a list that is read item by item.
     pub fn element<'t>(&self, ty: &'t Type) -> &'t Type
         ensures { result.now ≡ convert.element (setting_in H.says self.now) ty.now }
     {
-        match element_among(&self.decls, ty) {
+        match element_among(self.decls, ty) {
             Some(inner) => inner,
             None => ty,
         }

@@ -17,10 +17,12 @@ mod row;
 mod table;
 mod wrapper;
 
+pub use arguments::{Arguments, last_arguments};
 pub use head::{Head, head_of};
 pub use leaf::{Integer, Leaf, LitKind, Parsed, PunctuatedItem, SetItem, Unsigned, VecItem};
+pub use name::{Home, Name};
 pub use names::Names;
-pub use path::is_named;
+pub use path::{Meant, is_named, meant_by, segments_in, stands_after};
 pub use resolve::{element_among, element_of, row_among, row_of};
 pub use row::Row;
 pub use wrapper::{HashKey, TreeKey, Wrapper};

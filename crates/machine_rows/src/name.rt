@@ -40,4 +40,6 @@ pub enum Home {
     DarlingUtil,
     /// `darling::`
     Darling,
+    /// `darling::ast::`
+    DarlingAst,
 }

@@ -3,7 +3,7 @@
 ghost use Rattle.std.specs.Prelude.{◌≡◌, position};
 ghost use Rattle.machine_rows.specs.Paths.{same_ident};
 
-use node_core::DeriveInput;
+use codegen_program::Decls;
 use tok_types::Ident;
 
 /// Declarations in their order, which are asked for one by its name. To ask takes no memory.
@@ -27,20 +27,14 @@ impl Names for &[Ident] {
     }
 }
 
-impl Names for &[DeriveInput] {
+impl Names for Decls {
     ghost use Rattle.std.specs.Prelude.{map};
 
-    ghost idents = { λ it. map (λ decl. decl.ident) it.now };
+    ghost idents = { λ it. map (λ decl. decl.ident) it };
 
     fn place_of(&self, name: &Ident) -> Option<usize> {
-        declared_at(self, name)
+        self.find(name.text.as_str())
     }
-}
-
-fn declared_at(decls: &[DeriveInput], name: &Ident) -> Option<usize>
-    ensures { result ≡ position (λ decl. same_ident decl.ident name.now) decls.now }
-{
-    decls.iter().position(|decl| same_ident(&decl.ident, name))
 }
 
 fn same_ident(a: &Ident, b: &Ident) -> bool

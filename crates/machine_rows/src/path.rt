@@ -71,7 +71,7 @@ fn in_table(before: &[PathSegment], name: &Ident) -> Meant
 }
 
 /// Whether a name of this home may stand behind these segments.
-fn stands_after(home: Home, before: &[PathSegment]) -> bool
+pub fn stands_after(home: Home, before: &[PathSegment]) -> bool
     ensures { result ≡ spec.stands_after home before.now }
 {
     before.is_empty() || are_home(home, before)
@@ -92,6 +92,7 @@ fn are_home(home: Home, segments: &[PathSegment]) -> bool
         Home::Syn => are_one(segments, "syn"),
         Home::DarlingUtil => are_two(segments, "darling", "util"),
         Home::Darling => are_one(segments, "darling"),
+        Home::DarlingAst => are_two(segments, "darling", "ast"),
     }
 }
 

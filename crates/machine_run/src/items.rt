@@ -1,6 +1,7 @@
 //! Items: each fills the slot of its name.
 
-ghost use Rattle.std.specs.Prelude.{◌≡◌, ◌∷◌, [], IfOk, IfSome, fold};
+ghost use Rattle.std.specs.Prelude.{◌≡◌, ◌∷◌, [], IfOk, fold};
+ghost use Rattle.std.specs.Option.{option_copied};
 ghost use Rattle.error_core.specs.Answers.{Answers};
 ghost use Rattle.error_fault.specs.Fault.{at_span};
 ghost use Rattle.error_fault.specs.Kind.{set_of};
@@ -10,18 +11,17 @@ ghost use Rattle.machine_read.specs.Scopes.{under};
 ghost use Rattle.machine_read.specs.Reading as reading;
 ghost use Rattle.machine_read.specs.State as spec;
 ghost use Rattle.machine_read.specs.Nodes.{nested_span};
-ghost use Rattle.machine_run.specs.Index.{HasNames, HasPlaces};
 ghost use Rattle.machine_run.specs.Seen.{change_of, slot_of};
 ghost use Rattle.machine_run.specs.Steps.{Becomes, Changes, Moves, change_at};
 
 use crate::faults::faults_at;
-use crate::index::{Index, find_arm};
 use crate::progress::Progress;
 use crate::run::Run;
 use crate::slot::Slot;
 use crate::state::State;
 use base_core::{Items, Mem, Text, TryClone};
-use codegen_program::{Arm, Rest};
+use base_index::Tally;
+use codegen_program::{Alternatives, Arm, Arms, Rest};
 use error_core::Result;
 use error_fault::Fault;
 use machine_read::{Declared, Host, NestedMeta};
@@ -37,7 +37,7 @@ impl<'p, H: Host, D: Declared> Run<'p, H, D> {
     pub(crate) fn for_items(
         &self,
         items: &[NestedMeta],
-        arms: &[Arm],
+        arms: &Arms,
         rest: &Rest,
         state: &mut State<'p>,
         progress: Progress,
@@ -58,16 +58,15 @@ impl<'p, H: Host, D: Declared> Run<'p, H, D> {
     fn take_items(
         &self,
         items: &[NestedMeta],
-        arms: &[Arm],
+        arms: &Arms,
         rest: &Rest,
         state: &mut State<'p>,
     ) -> Mem<()>
         requires { D.reads_within self.now.scope.declared.now self.now.room }
         ensures { Becomes (λ it. fold (under H.says D.earlier self.now.scope spec.step arms.now rest.now) it items.now) state.old state.new result }
     {
-        let index = Index::for_many(self.scope.alloc, arms, rest, items.len())?;
         for item in items {
-            self.take_item(arms, rest, &index, item, state)?;
+            self.take_item(arms, rest, item, state)?;
         }
         Ok(())
     }
@@ -75,15 +74,12 @@ impl<'p, H: Host, D: Declared> Run<'p, H, D> {
     /// Takes an item by its name; a literal has none.
     fn take_item(
         &self,
-        arms: &[Arm],
+        arms: &Arms,
         rest: &Rest,
-        index: &Option<Index>,
         item: &NestedMeta,
         state: &mut State<'p>,
     ) -> Mem<()>
-        requires reads { D.reads_within self.now.scope.declared.now self.now.room }
-        requires places { IfSome index.now (HasPlaces arms.now) }
-        requires names { IfSome index.now (HasNames rest.now) }
+        requires { D.reads_within self.now.scope.declared.now self.now.room }
         ensures { Becomes (λ it. under H.says D.earlier self.now.scope spec.step arms.now rest.now it item.now) state.old state.new result }
     {
         let alloc = self.scope.alloc;
@@ -91,9 +87,9 @@ impl<'p, H: Host, D: Declared> Run<'p, H, D> {
             let fault = Fault::unexpected_format(alloc, "literal", item.spanned())?;
             return state.faults.push(fault);
         };
-        match find_arm(arms, index, &name) {
+        match find_arm(arms, &name) {
             Some(arm) => self.take_arm(arm, item, state),
-            None => by_rest(alloc, rest, index, &name, item, state),
+            None => by_rest(alloc, rest, &name, item, state),
         }
     }
 
@@ -159,23 +155,30 @@ fn item_name(alloc: Global, item: &NestedMeta) -> Mem<Option<Text>>
     }
 }
 
+/// The first arm of the name.
+fn find_arm<'a>(arms: &'a Arms, name: &Text) -> Option<&'a Arm>
+    ensures { option_copied result ≡ spec.find_arm arms.now name.now }
+{
+    let mut tally = Tally::new();
+    let place = arms.find(name.as_str(), &mut tally)?;
+    arms.as_slice().get(place)
+}
+
 /// Takes an item of no arm.
 fn by_rest(
     alloc: Global,
     rest: &Rest,
-    index: &Option<Index>,
     name: &Text,
     item: &NestedMeta,
     state: &mut State<'_>,
 ) -> Mem<()>
-    requires { IfSome index.now (HasNames rest.now) }
     ensures { Becomes (spec.by_rest rest.now name.now item.now) state.old state.new result }
 {
     match rest {
         Rest::Buffer => state.kept.push(item.try_clone(alloc)?),
         Rest::Ignore => Ok(()),
         Rest::Unknown(alternatives) => {
-            let fault = unknown_field(alloc, alternatives.as_slice(), index, name, item)?;
+            let fault = unknown_field(alloc, alternatives, name, item)?;
             state.faults.push(fault)
         }
     }
@@ -184,19 +187,13 @@ fn by_rest(
 /// The fault of an item of no arm.
 fn unknown_field(
     alloc: Global,
-    alternatives: &[Text],
-    index: &Option<Index>,
+    alternatives: &Alternatives,
     name: &Text,
     item: &NestedMeta,
 ) -> Mem<Fault>
-    requires { IfSome index.now (λ it. it.names ≡ set_of alternatives.now) }
     ensures { IfOk result (λ fault. fault ≡ at_span (UnknownField name.now (set_of alternatives.now)) (nested_span item.now)) }
 {
-    let span = item.spanned();
-    match index {
-        Some(index) => Fault::unknown_field_among(alloc, name.as_str(), &index.names, span),
-        None => Fault::unknown_field_with_alts(alloc, name.as_str(), alternatives, span),
-    }
+    Fault::unknown_field_among(alloc, name.as_str(), alternatives.set(), item.spanned())
 }
 
 /// The fault of a field that an item has named before.

@@ -8,7 +8,6 @@ mod build;
 mod faults;
 mod flat;
 mod given;
-mod index;
 mod items;
 mod members;
 mod missing;

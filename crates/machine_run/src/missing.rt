@@ -12,6 +12,7 @@ use crate::run::Run;
 use crate::slot::Slot;
 use crate::state::State;
 use base_core::{Items, Mem, Text};
+use codegen_program::Alternatives;
 use error_core::Result;
 use error_fault::Fault;
 use machine_read::{Declared, Host};
@@ -25,7 +26,7 @@ impl<'p, H: Host, D: Declared> Run<'p, H, D> {
     pub(crate) fn read_flatten(
         &self,
         place: usize,
-        names: &[Text],
+        names: &Alternatives,
         state: &mut State<'p>,
         progress: Progress,
     ) -> Mem<Progress>
@@ -42,7 +43,7 @@ impl<'p, H: Host, D: Declared> Run<'p, H, D> {
     }
 
     /// Reads the field of a slot from the items that were kept.
-    fn read_kept(&self, place: usize, names: &[Text], state: &mut State<'p>) -> Mem<()>
+    fn read_kept(&self, place: usize, names: &Alternatives, state: &mut State<'p>) -> Mem<()>
         requires { D.reads_within self.now.scope.declared.now self.now.room }
         ensures { Becomes (change_at place (under H.says D.earlier self.now.scope spec.read_flat names.now state.old.kept)) state.old state.new result }
     {
@@ -124,7 +125,7 @@ fn absent<'p>(
 fn read_slot<'p>(
     alloc: Global,
     ty: &'p Type,
-    names: &[Text],
+    names: &Alternatives,
     answer: Result<Value>,
 ) -> Mem<(Slot<'p>, Items<Fault>)>
     ensures { Changes (λ outcome. spec.read_slot ty.now (with_siblings names.now outcome)) answer result }
@@ -133,7 +134,7 @@ fn read_slot<'p>(
         Ok(value) => Ok((Slot::One(ty, true, Some(value)), Items::new(alloc))),
         Err(fail) => match fail.into_error() {
             Some(error) => {
-                let error = error.add_sibling_alts_for_unknown_field(alloc, names)?;
+                let error = error.add_sibling_alts_among(alloc, names.set())?;
                 Ok((Slot::One(ty, true, None), error.into_faults(alloc)?))
             }
             None => Err(AllocError),

@@ -90,10 +90,10 @@ impl<'p, H: Host, D: Declared> Run<'p, H, D> {
                 progress,
             ),
             Stmt::ForItems { arms, rest } => {
-                self.for_items(given.items(), arms.as_slice(), rest, state, progress)
+                self.for_items(given.items(), arms, rest, state, progress)
             }
             Stmt::ReadFlatten { slot, names } => {
-                self.read_flatten(*slot as usize, names.as_slice(), state, progress)
+                self.read_flatten(*slot as usize, names, state, progress)
             }
             Stmt::CheckMissing { slot, ty, name } => {
                 self.check_missing(*slot as usize, ty, name, state, progress)

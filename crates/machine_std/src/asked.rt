@@ -9,9 +9,9 @@ ghost use Rattle.machine_std.specs.Functions as spec;
 
 use crate::function::{leaf_in, path_in};
 use crate::path_text::is_text_of;
+use codegen_program::Decls;
 use machine_host::Callable;
 use machine_rows::Leaf;
-use node_core::DeriveInput;
 use node_expr::Type;
 
 /// Whether the option names the function of this path, as `text::trim`. A path with a type in front names none.
@@ -34,7 +34,7 @@ fn is_path(call: Option<&Callable>, name: &str) -> bool
 }
 
 /// The type of the table that the type is, as `String`, where it holds no type that is read on its own.
-pub fn leaf_of(decls: &[DeriveInput], ty: &Type) -> Option<Leaf>
+pub fn leaf_of(decls: &Decls, ty: &Type) -> Option<Leaf>
     ensures { result ≡ spec.leaf_in (erased_decls decls.now) (erased_type ty.now) }
 {
     leaf_in(decls, ty)

@@ -11,10 +11,10 @@ ghost use Rattle.machine_std.specs.Texts.{trimmed as trimmed_text};
 use crate::path_text::is_text_of;
 use crate::texts::trimmed;
 use base_core::{Mem, Text};
+use codegen_program::Decls;
 use machine_host::{Arg, Callable, Place, Said, Use, custom};
 use machine_rows::{Head, Integer, Leaf, head_of};
 use machine_value::Value;
-use node_core::DeriveInput;
 use node_expr::{Expr, Path, Type};
 use node_make::path_to_string;
 use std::alloc::Global;
@@ -39,11 +39,7 @@ pub enum Function {
 }
 
 /// The function that is offered for the callable at the place.
-pub fn function_for(
-    decls: &[DeriveInput],
-    call: Option<&Callable>,
-    place: &Place,
-) -> Option<Function>
+pub fn function_for(decls: &Decls, call: Option<&Callable>, place: &Place) -> Option<Function>
     ensures { option_map spec.offer_of result ≡ spec.offer_for decls.now (option_copied call.entry) place.now }
 {
     let path = path_in(call?)?;
@@ -62,10 +58,10 @@ pub fn path_in(callable: &Callable) -> Option<&Path>
 }
 
 /// The type of the table that the type is.
-pub fn leaf_in(decls: &[DeriveInput], ty: &Type) -> Option<Leaf>
+pub fn leaf_in(decls: &Decls, ty: &Type) -> Option<Leaf>
     ensures { result ≡ spec.leaf_in decls.now ty.now }
 {
-    match head_of(&decls, ty) {
+    match head_of(decls, ty) {
         Head::Leaf(leaf) => Some(leaf),
         _ => None,
     }

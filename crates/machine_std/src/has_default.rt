@@ -21,6 +21,7 @@ ghost use Rattle.machine_std.specs.Rests.{head_default, rests_on as rests};
 
 use crate::make_default::{MAX_LEVEL, declaration, named_in};
 use crate::marks::{is_marked, mark};
+use codegen_program::Decls;
 use machine_rows::{Head, Leaf, Wrapper, head_of};
 use node_core::{DeriveInput, Field};
 use node_expr::Type;
@@ -44,7 +45,7 @@ pub enum Rest {
 
 /// Whether the declaration of the number has a default.
 #[cycle(has_default)]
-pub fn has_default(decls: &[DeriveInput], number: usize) -> bool
+pub fn has_default(decls: &Decls, number: usize) -> bool
     ensures { result ≡ is_some (spec.default_among decls.now number) }
 {
     if number < 32 * FEW {
@@ -55,7 +56,7 @@ pub fn has_default(decls: &[DeriveInput], number: usize) -> bool
 }
 
 #[cycle(has_default)]
-fn has_among_few(decls: &[DeriveInput], number: usize) -> bool
+fn has_among_few(decls: &Decls, number: usize) -> bool
     requires { number < 1024 }
     ensures { result ≡ is_some (spec.default_among decls.now number) }
 {
@@ -64,7 +65,7 @@ fn has_among_few(decls: &[DeriveInput], number: usize) -> bool
 }
 
 #[cycle(has_default)]
-fn has_among_many(decls: &[DeriveInput], number: usize) -> bool
+fn has_among_many(decls: &Decls, number: usize) -> bool
     ensures { result ≡ is_some (spec.default_among decls.now number) }
 {
     let mut words = many_unmarked();
@@ -86,7 +87,7 @@ fn many_unmarked() -> [u32; MANY]
 
 /// Looks at the declarations from the number down to the base that the default of the number's rests on.
 #[cycle(has_default)]
-fn sweep(decls: &[DeriveInput], base: usize, number: usize, words: &mut [u32]) -> bool
+fn sweep(decls: &Decls, base: usize, number: usize, words: &mut [u32]) -> bool
     requires within { base ≤ number }
     requires room { (number - base) / 32 < length words.old }
     requires unmarked { (other : ℕ) → is_marked_in words.old other ≡ false }
@@ -107,7 +108,7 @@ fn sweep(decls: &[DeriveInput], base: usize, number: usize, words: &mut [u32]) -
 
 /// Looks at the declaration, where it is marked. `false` where it is and has no default.
 #[cycle(has_default)]
-fn look_at(decls: &[DeriveInput], base: usize, number: usize, words: &mut [u32]) -> bool
+fn look_at(decls: &Decls, base: usize, number: usize, words: &mut [u32]) -> bool
     requires within { base ≤ number }
     requires room { (number - base) / 32 < length words.old }
     ensures { (result && left decls.now base words.new (number - base)) ≡ left decls.now base words.old (number - base + 1) }
@@ -120,7 +121,7 @@ fn look_at(decls: &[DeriveInput], base: usize, number: usize, words: &mut [u32])
 
 /// Marks what the default of the declaration rests on. `false` where it has none.
 #[cycle(has_default)]
-fn declaration_rests(decls: &[DeriveInput], base: usize, number: usize, words: &mut [u32]) -> bool
+fn declaration_rests(decls: &Decls, base: usize, number: usize, words: &mut [u32]) -> bool
     requires within { base ≤ number }
     requires room { (number - base) / 32 < length words.old }
     ensures { (result && left decls.now base words.new (number - base))
@@ -134,7 +135,7 @@ fn declaration_rests(decls: &[DeriveInput], base: usize, number: usize, words: &
 
 #[cycle(has_default)]
 fn decl_rests(
-    decls: &[DeriveInput],
+    decls: &Decls,
     base: usize,
     below: usize,
     words: &mut [u32],
@@ -154,7 +155,7 @@ fn decl_rests(
 
 #[cycle(has_default)]
 fn fields_rest(
-    decls: &[DeriveInput],
+    decls: &Decls,
     base: usize,
     below: usize,
     words: &mut [u32],
@@ -175,13 +176,7 @@ fn fields_rest(
 }
 
 #[cycle(has_default)]
-fn type_rests(
-    decls: &[DeriveInput],
-    base: usize,
-    below: usize,
-    words: &mut [u32],
-    ty: &Type,
-) -> bool
+fn type_rests(decls: &Decls, base: usize, below: usize, words: &mut [u32], ty: &Type) -> bool
     requires within { base ≤ below }
     requires room { (below - base) / 32 < length words.old }
     ensures { (result && left decls.now base words.new (below - base))
@@ -195,13 +190,7 @@ fn type_rests(
 }
 
 #[cycle(has_default)]
-fn number_rests(
-    decls: &[DeriveInput],
-    base: usize,
-    below: usize,
-    words: &mut [u32],
-    number: usize,
-) -> bool
+fn number_rests(decls: &Decls, base: usize, below: usize, words: &mut [u32], number: usize) -> bool
     requires within { base ≤ below }
     requires room { (below - base) / 32 < length words.old }
     ensures { (result && left decls.now base words.new (below - base))
@@ -219,17 +208,17 @@ fn number_rests(
 
 /// What the default of a type rests on, where the type is looked into as deep as the level.
 #[cycle(rest_of)]
-fn rest_of(decls: &[DeriveInput], level: usize, ty: &Type) -> Rest
+fn rest_of(decls: &Decls, level: usize, ty: &Type) -> Rest
     ensures { (declared : ℕ → Option Value) → is_some (row_default declared none_of_host (row_at (decl_names decls.now) level ty.now)) ≡ rests declared result }
 {
     if level == 0 {
         return Rest::Lacks;
     }
-    rest_of_head(decls, level - 1, head_of(&decls, ty))
+    rest_of_head(decls, level - 1, head_of(decls, ty))
 }
 
 #[cycle(rest_of)]
-fn rest_of_head(decls: &[DeriveInput], level: usize, head: Head<&Type>) -> Rest
+fn rest_of_head(decls: &Decls, level: usize, head: Head<&Type>) -> Rest
     ensures { (declared : ℕ → Option Value) (ty : TypeSeen) → is_some (head_default declared (λ inner. row_default declared none_of_host (row_at (decl_names decls.now) level inner)) ty (seen_head head.entry)) ≡ rests declared result }
 {
     match head {

@@ -16,6 +16,7 @@ ghost use Rattle.machine_std.specs.Defaults.{none_of_host};
 ghost use Rattle.machine_std.specs.Rests.{around_layer, head_default};
 
 use base_core::{Items, Mem, Text};
+use codegen_program::Decls;
 use machine_rows::{Head, Leaf, Wrapper, head_of};
 use machine_value::Value;
 use node_core::{Data, DeriveInput, Field, Fields, Style};
@@ -44,7 +45,7 @@ pub fn named_in(decl: &DeriveInput) -> Option<&[Field]>
 }
 
 /// The declaration of the number.
-pub fn declaration(decls: &[DeriveInput], number: usize) -> Option<&DeriveInput>
+pub fn declaration(decls: &Decls, number: usize) -> Option<&DeriveInput>
     ensures { option_copied result ≡ slice_get decls.now number }
 {
     decls.get(number)
@@ -54,7 +55,7 @@ pub fn declaration(decls: &[DeriveInput], number: usize) -> Option<&DeriveInput>
 #[cycle(make_default)]
 pub fn declaration_default(
     alloc: Global,
-    decls: &[DeriveInput],
+    decls: &Decls,
     number: usize,
     room: usize,
 ) -> Mem<Option<Value>>
@@ -69,7 +70,7 @@ pub fn declaration_default(
 #[cycle(make_default)]
 fn decl_made(
     alloc: Global,
-    decls: &[DeriveInput],
+    decls: &Decls,
     below: usize,
     room: usize,
     decl: &DeriveInput,
@@ -86,7 +87,7 @@ fn decl_made(
 #[cycle(make_default)]
 fn struct_default(
     alloc: Global,
-    decls: &[DeriveInput],
+    decls: &Decls,
     below: usize,
     room: usize,
     ident: &Ident,
@@ -107,7 +108,7 @@ fn struct_default(
 #[cycle(make_default)]
 fn type_default(
     alloc: Global,
-    decls: &[DeriveInput],
+    decls: &Decls,
     below: usize,
     level: usize,
     room: usize,
@@ -121,20 +122,13 @@ fn type_default(
     if level == 0 {
         return Ok(None);
     }
-    head_made(
-        alloc,
-        decls,
-        below,
-        level - 1,
-        room - 1,
-        head_of(&decls, ty),
-    )
+    head_made(alloc, decls, below, level - 1, room - 1, head_of(decls, ty))
 }
 
 #[cycle(make_default)]
 fn head_made(
     alloc: Global,
-    decls: &[DeriveInput],
+    decls: &Decls,
     below: usize,
     level: usize,
     room: usize,
@@ -157,7 +151,7 @@ fn head_made(
 #[cycle(make_default)]
 fn number_default(
     alloc: Global,
-    decls: &[DeriveInput],
+    decls: &Decls,
     below: usize,
     number: usize,
     room: usize,
@@ -173,7 +167,7 @@ fn number_default(
 #[cycle(make_default)]
 fn around_default(
     alloc: Global,
-    decls: &[DeriveInput],
+    decls: &Decls,
     below: usize,
     level: usize,
     room: usize,

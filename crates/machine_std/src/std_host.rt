@@ -11,10 +11,10 @@ use crate::has_default::has_default;
 use crate::make_default::{ROOM, declaration_default};
 use crate::tag::{is_tag, read_tag};
 use base_core::Mem;
+use codegen_program::Decls;
 use machine_host::{Arg, Callable, Host, HostItem, Place, Said, named_type};
 use machine_rows::{Head, head_of};
 use machine_value::Value;
-use node_core::DeriveInput;
 use node_expr::{Path, Type};
 use std::alloc::Global;
 
@@ -41,7 +41,7 @@ impl Host for StdHost {
 
     ghost lawful = { λ host. std_lawful };
 
-    fn offers(&self, decls: &[DeriveInput], call: Option<&Callable>, place: &Place) -> bool {
+    fn offers(&self, decls: &Decls, call: Option<&Callable>, place: &Place) -> bool {
         function_for(decls, call, place).is_some()
     }
 
@@ -59,7 +59,7 @@ impl Host for StdHost {
     fn answer(
         &self,
         alloc: Global,
-        decls: &[DeriveInput],
+        decls: &Decls,
         call: Option<&Callable>,
         place: &Place,
         arg: Arg<'_>,
@@ -70,14 +70,14 @@ impl Host for StdHost {
         }
     }
 
-    fn has_default(&self, decls: &[DeriveInput], ty: &Type) -> bool {
+    fn has_default(&self, decls: &Decls, ty: &Type) -> bool {
         match declared(decls, ty) {
             Some(number) => has_default(decls, number),
             None => false,
         }
     }
 
-    fn default_of(&self, alloc: Global, decls: &[DeriveInput], ty: &Type) -> Mem<Value> {
+    fn default_of(&self, alloc: Global, decls: &Decls, ty: &Type) -> Mem<Value> {
         match declared(decls, ty) {
             Some(number) => default_of(alloc, decls, number),
             None => Ok(Value::Unit),
@@ -94,17 +94,17 @@ impl Host for StdHost {
 }
 
 /// The number of the declaration that the type is.
-fn declared(decls: &[DeriveInput], ty: &Type) -> Option<usize>
+fn declared(decls: &Decls, ty: &Type) -> Option<usize>
     ensures { result ≡ declared_in (spec.head_of (decl_names decls.now) ty.now) }
 {
-    match head_of(&decls, ty) {
+    match head_of(decls, ty) {
         Head::Declared(number) => Some(number),
         _ => None,
     }
 }
 
 /// The default of the declaration, where it has one. Where it has none nothing is made, however much of it could be.
-fn default_of(alloc: Global, decls: &[DeriveInput], number: usize) -> Mem<Value>
+fn default_of(alloc: Global, decls: &Decls, number: usize) -> Mem<Value>
     ensures { IfOk result (λ value. value ≡ unwrap_or (default_among decls.now number) Value.Unit) }
 {
     if !has_default(decls, number) {

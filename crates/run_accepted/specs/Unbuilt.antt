@@ -18,7 +18,7 @@ use Rattle.codegen_program.specs.Traits.{is_input}
 use Rattle.codegen_program.specs.declared.program.Derive.{Derive}
 use Rattle.codegen_program.specs.declared.program.Derive.TheVariants as derive
 use Rattle.options_rows.specs.Entries.{items, option_entries}
-use Rattle.options_rows.specs.Members.{fields_of}
+use Rattle.options_rows.specs.Members.{body_fields}
 use Rattle.options_rows.specs.Values.{word_of}
 use Rattle.run_accepted.specs.Derives.{derives_of}
 use Rattle.run_accepted.specs.declared.derives.Derived.{Derived}
@@ -100,7 +100,7 @@ derives_input derives = list_any (λ it. is_input it.derive) derives
 
 -- where `FromDeriveInput` is derived, the fields that take a part of the item
 abbrev pub part_places : List Derived → «Data» → List Span
-part_places derives it = if derives_input derives then flat_map field_places (fields_of it) else []
+part_places derives it = if derives_input derives then flat_map field_places (body_fields it) else []
 
 -- declarations
 

@@ -2,7 +2,7 @@
 
 ghost use Rattle.std.specs.Prelude.{◌≡◌, ◌++◌, flat_map, OnOk};
 ghost use Rattle.tok_types.specs.Ident.{ident_text};
-ghost use Rattle.options_rows.specs.Members.{fields_of};
+ghost use Rattle.options_rows.specs.Members.{body_fields};
 ghost use Rattle.run_accepted.specs.Unbuilt as spec;
 
 use crate::Derived;
@@ -16,7 +16,7 @@ pub(crate) fn push_parts(derives: &[Derived], body: &Data, spans: &mut Items<Spa
     ensures { OnOk result (spans.new ≡ spans.old ++ spec.part_places derives.now body.now) }
 {
     if derives_input(derives) {
-        return push_fields(fields_of(body), spans);
+        return push_fields(body_fields(body), spans);
     }
     Ok(())
 }
@@ -30,8 +30,8 @@ fn derives_input(derives: &[Derived]) -> bool
 }
 
 /// The fields of a struct.
-fn fields_of(body: &Data) -> &[Field]
-    ensures { result.now ≡ fields_of body.now }
+fn body_fields(body: &Data) -> &[Field]
+    ensures { result.now ≡ body_fields body.now }
 {
     match body {
         Data::Struct(it) => it.fields.as_slice(),

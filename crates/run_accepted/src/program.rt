@@ -13,7 +13,7 @@ use crate::rejected::CompileFail;
 use crate::unit::unit_under;
 use crate::{derives_of, without_attributes};
 use base_core::{Items, Mem};
-use codegen_program::{Derive, Program, Unit};
+use codegen_program::{Decls, Derive, Program, Unit};
 use node_core::DeriveInput;
 use options_rows::RenameTable;
 use std::alloc::Global;
@@ -33,7 +33,7 @@ pub fn compile(
 {
     let mut units = Items::new(alloc);
     push_all(alloc, decls, table, &mut units)?;
-    let decls = bare(alloc, decls)?;
+    let decls = Decls::new(alloc, bare(alloc, decls)?)?;
     Ok(Program { decls, units })
 }
 

@@ -3,7 +3,7 @@
 use crate::place::{bytes_of, push_all, push_place, text_at};
 use crate::similar::is_misspelled;
 use base_core::{Items, Mem, Text};
-use codegen_program::Derive;
+use codegen_program::{Decls, Derive};
 use machine_rows::{Row, row_among};
 use node_core::{DeriveInput, Field, Meta};
 use node_expr::Type;
@@ -121,12 +121,12 @@ fn items_of(alloc: Global, tokens: &TokenStream) -> Mem<Items<DeriveInput>> {
 
 /// Adds what is told of a type that does not fit its place.
 pub fn push_unknown_type(alloc: Global, out: &mut Text, parts: &Parts<'_>, span: Span) -> Mem<()> {
-    let decls = declarations(alloc, parts.declarations)?;
+    let decls = Decls::new(alloc, declarations(alloc, parts.declarations)?)?;
     let name = text_at(parts.declarations, span);
     push_all(out, &["error: the type `", name, "` does not fit here\n"])?;
     push_place(alloc, out, parts, 1, bytes_of(span))?;
     match field_at(decls.as_slice(), span) {
-        Some((here, field)) => push_reason(alloc, out, decls.as_slice(), here, field),
+        Some((here, field)) => push_reason(alloc, out, &decls, here, field),
         None => Ok(()),
     }
 }
@@ -147,11 +147,12 @@ fn field_at(decls: &[DeriveInput], span: Span) -> Option<(usize, &Field)> {
 fn push_reason(
     alloc: Global,
     out: &mut Text,
-    decls: &[DeriveInput],
+    decls: &Decls,
     here: usize,
     field: &Field,
 ) -> Mem<()> {
-    let row = row_among(alloc, &decls, &field.ty)?;
+    let row = row_among(alloc, decls, &field.ty)?;
+    let decls = decls.as_slice();
     out.push_str("  = help: ")?;
     match innermost(&row) {
         Row::Host(ty) => push_unknown_name(out, decls, here, name_of(ty)),

@@ -2,7 +2,7 @@
 //! counts 0, 1, 2.
 
 use crate::hosts::answer_of;
-use crate::programs::{by_hand, come_of, named_twice, outcome, program_of};
+use crate::programs::{arm_at, by_hand, come_of, named_twice, outcome, program_of};
 use crate::sources::{derives, repeated, without};
 use crate::statements::of_last;
 use crate::types::{declared, deeper, element, of_host, row_of_table, row_text};
@@ -42,6 +42,7 @@ fn told(alloc: Global, kind: &str, argument: &str) -> Tested<Text> {
         "statements" => of_last(alloc, &program_of(alloc, argument)?),
         "statements by hand" => of_last(alloc, &by_hand(alloc, argument)?),
         "outcome" => outcome(alloc, argument),
+        "arm" => arm_at(alloc, argument),
         "names" => named_twice(alloc, argument),
         _ => match kind.strip_prefix("refusing ") {
             Some(kind) => answer_of(alloc, &RefusingHost::new(alloc)?, kind, argument),

@@ -77,6 +77,14 @@ const OUTCOMES: &str =
     "#[derive(FromMeta)] struct Opts { later: Later } #[derive(FromDeriveInput)] #[darling(attributes(my))] struct Later { x: u8 } | #[my(x = 1)] struct S; => Later {x: 1}
 #[derive(FromMeta)] struct D0 { x: u8 } ⟨9998 #[derive(FromMeta)] struct D$ { #[darling(flatten)] a: D^ } ⟩#[derive(FromDeriveInput)] #[darling(attributes(my))] struct D9999 { #[darling(flatten)] a: D9998 } | #[my(x = 1)] struct S; => no memory";
 
+// Where the first arm of a name stands in the last unit, and how often names are compared to find it.
+const ARMS: &str = "#[derive(FromMeta)] struct A { ⟨1000 f$: Option<u8>, ⟩ } | f1 => 0, 11 compared
+#[derive(FromMeta)] struct A { ⟨1000 f$: Option<u8>, ⟩ } | f1000 => 999, 11 compared
+#[derive(FromMeta)] struct A { ⟨1000 f$: Option<u8>, ⟩ } | f500 => 499, 11 compared
+#[derive(FromMeta)] struct A { ⟨1000 f$: Option<u8>, ⟩ } | g => none, 9 compared
+#[derive(FromMeta)] struct A { ⟨9 #[darling(rename = \"a\")] f$: Option<u8>, ⟩ #[darling(rename = \"r#b\")] b: u8 } | a => 0, 5 compared
+#[derive(FromMeta)] struct A { #[darling(skip)] a: Option<u8> } | a => none, 0 compared";
+
 #[test]
 fn declarations_compile(rt: HostRuntime) -> Tested<()> {
     let alloc = rt.alloc();
@@ -86,5 +94,6 @@ fn declarations_compile(rt: HostRuntime) -> Tested<()> {
     rows(alloc, "compiled", COMPILED)?;
     rows(alloc, "statements", STATEMENTS)?;
     rows(alloc, "statements by hand", BY_HAND)?;
-    rows(alloc, "outcome", OUTCOMES)
+    rows(alloc, "outcome", OUTCOMES)?;
+    rows(alloc, "arm", ARMS)
 }

@@ -3,6 +3,7 @@
 use crate::ask::printed;
 use crate::fits::unfit;
 use crate::sources::{item_of, items_of, type_of};
+use codegen_program::Decls;
 use error_fault::fault_line;
 use machine_host::{Arg, Host, HostItem, Place, Said, Use};
 use machine_value::Value;
@@ -56,10 +57,10 @@ fn offered<H: Host>(alloc: Global, host: &H, front: &str) -> Tested<Text> {
 
 fn offers<H: Host>(alloc: Global, host: &H, front: &str, ty: &str) -> Tested<bool> {
     let (at, call) = front.split_once(' ').unwrap_or((front, ""));
-    let decls = items_of(alloc, "struct Shadow {}")?;
+    let decls = Decls::new(alloc, items_of(alloc, "struct Shadow {}")?)?;
     let place = place(alloc, at, ty)?;
     let call = callable(alloc, call)?;
-    Ok(host.offers(decls.as_slice(), Some(&call), &place))
+    Ok(host.offers(&decls, Some(&call), &place))
 }
 
 fn place(alloc: Global, at: &str, ty: &str) -> Tested<Place> {
@@ -131,7 +132,8 @@ fn ask<H: Host>(alloc: Global, host: &H, front: &str, arg: Arg<'_>) -> Tested<Te
     let (call, ty) = rest.split_once(' ').unwrap_or((rest, ""));
     let place = place(alloc, at, ty)?;
     let call = callable(alloc, call)?;
-    let said = host.answer(alloc, &[], Some(&call), &place, arg)?;
+    let decls = Decls::new(alloc, Items::new(alloc))?;
+    let said = host.answer(alloc, &decls, Some(&call), &place, arg)?;
     shown(alloc, said)
 }
 
@@ -213,14 +215,14 @@ struct r#Raw { r#type: u8 }";
 /// The default of a type: a row `TYPE => VALUE`, or `none`; other declarations may stand before it, `DECLS | TYPE`.
 fn default<H: Host>(alloc: Global, host: &H, argument: &str, is_made: bool) -> Tested<Text> {
     let (decls, ty) = argument.split_once(" | ").unwrap_or((DECLS, argument));
-    let decls = items_of(alloc, decls)?;
+    let decls = Decls::new(alloc, items_of(alloc, decls)?)?;
     let ty = type_of(alloc, 0, ty)?;
-    if !host.has_default(decls.as_slice(), &ty) {
+    if !host.has_default(&decls, &ty) {
         return Ok(Text::from_str(alloc, "none")?);
     }
     if !is_made {
         return Ok(Text::from_str(alloc, "some")?);
     }
-    let made = host.default_of(alloc, decls.as_slice(), &ty)?;
+    let made = host.default_of(alloc, &decls, &ty)?;
     Ok(value_text(alloc, &made)?)
 }

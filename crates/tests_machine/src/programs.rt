@@ -5,9 +5,10 @@ ghost use Rattle.run_accepted.specs.Unbuilt.{IsBuilt};
 
 use crate::ask::places;
 use crate::sources::{derive_name, item_of, items_of};
+use crate::statements::looked_up;
 use body_core::ast::{Data, Fields, Style};
 use codegen_core::{Field, FromDeriveInputImpl, OverrideableCallable, TraitImpl};
-use codegen_program::{Program, Unit};
+use codegen_program::{Decls, Program, Unit};
 use error_fault::fault_line;
 use machine_execute::{Element, Outcome, try_execute};
 use machine_fit::refusals;
@@ -72,6 +73,7 @@ pub fn program_of(alloc: Global, text: &str) -> Tested<Program> {
             Err(_) => return Err(Fail::new(format_args!("there are too many declarations"))),
         }
     }
+    let decls = Decls::new(alloc, decls)?;
     Ok(Program { decls, units })
 }
 
@@ -166,7 +168,7 @@ pub fn by_hand(alloc: Global, row: &str) -> Tested<Program> {
         from_ident: true,
     };
     let units = Items::of(alloc, receiver.unit_of(alloc, 0)?)?;
-    let decls = Items::of(alloc, item.try_clone(alloc)?)?;
+    let decls = Decls::new(alloc, Items::of(alloc, item.try_clone(alloc)?)?)?;
     Ok(Program { decls, units })
 }
 
@@ -184,6 +186,12 @@ pub fn outcome(alloc: Global, row: &str) -> Tested<Text> {
         Ok(None) => Err(Fail::new(format_args!("{subject} has no outcome"))),
         Err(_) => Ok(Text::from_str(alloc, "no memory")?),
     }
+}
+
+/// How an arm of the last unit is looked up: a row `DECLARATIONS | NAME`.
+pub fn arm_at(alloc: Global, row: &str) -> Tested<Text> {
+    let (decls, name) = kind_of(row)?;
+    looked_up(alloc, &program_of(alloc, decls)?, name)
 }
 
 fn shown(alloc: Global, outcome: &Outcome) -> Tested<Text> {

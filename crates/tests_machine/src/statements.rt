@@ -1,5 +1,6 @@
 //! Statements as short texts: the kind, with the slot or the name that it has.
 
+use base_index::Tally;
 use codegen_program::{Arm, Program, Rest, Stmt};
 use node_core::{Mem, Text};
 use std::alloc::Global;
@@ -8,6 +9,10 @@ use tests_checks::Tested;
 
 /// The statements of the one function of the last unit. The unit has the usual path to `darling`.
 pub fn of_last(alloc: Global, program: &Program) -> Tested<Text> {
+    Ok(shown_stmts(alloc, last_stmts(program)?)?)
+}
+
+fn last_stmts(program: &Program) -> Tested<&[Stmt]> {
     let Some(unit) = program.units.last() else {
         return Err(Fail::new(format_args!("it has no unit")));
     };
@@ -17,7 +22,23 @@ pub fn of_last(alloc: Global, program: &Program) -> Tested<Text> {
     if unit.krate.is_some() {
         return Err(Fail::new(format_args!("it has another path to darling")));
     }
-    Ok(shown_stmts(alloc, func.stmts.as_slice())?)
+    Ok(func.stmts.as_slice())
+}
+
+/// The place of the first arm of the name in the last unit, or `none`, and how often names were compared.
+pub fn looked_up(alloc: Global, program: &Program, name: &str) -> Tested<Text> {
+    for stmt in last_stmts(program)? {
+        if let Stmt::ForItems { arms, .. } = stmt {
+            let mut tally = Tally::new();
+            let mut text = match arms.find(name, &mut tally) {
+                Some(place) => Text::from_str(alloc, format!(in alloc; "{place}")?.as_str())?,
+                None => Text::from_str(alloc, "none")?,
+            };
+            text.push_str(format!(in alloc; ", {} compared", tally.count())?.as_str())?;
+            return Ok(text);
+        }
+    }
+    Err(Fail::new(format_args!("it takes no items")))
 }
 
 /// The statements, each with `; ` behind it.

@@ -5,8 +5,8 @@ ghost use Rattle.machine_core.specs.host.HostSays.{erased_call, erased_decls, er
 ghost use Rattle.uses_run.specs.VersionHost as spec;
 
 use machine_core::{
-    Arg, Callable, DeriveInput, Host, HostItem, Leaf, Mem, Path, Place, Said, StdHost, Text,
-    TryClone, Type, Use, Value, is_function, leaf_of,
+    Arg, Callable, Decls, Host, HostItem, Leaf, Mem, Path, Place, Said, StdHost, Text, TryClone,
+    Type, Use, Value, is_function, leaf_of,
 };
 use std::alloc::Global;
 
@@ -31,7 +31,7 @@ impl VersionHost {
 }
 
 /// Whether the function is `version`, and gives the default of a `String`.
-fn is_version(decls: &[DeriveInput], call: Option<&Callable>, place: &Place) -> bool
+fn is_version(decls: &Decls, call: Option<&Callable>, place: &Place) -> bool
     ensures { result ≡ spec.is_version (erased_decls decls.now) (erased_call call.entry) (erased_place place.now) }
 {
     is_function(call, "version") && is_default(place.at) && is_string(leaf_of(decls, &place.ty))
@@ -56,14 +56,14 @@ impl Host for VersionHost {
 
     ghost lawful = { λ host. versioned_is_lawful host.version };
 
-    fn offers(&self, decls: &[DeriveInput], call: Option<&Callable>, place: &Place) -> bool {
+    fn offers(&self, decls: &Decls, call: Option<&Callable>, place: &Place) -> bool {
         is_version(decls, call, place) || self.standard.offers(decls, call, place)
     }
 
     fn answer(
         &self,
         alloc: Global,
-        decls: &[DeriveInput],
+        decls: &Decls,
         call: Option<&Callable>,
         place: &Place,
         arg: Arg<'_>,
@@ -82,11 +82,11 @@ impl Host for VersionHost {
         self.standard.knows(ty)
     }
 
-    fn has_default(&self, decls: &[DeriveInput], ty: &Type) -> bool {
+    fn has_default(&self, decls: &Decls, ty: &Type) -> bool {
         self.standard.has_default(decls, ty)
     }
 
-    fn default_of(&self, alloc: Global, decls: &[DeriveInput], ty: &Type) -> Mem<Value> {
+    fn default_of(&self, alloc: Global, decls: &Decls, ty: &Type) -> Mem<Value> {
         self.standard.default_of(alloc, decls, ty)
     }
 

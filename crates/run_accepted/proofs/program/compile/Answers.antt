@@ -1,4 +1,4 @@
-use Rattle.std.proofs.Common.{[]}
+use Rattle.std.proofs.Common.{[], ◌∙◌}
 use Rattle.std.proofs.lemmas.Result.{err_from_is_err_and}
 use Rattle.run_accepted.proofs.PairLemmas.{none_yet, rejects_all}
 use Rattle.run_accepted.proofs.program.compile.Goals as goal
@@ -13,4 +13,4 @@ returns-in_err-push_all c =
 pub returns : goal.returns
 returns c =
     let are = c.in_ok-push_all.ensures [] (none_yet c.args.table.now c.new-units.result c.new-units.ensures) in
-    (are.sound, record { bare = c.in_ok-decls.ensures; units = are.made })
+    (are.sound, record { bare = c.in_ok-decls.ensures ∙ c.in_ok-bare.ensures; units = are.made })

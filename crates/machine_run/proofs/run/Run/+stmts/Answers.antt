@@ -2,7 +2,6 @@ use Rattle.std.proofs.Common.{◌≡◌, List, [], Result, Ok, ap, fold, rules, 
 use Rattle.std.specs.declared.alloc.AllocError.{AllocError}
 use Rattle.base_core.specs.declared.text.Text.{Text}
 use Rattle.node_core.specs.declared.attr.Attribute.{Attribute}
-use Rattle.codegen_program.specs.declared.arm.Arm.{Arm}
 use Rattle.codegen_program.specs.declared.stmt.Stmt.{Stmt}
 use Rattle.machine_read.proofs.Statements as steps
 use Rattle.machine_read.specs.NestedMeta.{NestedMeta}
@@ -81,11 +80,9 @@ act-returns-in-ForItems g t c =
     let setting = setting_in g.H.Host.says c.args.self.now.scope.setting in
     let earlier = g.D.Declared.earlier c.args.self.now.scope.declared.now in
     let before = progress_of (state_of c.args.state.now) c.args.progress in
-    let taken : List Arm → List NestedMeta → Progress =
-    λ arms items. going (λ state. Going (fold (step setting earlier arms c.in-ForItems.rest) state items)) before in
-    let arms = c.as_slice-in-ForItems in
-    let all : taken arms.result.now c.items.result.now ≡ taken c.in-ForItems.arms (items_given (given_of c.args.given)) =
-    ap (λ arms. taken arms c.items.result.now) arms.ensures ∙ ap (taken c.in-ForItems.arms) c.items.ensures in
+    let taken : List NestedMeta → Progress =
+    λ items. going (λ state. Going (fold (step setting earlier c.in-ForItems.arms c.in-ForItems.rest) state items)) before in
+    let all : taken c.items.result.now ≡ taken (items_given (given_of c.args.given)) = ap taken c.items.ensures in
     let act = acted g.H.Host.says g.D.Declared.earlier c.args.self.now (given_of c.args.given) c.args.state.now c.args.progress c.args.stmt.now in
     act _ _ c.for_items.new.state c.for_items.result c.in-ForItems.is
     (steps.for_items setting earlier c.args.self.now.ty.now _ _)

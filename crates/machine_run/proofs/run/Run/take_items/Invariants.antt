@@ -1,5 +1,4 @@
-use Rattle.std.proofs.Common.{◌≡◌, IfSome, drop, fold}
-use Rattle.machine_run.specs.Index.{HasNames, HasPlaces}
+use Rattle.std.proofs.Common.{◌≡◌, drop, fold}
 use Rattle.machine_read.specs.Scopes.{under}
 use Rattle.machine_read.specs.State.{step}
 use Rattle.machine_run.specs.Seen.{state_of}
@@ -8,8 +7,4 @@ use Rattle.machine_run.proofs.run.Run.take_items.Given as goal
 abbrev pub invariant-loop-item : goal.invariant-loop-item
 invariant-loop-item g l =
     let taken = fold (under g.H.Host.says g.D.Declared.earlier l.self.scope step l.arms l.rest) in
-    record {
-      places : IfSome l.index (HasPlaces l.arms);
-      names : IfSome l.index (HasNames l.rest);
-      taken : taken (state_of l.state) (drop l.item-index l.items) ≡ taken (state_of l.initial.state) l.items;
-    }
+    taken (state_of l.state) (drop l.item-index l.items) ≡ taken (state_of l.initial.state) l.items

@@ -1,0 +1,95 @@
+//! Arms that are looked up by their names.
+
+ghost use Rattle.std.specs.Prelude.{◌≡◌, ◌<◌, ◌≤◌, ◌+◌, ◌*◌, ◌^◌, ◌⊎◌, ℕ, IfOk, length, position};
+ghost use Rattle.std.specs.Str.{bytes_eq};
+ghost use Rattle.base_index.specs.Count.{last};
+ghost use Rattle.codegen_program.specs.Named.{arm_names};
+
+use crate::arm::Arm;
+use base_core::{Items, Mem, TryClone};
+use base_index::{NameIndex, NameOf, Tally};
+use std::alloc::Global;
+use std::marker::Model;
+
+/// The name of an arm.
+struct ArmName {}
+
+impl NameOf<Arm> for ArmName {
+    ghost name_of = { λ arm. arm.name };
+
+    fn name(arm: &Arm) -> &str {
+        arm.name.as_str()
+    }
+}
+
+/// Arms in their order, with the index of their names. A contract sees the list.
+///
+/// The index is made once, with the list: where many short lists of items are read under many arms, no item is compared
+/// with each of them.
+pub struct Arms {
+    arms: Items<Arm>,
+    index: NameIndex,
+}
+
+impl Model for Arms {
+    ghost use Rattle.std.specs.Coded.{coded_list};
+    ghost use Rattle.std.specs.Prelude.{List};
+    ghost use Rattle.codegen_program.specs.contracts.arm.Arm as contents;
+    ghost use Rattle.codegen_program.specs.declared.arm.Arm.{Arm};
+    ghost use Rattle.base_index.specs.Index.{IsIndex};
+    ghost use Rattle.codegen_program.specs.Named.{arm_names};
+
+    ghost Value = { List Arm };
+
+    ghost coded = { coded_list contents.the_row.coded };
+
+    ghost view = { λ it. it.arms };
+
+    ghost invariant = { λ it. IsIndex it.index (arm_names it.arms) };
+}
+
+impl Drop for Arms {
+    fn drop(self) {
+        let Self {
+            arms: _arms,
+            index: _index,
+        } = self;
+    }
+}
+
+impl TryClone for Arms {
+    fn try_clone(&self, alloc: Global) -> Mem<Arms> {
+        let arms = self.arms.try_clone(alloc)?;
+        let index = self.index.try_clone(alloc)?;
+        Ok(Arms { arms, index })
+    }
+}
+
+impl Arms {
+    /// The arms with their index.
+    pub fn new(alloc: Global, arms: Items<Arm>) -> Mem<Arms>
+        ensures { IfOk result (λ it. it ≡ arms) }
+    {
+        let index = NameIndex::new::<Arm, ArmName>(alloc, arms.as_slice())?;
+        Ok(Arms { arms, index })
+    }
+
+    pub fn as_slice(&self) -> &[Arm]
+        ensures { result.now ≡ self.now }
+    {
+        self.arms.as_slice()
+    }
+
+    /// The place of the first arm of the name. With `d` the least number such that fewer than 2^d arms are there, the
+    /// names are compared at most 2 `d` times.
+    pub fn find(&self, name: &str, tally: &mut Tally) -> Option<usize>
+        ensures place { result ≡ position (λ other. bytes_eq other name.now) (arm_names self.now) }
+        ensures most { (d : ℕ) → length self.now < 2 ^ d → tally.new ≤ tally.old + 2 * d }
+        ensures grows { tally.old ≤ tally.new }
+        ensures stays { tally.old ≡ last → tally.new ≡ last }
+        ensures least { 0 < length self.now → (tally.old + 1 ≤ tally.new) ⊎ (tally.new ≡ last) }
+    {
+        self.index
+            .find::<Arm, ArmName>(self.arms.as_slice(), name, tally)
+    }
+}
