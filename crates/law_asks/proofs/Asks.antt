@@ -63,7 +63,7 @@ module _ (host : HostSays) (program : Program) (unit : Unit') (decl : Decl) (dec
         (fits host program decl.number unit declared of.named held numbered found of.is_struct types)
         nothing_unoffered
         (fitting host program decl.number unit declared of.named held numbered found of.is_struct types)
-        0 (fields_of base) of.named decl.fields is.fields of.members
+        0 (fields_of base) of.named decl.body.fields is.fields of.members
         (λ at. let same : 0 + at ≡ at = omega arith in ap (slice_get of.named) same)
         (λ at le. ap (λ asks. takes asks at) are ∙ takes-declared at reads decl base)
         (λ it there. among _ (asks-Member reads decl base it there))

@@ -111,7 +111,7 @@ module _ (host : HostSays) (program : Program) (decl : Decl) (reads : Bool) (typ
     (fits : (slot : ℕ) (field : Field) → slice_get whole slot ≡ Some field → fits_asks host program decl.number slot field.ty (slot_asks asks) ≡ true)
     (offered : (ask : Ask) → Contains asks ask → unoffered_ask host program type whole ask ≡ [])
     (fitting : (ask : Ask) → Contains asks ask → unfit_ask host program decl.number ask ≡ []) where
-  module _ (slot : ℕ) (left : Left) (declared : Field) (field : FieldDecl) (is : IsField decl left field) (of : IsFieldOf declared field)
+  module _ (slot : ℕ) (left : Left) (declared : Field) (field : FieldDecl) (is : IsField decl.body left field) (of : IsFieldOf declared field)
       (found : slice_get whole slot ≡ Some declared) (many : takes asks slot ≡ left.multiple) (member : Contains asks (Member (init slot left)))
       (arms : reads ≡ true → is_named field ≡ true → Contains asks (Read (arm slot field))) where
     abbrev reads_there : Bool
@@ -158,7 +158,7 @@ module _ (host : HostSays) (program : Program) (decl : Decl) (reads : Bool) (typ
     }
 
   -- from this slot on
-  pub fields_are_sound : (slot : ℕ) (lefts : List Left) (declared : List Field) (fields : List FieldDecl) → AllZip (IsField decl) lefts fields → AllZip IsFieldOf declared fields
+  pub fields_are_sound : (slot : ℕ) (lefts : List Left) (declared : List Field) (fields : List FieldDecl) → AllZip (IsField decl.body) lefts fields → AllZip IsFieldOf declared fields
       → ((at : ℕ) → slice_get whole (slot + at) ≡ slice_get declared at)
       → ((at : ℕ) → slot ≤ at → takes asks at ≡ takes (all_asks (at_slots declaration slot lefts)) at)
       → ((it : Init) → Contains (at_slots one_init slot lefts) it → Contains asks (Member it))

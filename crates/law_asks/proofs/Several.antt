@@ -54,7 +54,7 @@ module _ (slot : ℕ) where
   none_member (it ∷ inits) = none_member inits
 
   none_reading : (reads : Bool) (decl : Decl) → takes (read_asks reads decl) slot ≡ false
-  none_reading true decl = none_read (arms decl)
+  none_reading true decl = none_read (arms decl.body)
   none_reading false decl = refl
 
   none_whole : (source : Option DefaultSource) → takes (whole_asks source) slot ≡ false

@@ -40,7 +40,7 @@ post_asks (Some it) = Transform it ∷ []
 
 -- the arms of items, where items are read
 abbrev pub read_asks : Bool → Decl → List Ask
-read_asks reads decl = if reads then map Read (arms decl) else []
+read_asks reads decl = if reads then map Read (arms decl.body) else []
 
 -- what follows once the items are read
 abbrev pub closing_asks : TraitImpl → List Ask
@@ -88,8 +88,8 @@ closing_is base =
     (ap₂ (λ asks more. asks ++ more) (asked.build base.ident.now (inits fields)) (transform_asks post)))
 
 module _ (decl : Decl) (base : TraitImpl) (is : IsDecl base decl) where
-  items_ask : asks_in (for_items base) ≡ map Read (arms decl)
-  items_ask = ap asks_in (for_items_is decl base is) ∙ asked.for_items (arms decl) (rest decl)
+  items_ask : asks_in (for_items base) ≡ map Read (arms decl.body)
+  items_ask = ap asks_in (for_items_is base decl is) ∙ asked.for_items (arms decl.body) (rest decl.body)
 
   list_asks : all_asks (list_stmts base) ≡ base_asks true decl base
   list_asks =
@@ -163,11 +163,11 @@ module _ (reads : Bool) (decl : Decl) (base : TraitImpl) where
       (Contains-append_right (read_asks reads decl) (closing_asks base) ask
       (Contains-append_right flattening (whole_asks (default_of false base) ++ (building ++ posting)) ask among))
 
-  pub asks-Read : reads ≡ true → (it : Arm) → Contains (arms decl) it → Contains (base_asks reads decl base) (Read it)
+  pub asks-Read : reads ≡ true → (it : Arm) → Contains (arms decl.body) it → Contains (base_asks reads decl base) (Read it)
   asks-Read e it among =
       Contains-append_right declaring (read_asks reads decl ++ closing_asks base) (Read it)
       (Contains-append_left (read_asks reads decl) (closing_asks base) (Read it)
-      (subst (λ it_reads. Contains (read_asks it_reads decl) (Read it)) (sym e) (contains-map Read (arms decl) it among)))
+      (subst (λ it_reads. Contains (read_asks it_reads decl) (Read it)) (sym e) (contains-map Read (arms decl.body) it among)))
 
   pub asks-Whole : (it : DefaultSource) → default_of false base ≡ Some it → Contains (base_asks reads decl base) (Whole it)
   asks-Whole it e =

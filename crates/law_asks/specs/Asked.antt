@@ -16,11 +16,11 @@ pub record IsOf (declared : DeriveInput) (decl : Decl) : Type 0 where
   pub is_struct : named_fields declared.body ≡ Some named
   pub name : ident_text declared.ident ≡ decl.name
   pub type : named_type declared.ident.text ≡ decl.type
-  pub members : AllZip IsFieldOf named decl.fields
-  pub differ : Differ (map (λ field. field.member) decl.fields)
+  pub members : AllZip IsFieldOf named decl.body.fields
+  pub differ : Differ (map (λ field. field.member) decl.body.fields)
 
 -- What the unit of the declaration asks of types and of the host is there; `reads` says whether it reads items.
 pub record IsMet (host : HostSays) (program : Program) (decl : Decl) (reads : Bool) : Type 0 where
-  pub fields : All (IsSoundField host program decl reads) decl.fields
-  pub default : IfSome decl.default (IsDefault host program decl.type)
+  pub fields : All (IsSoundField host program decl reads) decl.body.fields
+  pub default : IfSome decl.body.default (IsDefault host program decl.type)
   pub transform : IfSome decl.transform (IsTransform host program decl.type)

@@ -171,43 +171,43 @@ module _ (host : HostSays) (program : Program) (decl : Decl) (reads : Bool) (ear
       (answers_fit host program use_at.Default field.type callable NothingSeen lawful (λ e. absurd cc) there)
   fallback_fits field whole (OfContainer name) sound there has = has
 
-  none_fits : (field : FieldDecl) (found : Option Datum) → IfSome found (FitsAt field.type) → OnValue (FitsHere field.type) (value_of_none setting earlier decl field found)
+  none_fits : (field : FieldDecl) (found : Option Datum) → IfSome found (FitsAt field.type) → OnValue (FitsHere field.type) (value_of_none setting earlier decl.body field found)
   none_fits field (Some it) h = inl h
   none_fits field None h = tt
 
   absent_fits : (field : FieldDecl) (whole : Datum) (fall : Option Fallback) → Known field.type → IsSoundField host program decl reads field → IfSome fall (IsFallback host program field.type)
-      → HasFallback program decl.number field whole fall → OnValue (FitsHere field.type) (absent_value setting earlier decl field whole fall)
+      → HasFallback program decl.number field whole fall → OnValue (FitsHere field.type) (absent_value setting earlier decl.body field whole fall)
   absent_fits field whole (Some fall) known sound there has = fallback_fits field whole fall sound there has
   absent_fits field whole None known sound there has = none_fits field (none setting earlier field.type) (read_at_type field.type known).none
 
   empty_fits : (field : FieldDecl) (whole : Datum) (fall : Option Fallback) → IsTrue (field_fits host program decl.number false true field.type) → IsSoundField host program decl reads field
-      → IfSome fall (IsFallback host program field.type) → HasFallback program decl.number field whole fall → OnValue (FitsHere field.type) (empty_value setting earlier decl field whole fall)
+      → IfSome fall (IsFallback host program field.type) → HasFallback program decl.number field whole fall → OnValue (FitsHere field.type) (empty_value setting earlier decl.body field whole fall)
   empty_fits field whole (Some fall) known sound there has = fallback_fits field whole fall sound there has
   empty_fits field whole None known sound there has = many_fits field.type [] known (All-nil (FitsHere (element setting field.type)))
 
   -- ---- a field
 
-  flat_fits : (field : FieldDecl) (all : List NestedMeta) → Known field.type → All (IsGiven reads) all → OnValue (FitsHere field.type) (flat_outcome setting earlier decl field all)
+  flat_fits : (field : FieldDecl) (all : List NestedMeta) → Known field.type → All (IsGiven reads) all → OnValue (FitsHere field.type) (flat_outcome setting earlier decl.body field all)
   flat_fits field all known given =
-      let rest = unclaimed decl.fields all in
-      among_siblings (FitsHere field.type) (names decl.fields) (list setting earlier field.type rest)
+      let rest = unclaimed decl.body.fields all in
+      among_siblings (FitsHere field.type) (names decl.body.fields) (list setting earlier field.type rest)
       (weaker (FitsHere field.type) (FitsAt field.type) (λ it fit. inl fit) (list setting earlier field.type rest)
-      ((read_at_type field.type known).list rest (unclaimed_given reads decl.fields all given)))
+      ((read_at_type field.type known).list rest (unclaimed_given reads decl.body.fields all given)))
 
   known_by : (field : FieldDecl) (shape : Shape) → field.shape ≡ shape → IsSoundField host program decl reads field → IsTrue (field_fits host program decl.number false (is_many shape) field.type)
   known_by field shape e sound = subst (λ (it : Shape). IsTrue (field_fits host program decl.number false (is_many it) field.type)) e sound.fits
 
   -- the value of a field fits the field's type
   pub value_fits : (whole : Datum) (all : List NestedMeta) (field : FieldDecl) (shape : Shape) (own_items : List NestedMeta) → field.shape ≡ shape → IsSoundField host program decl reads field
-      → All (IsGiven reads) all → All (IsOwn reads field) own_items → HasFallback program decl.number field whole (fallback decl field)
-      → OnValue (FitsHere field.type) (field_value setting earlier decl whole all field shape own_items)
+      → All (IsGiven reads) all → All (IsOwn reads field) own_items → HasFallback program decl.number field whole (fallback decl.body field)
+      → OnValue (FitsHere field.type) (field_value setting earlier decl.body whole all field shape own_items)
   value_fits whole all field Flat own_items e sound given own has = flat_fits field all (known_by field Flat e sound) given
-  value_fits whole all field Many [] e sound given own has = empty_fits field whole (fallback decl field) (known_by field Many e sound) sound sound.falls has
+  value_fits whole all field Many [] e sound given own has = empty_fits field whole (fallback decl.body field) (known_by field Many e sound) sound sound.falls has
   value_fits whole all field Many (item ∷ more) e sound given own has =
       let found = values setting earlier field (item ∷ more) in
       many_fits field.type found (known_by field Many e sound)
       (subst (λ (shape : Shape). All (FitsHere (element_by setting shape field.type)) found) e (values_fit field (item ∷ more) sound own))
-  value_fits whole all field Single [] e sound given own has = absent_fits field whole (fallback decl field) (known_by field Single e sound) sound sound.falls has
+  value_fits whole all field Single [] e sound given own has = absent_fits field whole (fallback decl.body field) (known_by field Single e sound) sound sound.falls has
   value_fits whole all field Single (item ∷ more) e sound given own has =
       subst (λ (shape : Shape). OnValue (FitsHere (element_by setting shape field.type)) (read setting earlier field item)) e
       (own_fits field item sound (All-head (IsOwn reads field) item more own))

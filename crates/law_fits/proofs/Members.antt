@@ -57,16 +57,16 @@ more_members program here declared others field fields (Faults fault faults) mor
 module _ (host : HostSays) (program : Program) (decl : Decl) (reads : Bool) (earlier : Earlier) (lawful : IsLawful host) (named : AreNamed program.decls) (fits : EarlierFits program decl.number earlier) where
   -- the values of fields fit as members of their names
   pub members_fit : (whole : Datum) (all : List NestedMeta) (declared : List Field) (fields : List FieldDecl) (own_items : ℕ → List NestedMeta) → AllZip IsFieldOf declared fields
-      → All (IsSoundField host program decl reads) fields → All (IsGiven reads) all → ((number : ℕ) → All (IsOwn reads (field_at fields number)) (own_items number)) → HaveFallbacks program decl.number decl.default whole fields
+      → All (IsSoundField host program decl reads) fields → All (IsGiven reads) all → ((number : ℕ) → All (IsOwn reads (field_at fields number)) (own_items number)) → HaveFallbacks program decl.number decl.body.default whole fields
       → OnValue (λ values. AreMembers program decl.number declared (labelled (member_names fields) values))
-      (in_order (each (λ field mine. field_value (setting_of host program) earlier decl whole all field field.shape mine) fields own_items))
+      (in_order (each (λ field mine. field_value (setting_of host program) earlier decl.body whole all field field.shape mine) fields own_items))
   members_fit whole all [] [] own_items are sound given own has = tt
   members_fit whole all [] (field ∷ fields) own_items are sound given own has = absurd are
   members_fit whole all (it ∷ declared) [] own_items are sound given own has = absurd are
   members_fit whole all (it ∷ declared) (field ∷ fields) own_items are sound given own has =
       more_members program decl.number it declared field fields
-      (field_value (setting_of host program) earlier decl whole all field field.shape (own_items zero))
-      (in_order (each (λ field mine. field_value (setting_of host program) earlier decl whole all field field.shape mine) fields (λ number. own_items (suc number))))
+      (field_value (setting_of host program) earlier decl.body whole all field field.shape (own_items zero))
+      (in_order (each (λ field mine. field_value (setting_of host program) earlier decl.body whole all field field.shape mine) fields (λ number. own_items (suc number))))
       are.0
       (value_fits host program decl reads earlier lawful named fits whole all field field.shape (own_items zero) refl (All-head (IsSoundField host program decl reads) field fields sound) given (own zero) has.0)
       (members_fit whole all declared fields (λ number. own_items (suc number)) are.1 (All-tail (IsSoundField host program decl reads) field fields sound) given (λ number. own (suc number)) has.1)

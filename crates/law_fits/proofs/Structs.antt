@@ -107,13 +107,13 @@ module _ (host : HostSays) (program : Program) (decl : Decl) (reads : Bool) (ear
       subst (λ name. IsStruct program decl.number name sound.named (struct_of decl.name members)) (sym sound.name) (is_struct decl.name style.Struct (AreMembers program decl.number sound.named) members h) in
       subst (λ (it : Type 0). it) (sym (struct_is (struct_of decl.name members))) fit
 
-  struct_fits : (whole : Datum) (entries : List Entry) → All (IsGiven reads) (items entries) → HaveFallbacks program decl.number decl.default whole decl.fields → OnValue FitsThis (built_struct setting earlier decl whole entries)
+  struct_fits : (whole : Datum) (entries : List Entry) → All (IsGiven reads) (items entries) → HaveFallbacks program decl.number decl.body.default whole decl.body.fields → OnValue FitsThis (built_struct setting earlier decl.body decl.name whole entries)
   struct_fits whole entries given has =
-      mapped FitsThis (λ values. AreMembers program decl.number sound.named (labelled (member_names decl.fields) values))
-      (λ values. struct_of decl.name (labelled (member_names decl.fields) values)) (λ values h. built_fits (labelled (member_names decl.fields) values) h)
-      (in_order (each (λ field own_items. field_value setting earlier decl whole (items entries) field field.shape own_items) decl.fields (own decl.fields (items entries))))
-      (members_fit host program decl reads earlier lawful named fits whole (items entries) sound.named decl.fields (own decl.fields (items entries)) sound.members sound.fields given
-      (own_given reads decl.fields (items entries) given) has)
+      mapped FitsThis (λ values. AreMembers program decl.number sound.named (labelled (member_names decl.body.fields) values))
+      (λ values. struct_of decl.name (labelled (member_names decl.body.fields) values)) (λ values h. built_fits (labelled (member_names decl.body.fields) values) h)
+      (in_order (each (λ field own_items. field_value setting earlier decl.body whole (items entries) field field.shape own_items) decl.body.fields (own decl.body.fields (items entries))))
+      (members_fit host program decl reads earlier lawful named fits whole (items entries) sound.named decl.body.fields (own decl.body.fields (items entries)) sound.members sound.fields given
+      (own_given reads decl.body.fields (items entries) given) has)
 
   -- ---- the container's default
 
@@ -126,18 +126,18 @@ module _ (host : HostSays) (program : Program) (decl : Decl) (reads : Bool) (ear
       (answers_fit host program use_at.Default decl.type callable NothingSeen lawful (λ e. absurd cc) there)
 
   -- the members of a value that fits are found
-  whole_finds : (whole : Datum) → FitsThis whole → Finds program decl.number (λ name. member name whole) decl.fields
+  whole_finds : (whole : Datum) → FitsThis whole → Finds program decl.number (λ name. member name whole) decl.body.fields
   whole_finds whole h =
-      layer_finds program decl.number (ident_text sound.declared.ident) sound.named decl.fields sound.members sound.differ (out-Value whole) (subst (λ (it : Type 0). it) (struct_is whole) h)
+      layer_finds program decl.number (ident_text sound.declared.ident) sound.named decl.body.fields sound.members sound.differ (out-Value whole) (subst (λ (it : Type 0). it) (struct_is whole) h)
 
-  body_fits : (entries : List Entry) (container : Option Default) → decl.default ≡ container → All (IsGiven reads) (items entries) → IfSome container (IsDefault host program decl.type)
-      → OnValue FitsThis (bind (whole_default setting decl.type container) (λ whole. built_struct setting earlier decl whole entries))
+  body_fits : (entries : List Entry) (container : Option Default) → decl.body.default ≡ container → All (IsGiven reads) (items entries) → IfSome container (IsDefault host program decl.type)
+      → OnValue FitsThis (bind (whole_default setting decl.type container) (λ whole. built_struct setting earlier decl.body decl.name whole entries))
   body_fits entries None e given there =
-      struct_fits no_value entries given (subst (λ (container : Option Default). HaveFallbacks program decl.number container no_value decl.fields) (sym e) (no_container program decl.number no_value decl.fields))
+      struct_fits no_value entries given (subst (λ (container : Option Default). HaveFallbacks program decl.number container no_value decl.body.fields) (sym e) (no_container program decl.number no_value decl.body.fields))
   body_fits entries (Some container) e given there =
-      bound FitsThis FitsThis (λ whole. built_struct setting earlier decl whole entries)
+      bound FitsThis FitsThis (λ whole. built_struct setting earlier decl.body decl.name whole entries)
       (λ whole h. struct_fits whole entries given
-      (subst (λ (container : Option Default). HaveFallbacks program decl.number container whole decl.fields) (sym e) (with_container program decl.number whole container decl.fields (whole_finds whole h))))
+      (subst (λ (container : Option Default). HaveFallbacks program decl.number container whole decl.body.fields) (sym e) (with_container program decl.number whole container decl.body.fields (whole_finds whole h))))
       (default_outcome setting decl.type container) (default_fits container there)
 
   post_fits : (post : Option PostfixTransform) (outcome : Outcome Datum) → IfSome post (IsTransform host program decl.type) → OnValue FitsThis outcome → OnValue FitsThis (transformed setting earlier post decl.type outcome)
@@ -150,6 +150,6 @@ module _ (host : HostSays) (program : Program) (decl : Decl) (reads : Bool) (ear
   -- what entries mean under a declaration that can be run fits it
   pub well_fits : (entries : List Entry) → All (IsGiven reads) (items entries) → OnValue FitsThis (struct_meaning setting earlier decl entries)
   well_fits entries given =
-      let whole = bind (whole_default setting decl.type decl.default) (λ whole. built_struct setting earlier decl whole entries) in
-      settled FitsThis (collected_with setting earlier decl [] entries) (transformed setting earlier decl.transform decl.type whole)
-      (post_fits decl.transform whole sound.transform (body_fits entries decl.default refl given sound.default))
+      let whole = bind (whole_default setting decl.type decl.body.default) (λ whole. built_struct setting earlier decl.body decl.name whole entries) in
+      settled FitsThis (collected_with setting earlier decl.body [] entries) (transformed setting earlier decl.transform decl.type whole)
+      (post_fits decl.transform whole sound.transform (body_fits entries decl.body.default refl given sound.default))

@@ -91,7 +91,7 @@ module _ (host : HostSays) (program : Program) where
   pub record IsSoundField (decl : Decl) (reads : Bool) (field : FieldDecl) : Type 0 where
     pub shallow : type_depth field.type ≤ max_depth
     pub fits : IsTrue (field_fits host program decl.number false (is_many field.shape) field.type)
-    pub falls : IfSome (fallback decl field) (IsFallback field.type)
+    pub falls : IfSome (fallback decl.body field) (IsFallback field.type)
     pub read : reads ≡ true → is_named field ≡ true → IsRead decl.number (element_by (setting_of host program) field.shape field.type) field
 
   -- A declaration of the program whose options leave it so can be run. `reads` says whether it reads items.
@@ -102,8 +102,8 @@ module _ (host : HostSays) (program : Program) where
     pub is_struct : named_fields declared.body ≡ Some named
     pub name : ident_text declared.ident ≡ decl.name
     pub type : named_type declared.ident.text ≡ decl.type
-    pub members : AllZip IsFieldOf named decl.fields
-    pub fields : All (IsSoundField decl reads) decl.fields
-    pub differ : Differ (map (λ field. field.member) decl.fields)
-    pub default : IfSome decl.default (IsDefault decl.type)
+    pub members : AllZip IsFieldOf named decl.body.fields
+    pub fields : All (IsSoundField decl reads) decl.body.fields
+    pub differ : Differ (map (λ field. field.member) decl.body.fields)
+    pub default : IfSome decl.body.default (IsDefault decl.type)
     pub transform : IfSome decl.transform (IsTransform decl.type)

@@ -12,7 +12,7 @@ use Rattle.codegen_core.specs.Compiled.{fields_of, for_items}
 use Rattle.codegen_core.specs.Fields.{at_slots, name_of, named_arm, arm as left_arm, names as left_names}
 use Rattle.codegen_core.specs.declared.field.Field.{Field}
 use Rattle.codegen_core.specs.declared.trait_impl.TraitImpl.{TraitImpl}
-use Rattle.meaning_core.specs.Decl.{Decl, FieldDecl, Shape, Single, Many, Flat, has_flat, is_flat, is_many, is_named, is_named_by, names}
+use Rattle.meaning_core.specs.Decl.{BodyDecl, Decl, FieldDecl, Shape, Single, Many, Flat, has_flat, is_flat, is_many, is_named, is_named_by, names}
 use Rattle.meaning_core.specs.EntrySteps.{arm, arms, arms_from, rest, rest_by}
 use Rattle.law_machine.specs.Compiles.{IsField, IsDecl}
 
@@ -47,32 +47,32 @@ rest_by_is true a ns = refl
 rest_by_is false true ns = refl
 rest_by_is false false ns = refl
 
-module _ (decl : Decl) where
-  name_is : (left : Field) (f : FieldDecl) → IsField decl left f → name_of left ≡ cond (is_named f) (Some f.name) None
+module _ (body : BodyDecl) where
+  name_is : (left : Field) (f : FieldDecl) → IsField body left f → name_of left ≡ cond (is_named f) (Some f.name) None
   name_is left f is =
       ap₂ (λ s t. named_by s t left.name_in_attr.now) is.skip is.flat
       ∙ ap (named_by f.skip (is_flat f.shape)) is.name
       ∙ named_is f.shape f.skip f.name
 
-  pub any_flat : (lefts : List Field) (fs : List FieldDecl) → AllZip (IsField decl) lefts fs → list_any (λ left. left.flatten) lefts ≡ has_flat fs
+  pub any_flat : (lefts : List Field) (fs : List FieldDecl) → AllZip (IsField body) lefts fs → list_any (λ left. left.flatten) lefts ≡ has_flat fs
   any_flat [] [] zip = refl
   any_flat [] (f ∷ fs) zip = absurd zip
   any_flat (left ∷ lefts) [] zip = absurd zip
   any_flat (left ∷ lefts) (f ∷ fs) zip = ap₂ (λ a b. a || b) zip.0.flat (any_flat lefts fs zip.1) ∙ or_is (is_flat f.shape) (has_flat fs)
 
-  pub names_are : (lefts : List Field) (fs : List FieldDecl) → AllZip (IsField decl) lefts fs → left_names lefts ≡ names fs
+  pub names_are : (lefts : List Field) (fs : List FieldDecl) → AllZip (IsField body) lefts fs → left_names lefts ≡ names fs
   names_are [] [] zip = refl
   names_are [] (f ∷ fs) zip = absurd zip
   names_are (left ∷ lefts) [] zip = absurd zip
   names_are (left ∷ lefts) (f ∷ fs) zip = ap₂ cons_option (name_is left f zip.0) (names_are lefts fs zip.1) ∙ cons_named (is_named f) f.name (names fs)
 
-  arm_by : (left : Field) (f : FieldDecl) (k : ℕ) (b : Bool) → IsField decl left f → named_arm k left (cond b (Some f.name) None) ≡ cond b (arm k f ∷ []) []
+  arm_by : (left : Field) (f : FieldDecl) (k : ℕ) (b : Bool) → IsField body left f → named_arm k left (cond b (Some f.name) None) ≡ cond b (arm k f ∷ []) []
   arm_by left f k true is =
       let make : Bool → Option Callable → Option PostfixTransform → List Arm = λ m w p. let x : Arm = record { name = f.name; slot = k; many = m; with = w; post = p } in x ∷ [] in
       ap₂ (λ m w. make m w (option_copied left.post_transform)) is.many is.with ∙ ap (make (is_many f.shape) f.with) is.transform
   arm_by left f k false is = refl
 
-  arms_are : (lefts : List Field) (fs : List FieldDecl) (k : ℕ) → AllZip (IsField decl) lefts fs → at_slots left_arm k lefts ≡ arms_from k fs
+  arms_are : (lefts : List Field) (fs : List FieldDecl) (k : ℕ) → AllZip (IsField body) lefts fs → at_slots left_arm k lefts ≡ arms_from k fs
   arms_are [] [] k zip = refl
   arms_are [] (f ∷ fs) k zip = absurd zip
   arms_are (left ∷ lefts) [] k zip = absurd zip
@@ -82,10 +82,11 @@ module _ (decl : Decl) where
       (ap (λ j. at_slots left_arm j lefts) (next k) ∙ arms_are lefts fs (suc k) zip.1)
       ∙ put_in (is_named f) (arm k f) (arms_from (suc k) fs)
 
-  pub for_items_is : (left : TraitImpl) → IsDecl left decl → for_items left ≡ stmt.ForItems (arms decl) (rest decl)
-  for_items_is left is =
-      let lefts = fields_of left in
-      ap₂ stmt.ForItems (arms_are lefts decl.fields zero is.fields)
-      (ap₂ (λ b ns. if b then rests.Buffer else (if left.allow_unknown_fields then rests.Ignore else rests.Unknown ns)) (any_flat lefts decl.fields is.fields) (names_are lefts decl.fields is.fields)
-      ∙ ap (λ a. if has_flat decl.fields then rests.Buffer else (if a then rests.Ignore else rests.Unknown (names decl.fields))) is.allows_unknown
-      ∙ rest_by_is (has_flat decl.fields) decl.allows_unknown (names decl.fields))
+pub for_items_is : (left : TraitImpl) (decl : Decl) → IsDecl left decl → for_items left ≡ stmt.ForItems (arms decl.body) (rest decl.body)
+for_items_is left decl is =
+    let lefts = fields_of left in
+    let body = decl.body in
+    ap₂ stmt.ForItems (arms_are body lefts body.fields zero is.fields)
+    (ap₂ (λ b ns. if b then rests.Buffer else (if left.allow_unknown_fields then rests.Ignore else rests.Unknown ns)) (any_flat body lefts body.fields is.fields) (names_are body lefts body.fields is.fields)
+    ∙ ap (λ a. if has_flat body.fields then rests.Buffer else (if a then rests.Ignore else rests.Unknown (names body.fields))) is.allows_unknown
+    ∙ rest_by_is (has_flat body.fields) body.allows_unknown (names body.fields))

@@ -24,7 +24,7 @@ use Rattle.codegen_core.specs.declared.default_expression.DefaultExpression.{Def
 use Rattle.codegen_core.specs.declared.default_expression.DefaultExpression.TheVariants as defaults
 use Rattle.codegen_core.specs.declared.field.Field.{Field}
 use Rattle.codegen_core.specs.declared.trait_impl.TraitImpl.{TraitImpl}
-use Rattle.meaning_core.specs.Decl.{Decl, FieldDecl, Shape, Single, Many, Flat, Fallback, Default, ByType, ByCall, fallback}
+use Rattle.meaning_core.specs.Decl.{BodyDecl, Decl, FieldDecl, Shape, Single, Many, Flat, Fallback, Default, ByType, ByCall, fallback}
 use Rattle.machine_execute.specs.Setting.{Setting}
 use Rattle.machine_execute.specs.Convert.{Earlier, none}
 use Rattle.meaning_core.specs.Owners.{each, field_at, own}
@@ -41,7 +41,7 @@ use Rattle.machine_execute.proofs.Statements as statement
 use Rattle.law_machine.specs.Compiles.{IsField, IsDecl, meant_default, meant_fallback}
 use Rattle.law_machine.proofs.Passes.{at_here, flat_added, full_by, full_slot, go, missing_added, missing_full, missing_is, one_more}
 
-module _ (setting : Setting) (earlier : Earlier) (type : Type') (given : Given) (decl : Decl) (all kept : List NestedMeta) where
+module _ (setting : Setting) (earlier : Earlier) (type : Type') (given : Given) (body : BodyDecl) (all kept : List NestedMeta) where
   -- ---- the value of one member
 
   abbrev empty_meant : Type' → Datum → Option Fallback → Outcome Datum
@@ -76,36 +76,36 @@ module _ (setting : Setting) (earlier : Earlier) (type : Type') (given : Given) 
   values_by_read whole x t (Value v) vs c = refl
   values_by_read whole x t (Faults f fs) vs c = absurd c
 
-  empty_is : (f : FieldDecl) (whole : Datum) (x : Option Fallback) → empty_meant f.type whole x ≡ empty_value setting earlier decl f whole x
+  empty_is : (f : FieldDecl) (whole : Datum) (x : Option Fallback) → empty_meant f.type whole x ≡ empty_value setting earlier body f whole x
   empty_is f whole None = refl
   empty_is f whole (Some x) = refl
 
-  none_is : (f : FieldDecl) (whole : Datum) (v : Option Datum) → missing_by setting earlier decl f None v ≡ []
-      → init_meant whole None (absent f.type f.name v).0 ≡ Some (value_of_none setting earlier decl f v)
+  none_is : (f : FieldDecl) (whole : Datum) (v : Option Datum) → missing_by setting earlier body f None v ≡ []
+      → init_meant whole None (absent f.type f.name v).0 ≡ Some (value_of_none setting earlier body f v)
   none_is f whole (Some v) e = refl
   none_is f whole None e = absurd (not_nil _ [] e)
 
-  init_is : (f : FieldDecl) (s : Shape) (x : Option Fallback) (whole : Datum) (own_items : List NestedMeta) → fallback decl f ≡ x → Clean setting earlier f own_items
-      → flat_faults setting earlier decl f s all ≡ [] → missing_full setting earlier type given decl all kept f s x own_items ≡ []
-      → init_meant whole x (full_by setting earlier type given decl all kept f s x own_items) ≡ Some (field_value setting earlier decl whole all f s own_items)
-  init_is f Flat x whole own_items e c a m = value_by_read whole x f.type (flat_outcome setting earlier decl f all) (value_if_none (flat_outcome setting earlier decl f all) a)
-  init_is f Many x whole [] e c a m = ap (λ o. let r : Option (Outcome Datum) = Some o in r) (empty_is f whole x ∙ ap (empty_value setting earlier decl f whole) (sym e))
+  init_is : (f : FieldDecl) (s : Shape) (x : Option Fallback) (whole : Datum) (own_items : List NestedMeta) → fallback body f ≡ x → Clean setting earlier f own_items
+      → flat_faults setting earlier body f s all ≡ [] → missing_full setting earlier type given body all kept f s x own_items ≡ []
+      → init_meant whole x (full_by setting earlier type given body all kept f s x own_items) ≡ Some (field_value setting earlier body whole all f s own_items)
+  init_is f Flat x whole own_items e c a m = value_by_read whole x f.type (flat_outcome setting earlier body f all) (value_if_none (flat_outcome setting earlier body f all) a)
+  init_is f Many x whole [] e c a m = ap (λ o. let r : Option (Outcome Datum) = Some o in r) (empty_is f whole x ∙ ap (empty_value setting earlier body f whole) (sym e))
   init_is f Many x whole (i ∷ more) e c a m = values_by_read whole x f.type (read setting earlier f i) (values setting earlier f more) c
-  init_is f Single None whole [] e c a m = none_is f whole (none setting earlier f.type) m ∙ ap (λ y. let r : Option (Outcome Datum) = Some (absent_value setting earlier decl f whole y) in r) (sym e)
-  init_is f Single (Some x) whole [] e c a m = ap (λ y. let r : Option (Outcome Datum) = Some (absent_value setting earlier decl f whole y) in r) (sym e)
+  init_is f Single None whole [] e c a m = none_is f whole (none setting earlier f.type) m ∙ ap (λ y. let r : Option (Outcome Datum) = Some (absent_value setting earlier body f whole y) in r) (sym e)
+  init_is f Single (Some x) whole [] e c a m = ap (λ y. let r : Option (Outcome Datum) = Some (absent_value setting earlier body f whole y) in r) (sym e)
   init_is f Single None whole (i ∷ more) e c a m = value_by_read whole None f.type (read setting earlier f i) c
   init_is f Single (Some x) whole (i ∷ more) e c a m = value_by_read whole (Some x) f.type (read setting earlier f i) c
 
   -- ---- all members
 
   abbrev full : FieldDecl → List NestedMeta → Slot
-  full f own_items = full_slot setting earlier type given decl all kept f own_items
+  full f own_items = full_slot setting earlier type given body all kept f own_items
 
   abbrev added_flat : FieldDecl → List NestedMeta → List Fault
-  added_flat f own_items = flat_added setting earlier type given decl all kept f own_items
+  added_flat f own_items = flat_added setting earlier type given body all kept f own_items
 
   abbrev added_missing : FieldDecl → List NestedMeta → List Fault
-  added_missing f own_items = missing_added setting earlier type given decl all kept f own_items
+  added_missing f own_items = missing_added setting earlier type given body all kept f own_items
 
   -- no fault of the field was collected
   abbrev IsGood : FieldDecl → List NestedMeta → Type 0
@@ -125,7 +125,7 @@ module _ (setting : Setting) (earlier : Earlier) (type : Type') (given : Given) 
       )
 
   abbrev value_here : Datum → FieldDecl → List NestedMeta → Outcome Datum
-  value_here whole f own_items = field_value setting earlier decl whole all f f.shape own_items
+  value_here whole f own_items = field_value setting earlier body whole all f f.shape own_items
 
   abbrev one_init : ℕ → Field → List Init
   one_init slot left = init slot left ∷ []
@@ -134,7 +134,7 @@ module _ (setting : Setting) (earlier : Earlier) (type : Type') (given : Given) 
   in_front_is (Value v) others = refl
   in_front_is (Faults f fs) others = refl
 
-  values_are : (whole : Datum) (lefts : List Field) (fs : List FieldDecl) (own_items : ℕ → List NestedMeta) (done : List Slot) → AllZip (IsField decl) lefts fs → AreGood fs own_items
+  values_are : (whole : Datum) (lefts : List Field) (fs : List FieldDecl) (own_items : ℕ → List NestedMeta) (done : List Slot) → AllZip (IsField body) lefts fs → AreGood fs own_items
       → init_values setting whole (done ++ each full fs own_items) (at_slots one_init (length done) lefts) ≡ Some (in_order (each (value_here whole) fs own_items))
   values_are whole [] [] own_items done zip good = refl
   values_are whole [] (f ∷ fs) own_items done zip good = absurd zip
@@ -146,31 +146,44 @@ module _ (setting : Setting) (earlier : Earlier) (type : Type') (given : Given) 
       ap (init_value setting whole (fallback_of left)) (at_here done (each full fs later) x)
       ∙ meant_is whole (fallback_of left) x
       ∙ ap (λ y. init_meant whole y x) zip.0.fallback
-      ∙ init_is f f.shape (fallback decl f) whole (own_items zero) refl good.0.0 good.0.1 (missing_is setting earlier type given decl all kept f f.shape (own_items zero) ∙ good.0.2) in
+      ∙ init_is f f.shape (fallback body f) whole (own_items zero) refl good.0.0 good.0.1 (missing_is setting earlier type given body all kept f f.shape (own_items zero) ∙ good.0.2) in
       let more : init_values setting whole (done ++ x ∷ each full fs later) (at_slots one_init (length done + 1) lefts) ≡ Some (in_order (each (value_here whole) fs later)) =
       ap₂ (λ xs k. init_values setting whole xs (at_slots one_init k lefts)) (sym (append_assoc done (x ∷ []) (each full fs later))) (one_more done x)
       ∙ values_are whole lefts fs later (done ++ x ∷ []) zip.1 good.1 in
       ap₂ (in_front setting) first more ∙ in_front_is (value_here whole f (own_items zero)) (in_order (each (value_here whole) fs later))
 
-  members_are : (lefts : List Field) (fs : List FieldDecl) (k : ℕ) → AllZip (IsField decl) lefts fs → map (λ it. it.member) (at_slots one_init k lefts) ≡ map (λ f. f.member) fs
+  members_are : (lefts : List Field) (fs : List FieldDecl) (k : ℕ) → AllZip (IsField body) lefts fs → map (λ it. it.member) (at_slots one_init k lefts) ≡ map (λ f. f.member) fs
   members_are [] [] k zip = refl
   members_are [] (f ∷ fs) k zip = absurd zip
   members_are (left ∷ lefts) [] k zip = absurd zip
   members_are (left ∷ lefts) (f ∷ fs) k zip = ap₂ (λ m ms. m ∷ ms) zip.0.member (members_are lefts fs (k + 1) zip.1)
 
-  -- ---- the statements behind the errors
-
   abbrev mine : ℕ → List NestedMeta
-  mine = own decl.fields all
+  mine = own body.fields all
 
   abbrev pub full_state : Datum → List Fault → State
-  full_state whole faults = record { slots = each full decl.fields mine; faults = faults; kept = kept; whole = whole }
+  full_state whole faults = record { slots = each full body.fields mine; faults = faults; kept = kept; whole = whole }
+
+-- ---- the statements behind the errors
+
+module _ (setting : Setting) (earlier : Earlier) (type : Type') (given : Given) (decl : Decl) (all kept : List NestedMeta) where
+  abbrev own_items : ℕ → List NestedMeta
+  own_items = own decl.body.fields all
+
+  abbrev state : Datum → List Fault → State
+  state whole faults = full_state setting earlier type given decl.body all kept whole faults
+
+  abbrev Good : Type 0
+  Good = AreGood setting earlier type given decl.body all kept decl.body.fields own_items
+
+  abbrev values_made : Datum → Outcome (List Datum)
+  values_made whole = in_order (each (λ f those. field_value setting earlier decl.body whole all f f.shape those) decl.body.fields own_items)
 
   abbrev pub made : Datum → Outcome Datum
-  made whole = on_value (λ vs. struct_of decl.name (labelled (map (λ f. f.member) decl.fields) vs)) (in_order (each (value_here whole) decl.fields mine))
+  made whole = on_value (λ vs. struct_of decl.name (labelled (map (λ f. f.member) decl.body.fields) vs)) (values_made whole)
 
   abbrev run_on : List Stmt → Progress → Progress
-  run_on stmts progress = go setting earlier type given decl stmts progress
+  run_on stmts progress = go setting earlier type given decl.body stmts progress
 
   transform_is : (p : Option PostfixTransform) (o : Outcome Datum) → run_on (transform p) (Built o) ≡ Built (transformed setting earlier p type o)
   transform_is None o = refl
@@ -184,14 +197,14 @@ module _ (setting : Setting) (earlier : Earlier) (type : Type') (given : Given) 
     abbrev pub last : List Stmt
     last = build left ∷ transform (option_copied left.post_transform)
 
-    build_is : (whole : Datum) (faults : List Fault) → AreGood decl.fields mine → run_on (build left ∷ []) (Going (full_state whole faults)) ≡ Built (made whole)
+    build_is : (whole : Datum) (faults : List Fault) → Good → run_on (build left ∷ []) (Going (state whole faults)) ≡ Built (made whole)
     build_is whole faults good =
-        let o = in_order (each (value_here whole) decl.fields mine) in
-        statement.build setting earlier type left.ident.now None [] (inits (fields_of left)) given (Going (full_state whole faults))
-        ∙ ap (λ b. built_or_stuck (option_map (built_struct left.ident.now (inits (fields_of left))) b)) (values_are whole (fields_of left) decl.fields mine [] is.fields good)
-        ∙ ap₂ (λ n ms. Built (on_value (λ vs. struct_of n (labelled ms vs)) o)) is.name (members_are (fields_of left) decl.fields zero is.fields)
+        let o = values_made whole in
+        statement.build setting earlier type left.ident.now None [] (inits (fields_of left)) given (Going (state whole faults))
+        ∙ ap (λ b. built_or_stuck (option_map (built_struct left.ident.now (inits (fields_of left))) b)) (values_are setting earlier type given decl.body all kept whole (fields_of left) decl.body.fields own_items [] is.fields good)
+        ∙ ap₂ (λ n ms. Built (on_value (λ vs. struct_of n (labelled ms vs)) o)) is.name (members_are setting earlier type given decl.body all kept (fields_of left) decl.body.fields zero is.fields)
 
-    last_is : (whole : Datum) (faults : List Fault) → AreGood decl.fields mine → run_on last (Going (full_state whole faults)) ≡ Built (transformed setting earlier decl.transform type (made whole))
+    last_is : (whole : Datum) (faults : List Fault) → Good → run_on last (Going (state whole faults)) ≡ Built (transformed setting earlier decl.transform type (made whole))
     last_is whole faults good =
         ap (run_on (transform (option_copied left.post_transform))) (build_is whole faults good)
         ∙ transform_is (option_copied left.post_transform) (made whole)
@@ -207,23 +220,23 @@ module _ (setting : Setting) (earlier : Earlier) (type : Type') (given : Given) 
     passed_by (Some p) f fs = refl
 
     -- the default of the receiver first, whose faults end all
-    behind_whole : (o : Outcome Datum) (faults : List Fault) → AreGood decl.fields mine
-        → outcome (run_on last (on_outcome o (λ whole. Going (full_state whole faults)))) ≡ Some (transformed setting earlier decl.transform type (bind o made))
+    behind_whole : (o : Outcome Datum) (faults : List Fault) → Good
+        → outcome (run_on last (on_outcome o (λ whole. Going (state whole faults)))) ≡ Some (transformed setting earlier decl.transform type (bind o made))
     behind_whole (Value whole) faults good = ap outcome (last_is whole faults good)
     behind_whole (Faults f fs) faults good = ap outcome (ended_last f fs) ∙ passed_by decl.transform f fs
 
-    pub behind_default : (x : Option DefaultExpression) (d : Option Default) (faults : List Fault) → option_and_then meant_default (option_and_then source x) ≡ d → AreGood decl.fields mine
-        → outcome (run_on (set_default (option_and_then source x) ++ last) (Going (full_state no_value faults))) ≡ Some (transformed setting earlier decl.transform type (bind (whole_default setting type d) made))
+    pub behind_default : (x : Option DefaultExpression) (d : Option Default) (faults : List Fault) → option_and_then meant_default (option_and_then source x) ≡ d → Good
+        → outcome (run_on (set_default (option_and_then source x) ++ last) (Going (state no_value faults))) ≡ Some (transformed setting earlier decl.transform type (bind (whole_default setting type d) made))
     behind_default None d faults e good =
         behind_whole (Value no_value) faults good ∙ ap (λ d. let r : Option (Outcome Datum) = Some (transformed setting earlier decl.transform type (bind (whole_default setting type d) made)) in r) e
     behind_default (Some (defaults.Inherit ident)) d faults e good =
         behind_whole (Value no_value) faults good ∙ ap (λ d. let r : Option (Outcome Datum) = Some (transformed setting earlier decl.transform type (bind (whole_default setting type d) made)) in r) e
     behind_default (Some (defaults.Explicit call)) d faults e good =
-        ap (λ p. outcome (run_on last p)) (statement.set_default setting earlier type (sources.Explicit call.now) given (Going (full_state no_value faults)))
+        ap (λ p. outcome (run_on last p)) (statement.set_default setting earlier type (sources.Explicit call.now) given (Going (state no_value faults)))
         ∙ behind_whole (default_outcome setting type (ByCall call.now)) faults good
         ∙ ap (λ d. let r : Option (Outcome Datum) = Some (transformed setting earlier decl.transform type (bind (whole_default setting type d) made)) in r) e
     behind_default (Some (defaults.Trait span)) d faults e good =
-        ap (λ p. outcome (run_on last p)) (statement.set_default setting earlier type sources.Trait given (Going (full_state no_value faults)))
+        ap (λ p. outcome (run_on last p)) (statement.set_default setting earlier type sources.Trait given (Going (state no_value faults)))
         ∙ behind_whole (default_outcome setting type ByType) faults good
         ∙ ap (λ d. let r : Option (Outcome Datum) = Some (transformed setting earlier decl.transform type (bind (whole_default setting type d) made)) in r) e
 

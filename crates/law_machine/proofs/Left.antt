@@ -13,7 +13,7 @@ use Rattle.codegen_core.specs.declared.trait_impl.TraitImpl.{TraitImpl}
 use Rattle.machine_execute.specs.Machine.{is_from_derive_input, is_from_list, run_func, unit_type}
 use Rattle.machine_execute.specs.Progress.{Items, Input, outcome}
 use Rattle.machine_execute.specs.Statements.{run}
-use Rattle.meaning_core.specs.Decl.{Decl, Default, OfContainer, fallback_by, is_flat, is_many, skip_fallback}
+use Rattle.meaning_core.specs.Decl.{BodyDecl, Default, OfContainer, fallback_by, is_flat, is_many, skip_fallback}
 use Rattle.law_machine.specs.Claims.{InputsHaveOutcomes, ListsHaveOutcomes}
 use Rattle.law_machine.specs.Compiles.{IsDecl, IsField, meant_fallback}
 use Rattle.law_machine.specs.Left.{IsLeft, IsLeftDefault, IsLeftField, meant_decl, meant_field, own_default, shape_of}
@@ -39,8 +39,8 @@ fallback_is left None (Some (defaults.Inherit ident)) is = absurd is
 fallback_is left whole (Some (defaults.Explicit call)) is = refl
 fallback_is left whole (Some (defaults.Trait span)) is = refl
 
-module _ (decl : Decl) where
-  field_is : (left : Field) → IsLeftField decl.default left → IsField decl left (meant_field left)
+module _ (body : BodyDecl) where
+  field_is : (left : Field) → IsLeftField body.default left → IsField body left (meant_field left)
   field_is left is =
       record {
         member = refl;
@@ -51,10 +51,10 @@ module _ (decl : Decl) where
         skip = refl;
         with = refl;
         transform = refl;
-        fallback = fallback_is left decl.default left.default_expression is.default;
+        fallback = fallback_is left body.default left.default_expression is.default;
       }
 
-  fields_are : (lefts : List Field) → AllByRecursion (IsLeftField decl.default) lefts → AllZip (IsField decl) lefts (map meant_field lefts)
+  fields_are : (lefts : List Field) → AllByRecursion (IsLeftField body.default) lefts → AllZip (IsField body) lefts (map meant_field lefts)
   fields_are [] are = tt
   fields_are (left ∷ lefts) are = (field_is left are.0, fields_are lefts are.1)
 
@@ -62,7 +62,7 @@ decl_is : (type : Type') (attributes : List Text) (left : TraitImpl) → IsLeft 
 decl_is type attributes left is =
     record {
       name = refl;
-      fields = fields_are (meant_decl type attributes left) (fields_of left) is;
+      fields = fields_are (meant_decl type attributes left).body (fields_of left) is;
       default = refl;
       transform = refl;
       allows_unknown = refl;

@@ -15,7 +15,7 @@ use Rattle.codegen_core.specs.Defaults.{fallback as left_fallback}
 use Rattle.codegen_core.specs.Fields.{at_slots, declaration, flatten, check, check_without}
 use Rattle.codegen_core.specs.declared.default_expression.DefaultExpression.{DefaultExpression}
 use Rattle.codegen_core.specs.declared.field.Field.{Field}
-use Rattle.meaning_core.specs.Decl.{Decl, FieldDecl, Shape, Single, Many, Flat, Fallback, fallback, is_flat, is_many, names}
+use Rattle.meaning_core.specs.Decl.{BodyDecl, FieldDecl, Shape, Single, Many, Flat, Fallback, fallback, is_flat, is_many, names}
 use Rattle.machine_execute.specs.Setting.{Setting}
 use Rattle.machine_execute.specs.Convert.{Earlier, none}
 use Rattle.meaning_core.specs.Owners.{unclaimed, each}
@@ -42,7 +42,7 @@ put_here (z ∷ zs) todo x y = ap (λ xs. z ∷ xs) (put_here zs todo x y)
 pub one_more : (done : List Slot) (x : Slot) → length done + 1 ≡ length (done ++ x ∷ [])
 one_more done x = omega (arith, length-append done (x ∷ []))
 
-module _ (setting : Setting) (earlier : Earlier) (type : Type') (given : Given) (decl : Decl) where
+module _ (setting : Setting) (earlier : Earlier) (type : Type') (given : Given) (body : BodyDecl) where
   abbrev pub go : List Stmt → Progress → Progress
   go stmts progress = run_from setting earlier type stmts given progress
 
@@ -62,13 +62,13 @@ module _ (setting : Setting) (earlier : Earlier) (type : Type') (given : Given) 
       ap (go (stmt.DeclareBuffer ∷ [])) (statement.declare_one setting earlier type k ident f.type given (with_slots_kept [] xs []))
       ∙ statement.declare_buffer setting earlier type given (with_slots_kept [] (xs ++ One f.type false None ∷ []) [])
 
-  declare_field : (left : Field) (f : FieldDecl) (k : ℕ) (xs : List Slot) → IsField decl left f → go (declaration k left) (with_slots_kept [] xs []) ≡ with_slots_kept [] (xs ++ field_slot setting earlier f [] ∷ []) []
+  declare_field : (left : Field) (f : FieldDecl) (k : ℕ) (xs : List Slot) → IsField body left f → go (declaration k left) (with_slots_kept [] xs []) ≡ with_slots_kept [] (xs ++ field_slot setting earlier f [] ∷ []) []
   declare_field left f k xs is =
       ap₂ (λ m b. go (declaration_by m b k left.ident.now left.ty.now) (with_slots_kept [] xs [])) is.many is.flat
       ∙ ap (λ t. go (declaration_by (is_many f.shape) (is_flat f.shape) k left.ident.now t) (with_slots_kept [] xs [])) is.type
       ∙ declare_by f.shape f left.ident.now k xs
 
-  pub run_declarations : (lefts : List Field) (fs : List FieldDecl) (k : ℕ) (xs : List Slot) → AllZip (IsField decl) lefts fs
+  pub run_declarations : (lefts : List Field) (fs : List FieldDecl) (k : ℕ) (xs : List Slot) → AllZip (IsField body) lefts fs
       → go (at_slots declaration k lefts) (with_slots_kept [] xs []) ≡ with_slots_kept [] (xs ++ each (field_slot setting earlier) fs (λ j. [])) []
   run_declarations [] [] k xs zip = ap (λ x. with_slots_kept [] x []) (sym (append-nil xs))
   run_declarations [] (f ∷ fs) k xs zip = absurd zip
@@ -87,7 +87,7 @@ module _ (setting : Setting) (earlier : Earlier) (type : Type') (given : Given) 
 
     -- what is kept for a flattened field is what no field owns
     abbrev pub IsKept : FieldDecl → Type 0
-    IsKept f = is_flat f.shape ≡ true → kept ≡ unclaimed decl.fields all
+    IsKept f = is_flat f.shape ≡ true → kept ≡ unclaimed body.fields all
 
     abbrev pub AreKept : List FieldDecl → Type 0
     AreKept [] = Unit {0}
@@ -96,11 +96,11 @@ module _ (setting : Setting) (earlier : Earlier) (type : Type') (given : Given) 
     -- the statements of a field change its slot and add faults
     abbrev Passes : (ℕ → Field → List Stmt) → (a b : FieldDecl → List NestedMeta → Slot) → (FieldDecl → List NestedMeta → List Fault) → Type 0
     Passes give a b c =
-        (left : Field) (f : FieldDecl) (own_items : List NestedMeta) (done todo : List Slot) (faults : List Fault) → IsField decl left f → IsKept f
+        (left : Field) (f : FieldDecl) (own_items : List NestedMeta) (done todo : List Slot) (faults : List Fault) → IsField body left f → IsKept f
         → go (give (length done) left) (at_slots_with (done ++ a f own_items ∷ todo) faults) ≡ at_slots_with (done ++ b f own_items ∷ todo) (faults ++ c f own_items)
 
     run_pass : (give : ℕ → Field → List Stmt) (a b : FieldDecl → List NestedMeta → Slot) (c : FieldDecl → List NestedMeta → List Fault) → Passes give a b c
-        → (lefts : List Field) (fs : List FieldDecl) (own_items : ℕ → List NestedMeta) (done : List Slot) (faults : List Fault) → AllZip (IsField decl) lefts fs → AreKept fs
+        → (lefts : List Field) (fs : List FieldDecl) (own_items : ℕ → List NestedMeta) (done : List Slot) (faults : List Fault) → AllZip (IsField body) lefts fs → AreKept fs
         → go (at_slots give (length done) lefts) (at_slots_with (done ++ each a fs own_items) faults) ≡ at_slots_with (done ++ each b fs own_items) (faults ++ joined (each c fs own_items))
     run_pass give a b c passes [] [] own_items done faults zip are = ap (λ x. at_slots_with (done ++ []) x) (sym (append-nil faults))
     run_pass give a b c passes [] (f ∷ fs) own_items done faults zip are = absurd zip
@@ -123,7 +123,7 @@ module _ (setting : Setting) (earlier : Earlier) (type : Type') (given : Given) 
     -- ---- the flattened fields
 
     abbrev flat_by : FieldDecl → Shape → List NestedMeta → Slot
-    flat_by f Flat own_items = One f.type true (value_of (flat_outcome setting earlier decl f all))
+    flat_by f Flat own_items = One f.type true (value_of (flat_outcome setting earlier body f all))
     flat_by f Single own_items = slot_by setting earlier f Single own_items
     flat_by f Many own_items = slot_by setting earlier f Many own_items
 
@@ -132,19 +132,19 @@ module _ (setting : Setting) (earlier : Earlier) (type : Type') (given : Given) 
     read_slot_is t (Faults f fs) = refl
 
     abbrev flatten_by : Bool → ℕ → List Stmt
-    flatten_by flat slot = if flat then stmt.ReadFlatten slot (names decl.fields) ∷ [] else []
+    flatten_by flat slot = if flat then stmt.ReadFlatten slot (names body.fields) ∷ [] else []
 
-    flat_step : (s : Shape) (f : FieldDecl) (own_items : List NestedMeta) (done todo : List Slot) (faults : List Fault) → (is_flat s ≡ true → kept ≡ unclaimed decl.fields all)
-        → go (flatten_by (is_flat s) (length done)) (at_slots_with (done ++ slot_by setting earlier f s own_items ∷ todo) faults) ≡ at_slots_with (done ++ flat_by f s own_items ∷ todo) (faults ++ flat_faults setting earlier decl f s all)
+    flat_step : (s : Shape) (f : FieldDecl) (own_items : List NestedMeta) (done todo : List Slot) (faults : List Fault) → (is_flat s ≡ true → kept ≡ unclaimed body.fields all)
+        → go (flatten_by (is_flat s) (length done)) (at_slots_with (done ++ slot_by setting earlier f s own_items ∷ todo) faults) ≡ at_slots_with (done ++ flat_by f s own_items ∷ todo) (faults ++ flat_faults setting earlier body f s all)
     flat_step Single f own_items done todo faults e = nothing (done ++ slot_by setting earlier f Single own_items ∷ todo) faults
     flat_step Many f own_items done todo faults e = nothing (done ++ slot_by setting earlier f Many own_items ∷ todo) faults
     flat_step Flat f own_items done todo faults e =
         let x : Slot = One f.type false None in
-        let o = flat_outcome setting earlier decl f all in
-        let r : read_flat setting earlier (names decl.fields) kept (slot_at (done ++ x ∷ todo) (length done)) ≡ (One f.type true (value_of o), faults_of o) =
-        ap₂ (read_flat setting earlier (names decl.fields)) (e refl) (at_here done todo x) ∙ read_slot_is f.type o in
+        let o = flat_outcome setting earlier body f all in
+        let r : read_flat setting earlier (names body.fields) kept (slot_at (done ++ x ∷ todo) (length done)) ≡ (One f.type true (value_of o), faults_of o) =
+        ap₂ (read_flat setting earlier (names body.fields)) (e refl) (at_here done todo x) ∙ read_slot_is f.type o in
         let state : List Slot → List Fault → State = λ xs fs. record { slots = xs; faults = fs; kept = kept; whole = no_value } in
-        statement.read_flatten setting earlier type (length done) (names decl.fields) given (at_slots_with (done ++ x ∷ todo) faults)
+        statement.read_flatten setting earlier type (length done) (names body.fields) given (at_slots_with (done ++ x ∷ todo) faults)
         ∙ ap (λ q. Going (put (length done) q (state (done ++ x ∷ todo) faults))) r
         ∙ ap (λ xs. at_slots_with xs (faults ++ faults_of o)) (put_here done todo x (One f.type true (value_of o)))
 
@@ -152,26 +152,26 @@ module _ (setting : Setting) (earlier : Earlier) (type : Type') (given : Given) 
     flat_slot f own_items = flat_by f f.shape own_items
 
     abbrev pub flat_added : FieldDecl → List NestedMeta → List Fault
-    flat_added f own_items = flat_faults setting earlier decl f f.shape all
+    flat_added f own_items = flat_faults setting earlier body f f.shape all
 
-    pub run_flattens : (lefts : List Field) (fs : List FieldDecl) (own_items : ℕ → List NestedMeta) (faults : List Fault) → AllZip (IsField decl) lefts fs → AreKept fs
-        → go (at_slots (flatten (names decl.fields)) zero lefts) (at_slots_with (each (field_slot setting earlier) fs own_items) faults) ≡ at_slots_with (each flat_slot fs own_items) (faults ++ joined (each flat_added fs own_items))
+    pub run_flattens : (lefts : List Field) (fs : List FieldDecl) (own_items : ℕ → List NestedMeta) (faults : List Fault) → AllZip (IsField body) lefts fs → AreKept fs
+        → go (at_slots (flatten (names body.fields)) zero lefts) (at_slots_with (each (field_slot setting earlier) fs own_items) faults) ≡ at_slots_with (each flat_slot fs own_items) (faults ++ joined (each flat_added fs own_items))
     run_flattens lefts fs own_items faults zip are =
-        run_pass (flatten (names decl.fields)) (field_slot setting earlier) flat_slot flat_added
+        run_pass (flatten (names body.fields)) (field_slot setting earlier) flat_slot flat_added
         (λ left f is done todo fs isf kept_is. ap (λ b. go (flatten_by b (length done)) (at_slots_with (done ++ field_slot setting earlier f is ∷ todo) fs)) isf.flat ∙ flat_step f.shape f is done todo fs kept_is)
         lefts fs own_items [] faults zip are
 
     -- ---- the missing fields
 
     abbrev pub full_by : FieldDecl → Shape → Option Fallback → List NestedMeta → Slot
-    full_by f Flat x own_items = One f.type true (value_of (flat_outcome setting earlier decl f all))
+    full_by f Flat x own_items = One f.type true (value_of (flat_outcome setting earlier body f all))
     full_by f Many x own_items = slot_by setting earlier f Many own_items
     full_by f Single None [] = (absent f.type f.name (none setting earlier f.type)).0
     full_by f Single (Some x) [] = One f.type false None
     full_by f Single x (i ∷ more) = One f.type true (value_of (read setting earlier f i))
 
     abbrev pub missing_full : FieldDecl → Shape → Option Fallback → List NestedMeta → List Fault
-    missing_full f Single x [] = missing_by setting earlier decl f x (none setting earlier f.type)
+    missing_full f Single x [] = missing_by setting earlier body f x (none setting earlier f.type)
     missing_full f Single x (i ∷ more) = []
     missing_full f Many x own_items = []
     missing_full f Flat x own_items = []
@@ -186,7 +186,7 @@ module _ (setting : Setting) (earlier : Earlier) (type : Type') (given : Given) 
     check_is false None k left = refl
     check_is false (Some x) k left = refl
 
-    absent_faults : (f : FieldDecl) (v : Option Datum) → (absent f.type f.name v).1 ≡ missing_by setting earlier decl f None v
+    absent_faults : (f : FieldDecl) (v : Option Datum) → (absent f.type f.name v).1 ≡ missing_by setting earlier body f None v
     absent_faults f None = refl
     absent_faults f (Some v) = refl
 
@@ -211,30 +211,30 @@ module _ (setting : Setting) (earlier : Earlier) (type : Type') (given : Given) 
     check_step Single (Some x) f [] done todo faults = nothing (done ++ One f.type false None ∷ todo) faults
     check_step Single (Some x) f (i ∷ more) done todo faults = nothing (done ++ One f.type true (value_of (read setting earlier f i)) ∷ todo) faults
     check_step Many x f own_items done todo faults = nothing (done ++ slot_by setting earlier f Many own_items ∷ todo) faults
-    check_step Flat None f own_items done todo faults = stays done f.type f.name (One f.type true (value_of (flat_outcome setting earlier decl f all))) todo faults refl
-    check_step Flat (Some x) f own_items done todo faults = nothing (done ++ One f.type true (value_of (flat_outcome setting earlier decl f all)) ∷ todo) faults
+    check_step Flat None f own_items done todo faults = stays done f.type f.name (One f.type true (value_of (flat_outcome setting earlier body f all))) todo faults refl
+    check_step Flat (Some x) f own_items done todo faults = nothing (done ++ One f.type true (value_of (flat_outcome setting earlier body f all)) ∷ todo) faults
 
-    pub missing_is : (f : FieldDecl) (s : Shape) (own_items : List NestedMeta) → missing_full f s (fallback decl f) own_items ≡ missing setting earlier decl f s own_items
+    pub missing_is : (f : FieldDecl) (s : Shape) (own_items : List NestedMeta) → missing_full f s (fallback body f) own_items ≡ missing setting earlier body f s own_items
     missing_is f Single [] = refl
     missing_is f Single (i ∷ more) = refl
     missing_is f Many own_items = refl
     missing_is f Flat own_items = refl
 
     abbrev pub full_slot : FieldDecl → List NestedMeta → Slot
-    full_slot f own_items = full_by f f.shape (fallback decl f) own_items
+    full_slot f own_items = full_by f f.shape (fallback body f) own_items
 
     abbrev pub missing_added : FieldDecl → List NestedMeta → List Fault
-    missing_added f own_items = missing setting earlier decl f f.shape own_items
+    missing_added f own_items = missing setting earlier body f f.shape own_items
 
     check_field : Passes check flat_slot full_slot missing_added
     check_field left f is done todo faults isf kept_is =
         let p = at_slots_with (done ++ flat_slot f is ∷ todo) faults in
         ap (λ ss. go ss p) (check_is left.multiple left.default_expression (length done) left)
         ∙ ap₂ (λ m x. go (check_meant m x (length done) left.ty.now left.name_in_attr.now) p) isf.many isf.fallback
-        ∙ ap₂ (λ t n. go (check_meant (is_many f.shape) (fallback decl f) (length done) t n) p) isf.type isf.name
-        ∙ check_step f.shape (fallback decl f) f is done todo faults
+        ∙ ap₂ (λ t n. go (check_meant (is_many f.shape) (fallback body f) (length done) t n) p) isf.type isf.name
+        ∙ check_step f.shape (fallback body f) f is done todo faults
         ∙ ap (λ x. at_slots_with (done ++ full_slot f is ∷ todo) (faults ++ x)) (missing_is f f.shape is)
 
-    pub run_checks : (lefts : List Field) (fs : List FieldDecl) (own_items : ℕ → List NestedMeta) (faults : List Fault) → AllZip (IsField decl) lefts fs → AreKept fs
+    pub run_checks : (lefts : List Field) (fs : List FieldDecl) (own_items : ℕ → List NestedMeta) (faults : List Fault) → AllZip (IsField body) lefts fs → AreKept fs
         → go (at_slots check zero lefts) (at_slots_with (each flat_slot fs own_items) faults) ≡ at_slots_with (each full_slot fs own_items) (faults ++ joined (each missing_added fs own_items))
     run_checks lefts fs own_items faults zip are = run_pass check flat_slot full_slot missing_added check_field lefts fs own_items [] faults zip are

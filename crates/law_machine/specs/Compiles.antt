@@ -18,7 +18,7 @@ use Rattle.codegen_core.specs.declared.from_meta_impl.FromMetaImpl.{FromMetaImpl
 use Rattle.codegen_core.specs.declared.trait_impl.TraitImpl.{TraitImpl}
 use Rattle.machine_execute.specs.Machine.{meta_unit, unit_type}
 use Rattle.meaning_core.specs.Declarations.{meta_decl}
-use Rattle.meaning_core.specs.Decl.{Decl, FieldDecl, Fallback, OfType, OfCall, OfContainer, Default, ByType, ByCall, fallback, is_flat, is_many}
+use Rattle.meaning_core.specs.Decl.{BodyDecl, Decl, FieldDecl, Fallback, OfType, OfCall, OfContainer, Default, ByType, ByCall, fallback, is_flat, is_many}
 
 -- what a field falls back to
 abbrev pub meant_fallback : Falls → Fallback
@@ -32,8 +32,8 @@ meant_default sources.Trait = Some ByType
 meant_default (sources.Explicit callable) = Some (ByCall callable)
 meant_default sources.FromIdent = None
 
--- the field of the declaration, as options leave it
-pub record IsField (decl : Decl) (left : Field) (field : FieldDecl) : Type 0 where
+-- the field of the body, as options leave it
+pub record IsField (body : BodyDecl) (left : Field) (field : FieldDecl) : Type 0 where
   pub member : ident_text left.ident.now ≡ field.member
   pub name : left.name_in_attr.now ≡ field.name
   pub type : left.ty.now ≡ field.type
@@ -42,15 +42,15 @@ pub record IsField (decl : Decl) (left : Field) (field : FieldDecl) : Type 0 whe
   pub skip : left.skip ≡ field.skip
   pub with : custom left.with_callable ≡ field.with
   pub transform : option_copied left.post_transform ≡ field.transform
-  pub fallback : option_map meant_fallback (fallback_of left) ≡ fallback decl field
+  pub fallback : option_map meant_fallback (fallback_of left) ≡ fallback body field
 
 -- the declaration, as options leave it
 pub record IsDecl (left : TraitImpl) (decl : Decl) : Type 0 where
   pub name : ident_text left.ident.now ≡ decl.name
-  pub fields : AllZip (IsField decl) (fields_of left) decl.fields
-  pub default : option_and_then meant_default (default_of false left) ≡ decl.default
+  pub fields : AllZip (IsField decl.body) (fields_of left) decl.body.fields
+  pub default : option_and_then meant_default (default_of false left) ≡ decl.body.default
   pub transform : option_copied left.post_transform ≡ decl.transform
-  pub allows_unknown : left.allow_unknown_fields ≡ decl.allows_unknown
+  pub allows_unknown : left.allow_unknown_fields ≡ decl.body.allows_unknown
 
 -- the same with the names of the attributes that are read; its default comes from no identifier
 pub record IsInputDecl (left : FromDeriveInputImpl) (decl : Decl) : Type 0 where

@@ -57,10 +57,8 @@ meant_decl type attributes left =
       name = ident_text left.ident.now;
       type = type;
       attributes = attributes;
-      fields = map meant_field (fields_of left);
-      default = whole_default left;
+      body = record { fields = map meant_field (fields_of left); default = whole_default left; allows_unknown = left.allow_unknown_fields };
       transform = option_copied left.post_transform;
-      allows_unknown = left.allow_unknown_fields;
     }
 
 -- A field without a default of its own inherits the member of its name, where the container has one; a skipped field has one

@@ -9,13 +9,13 @@ use Rattle.meta_nested.specs.Dispatch.{from_nested_meta, from_none}
 use Rattle.meta_nested.specs.declared.nested.NestedMeta.{NestedMeta}
 use Rattle.machine_steps.specs.Setting.{Setting}
 use Rattle.machine_steps.specs.Convert.{Earlier, none}
-use Rattle.meaning_core.specs.Decl.{Decl, Fallback, FieldDecl, Many, Single, fallback, is_named_by}
+use Rattle.meaning_core.specs.Decl.{BodyDecl, Fallback, FieldDecl, Many, Single, fallback, is_named_by}
 use Rattle.meaning_core.specs.EntryFaults as entries
 use Rattle.meaning_core.specs.FieldValue as field_values
 use Rattle.receive_core.specs.Checks.{label, missing_by, multiple_faults, single_faults, single_missing, value_list, values}
 use Rattle.law_received.specs.Fields.{MultipleIsField, OptionalIsField, ReadsAlike, SingleIsField}
 
-module _ {A : Type 0} (cells : Cells A) (setting : Setting) (earlier : Earlier) (decl : Decl) (field : FieldDecl)
+module _ {A : Type 0} (cells : Cells A) (setting : Setting) (earlier : Earlier) (body : BodyDecl) (field : FieldDecl)
     (alike : ReadsAlike cells setting earlier field) where
   same_single : (before : List NestedMeta) (item : NestedMeta)
       → entries.own_faults setting earlier field Single before item ≡ single_faults cells field.name before item
@@ -24,22 +24,22 @@ module _ {A : Type 0} (cells : Cells A) (setting : Setting) (earlier : Earlier) 
   same_single (first ∷ more) item = refl
 
   same_missing : (fall : Option Fallback) → fall ≡ None → (a : Option Datum) (b : Option A) → is_some a ≡ is_some b
-      → field_values.missing_by setting earlier decl field fall a ≡ missing_by cells field.name b
+      → field_values.missing_by setting earlier body field fall a ≡ missing_by cells field.name b
   same_missing None is None None same = refl
   same_missing None is None (Some value) same = absurd (cc same)
   same_missing None is (Some value) None same = absurd (cc same)
   same_missing None is (Some value) (Some other) same = refl
   same_missing (Some fall) is a b same = absurd (cc is)
 
-  single_missing_is : fallback decl field ≡ None → is_some (none setting earlier field.type) ≡ is_some (from_none cells) → (own_items : List NestedMeta)
-      → field_values.missing setting earlier decl field Single own_items ≡ single_missing cells field.name own_items
+  single_missing_is : fallback body field ≡ None → is_some (none setting earlier field.type) ≡ is_some (from_none cells) → (own_items : List NestedMeta)
+      → field_values.missing setting earlier body field Single own_items ≡ single_missing cells field.name own_items
   unfolding single_missing
-  single_missing_is falls same [] = same_missing (fallback decl field) falls (none setting earlier field.type) (from_none cells) same
+  single_missing_is falls same [] = same_missing (fallback body field) falls (none setting earlier field.type) (from_none cells) same
   single_missing_is falls same (item ∷ more) = refl
 
-  optional_missing_is : (fall : Fallback) → fallback decl field ≡ Some fall → (own_items : List NestedMeta)
-      → field_values.missing setting earlier decl field Single own_items ≡ []
-  optional_missing_is fall falls [] = ap (λ f. field_values.missing_by setting earlier decl field f (none setting earlier field.type)) falls
+  optional_missing_is : (fall : Fallback) → fallback body field ≡ Some fall → (own_items : List NestedMeta)
+      → field_values.missing setting earlier body field Single own_items ≡ []
+  optional_missing_is fall falls [] = ap (λ f. field_values.missing_by setting earlier body field f (none setting earlier field.type)) falls
   optional_missing_is fall falls (item ∷ more) = refl
 
   same_count : (a : Outcome Datum) (b : Outcome A) → faults_of a ≡ faults_of b → length (entries.value_list setting earlier a) ≡ length (value_list b)
@@ -61,38 +61,38 @@ module _ {A : Type 0} (cells : Cells A) (setting : Setting) (earlier : Earlier) 
   unfolding multiple_faults
   same_multiple before item = ap₂ (λ faults n. at faults (label field.name n)) (alike item) (same_counts before)
 
-  many_missing_is : (own_items : List NestedMeta) → field_values.missing setting earlier decl field Many own_items ≡ []
+  many_missing_is : (own_items : List NestedMeta) → field_values.missing setting earlier body field Many own_items ≡ []
   many_missing_is own_items = refl
 
 pub single_is_field : {A : Type 0} (cells : Cells A) → SingleIsField cells
-single_is_field cells setting earlier decl field alike shape skip falls same =
+single_is_field cells setting earlier body field alike shape skip falls same =
     record {
       named = ap₂ is_named_by shape skip;
       name = refl;
-      faults = λ before item. ap (λ it. entries.own_faults setting earlier field it before item) shape ∙ same_single cells setting earlier decl field alike before item;
+      faults = λ before item. ap (λ it. entries.own_faults setting earlier field it before item) shape ∙ same_single cells setting earlier body field alike before item;
       missing_faults =
-          λ own_items. ap (λ it. field_values.missing setting earlier decl field it own_items) shape
-          ∙ single_missing_is cells setting earlier decl field alike falls same own_items;
+          λ own_items. ap (λ it. field_values.missing setting earlier body field it own_items) shape
+          ∙ single_missing_is cells setting earlier body field alike falls same own_items;
     }
 
 pub optional_is_field : {A : Type 0} (cells : Cells A) → OptionalIsField cells
-optional_is_field cells setting earlier decl field alike shape skip fall falls =
+optional_is_field cells setting earlier body field alike shape skip fall falls =
     record {
       named = ap₂ is_named_by shape skip;
       name = refl;
-      faults = λ before item. ap (λ it. entries.own_faults setting earlier field it before item) shape ∙ same_single cells setting earlier decl field alike before item;
+      faults = λ before item. ap (λ it. entries.own_faults setting earlier field it before item) shape ∙ same_single cells setting earlier body field alike before item;
       missing_faults =
-          λ own_items. ap (λ it. field_values.missing setting earlier decl field it own_items) shape
-          ∙ optional_missing_is cells setting earlier decl field alike fall falls own_items;
+          λ own_items. ap (λ it. field_values.missing setting earlier body field it own_items) shape
+          ∙ optional_missing_is cells setting earlier body field alike fall falls own_items;
     }
 
 pub multiple_is_field : {A : Type 0} (cells : Cells A) → MultipleIsField cells
-multiple_is_field cells setting earlier decl field alike shape skip =
+multiple_is_field cells setting earlier body field alike shape skip =
     record {
       named = ap₂ is_named_by shape skip;
       name = refl;
-      faults = λ before item. ap (λ it. entries.own_faults setting earlier field it before item) shape ∙ same_multiple cells setting earlier decl field alike before item;
+      faults = λ before item. ap (λ it. entries.own_faults setting earlier field it before item) shape ∙ same_multiple cells setting earlier body field alike before item;
       missing_faults =
-          λ own_items. ap (λ it. field_values.missing setting earlier decl field it own_items) shape
-          ∙ many_missing_is cells setting earlier decl field alike own_items;
+          λ own_items. ap (λ it. field_values.missing setting earlier body field it own_items) shape
+          ∙ many_missing_is cells setting earlier body field alike own_items;
     }

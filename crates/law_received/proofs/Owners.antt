@@ -9,7 +9,7 @@ use Rattle.meta_nested.specs.declared.nested.NestedMeta.TheVariants as nested
 use Rattle.machine_steps.specs.Setting.{Setting}
 use Rattle.machine_steps.specs.Convert.{Earlier}
 use Rattle.machine_steps.specs.Names as machine
-use Rattle.meaning_core.specs.Decl.{Decl, FieldDecl}
+use Rattle.meaning_core.specs.Decl.{BodyDecl, FieldDecl}
 use Rattle.meaning_core.specs.Owners.{has_this_name, is_this, owner, owner_named}
 use Rattle.meaning_core.specs.Owners as owners
 use Rattle.meaning_core.proofs.Filters.{same as is_owner}
@@ -59,8 +59,8 @@ owns_same : (fields : List Checks) (name : Option Text) (p q : ℕ → Bool) →
 owns_same [] name p q same is = tt
 owns_same (checks ∷ more) name p q same is = (same zero ∙ is.0, owns_same more name (λ n. p (suc n)) (λ n. q (suc n)) (λ n. same (suc n)) is.1)
 
-module _ (setting : Setting) (earlier : Earlier) (decl : Decl) where
-  pub has_same_name : (checks : Checks) (field : FieldDecl) (name : Text) → IsField setting earlier decl checks field
+module _ (setting : Setting) (earlier : Earlier) (body : BodyDecl) where
+  pub has_same_name : (checks : Checks) (field : FieldDecl) (name : Text) → IsField setting earlier body checks field
       → has_this_name field name ≡ bytes_eq checks.name name
   has_same_name checks field name is =
       ap₂ (λ b n. cond b (bytes_eq n name) false) is.named is.name
@@ -78,7 +78,7 @@ module _ (setting : Setting) (earlier : Earlier) (decl : Decl) where
         (λ n. next_this n (owner_named fields name)) is,
   )
 
-  owns_name : (checks : List Checks) (fields : List FieldDecl) → AreFields setting earlier decl checks fields → AreDistinct (names_of checks)
+  owns_name : (checks : List Checks) (fields : List FieldDecl) → AreFields setting earlier body checks fields → AreDistinct (names_of checks)
       → (name : Text) → OwnsBy checks (Some name) (λ n. is_this n (owner_named fields name))
   owns_name [] fields are differ name = tt
   owns_name (first ∷ more) [] are differ name = absurd are
@@ -89,7 +89,7 @@ module _ (setting : Setting) (earlier : Earlier) (decl : Decl) where
       (λ n. ap (λ b. is_this n (cond b (Some zero) (option_map suc (owner_named fields name)))) (has_same_name first field name are.0))
       (owns_first first more fields name (bytes_eq first.name name) refl differ.0 (owns_name more fields are.1 differ.1 name))
 
-  owns : (checks : List Checks) (fields : List FieldDecl) → AreFields setting earlier decl checks fields → AreDistinct (names_of checks)
+  owns : (checks : List Checks) (fields : List FieldDecl) → AreFields setting earlier body checks fields → AreDistinct (names_of checks)
       → (name : Option Text) → OwnsBy checks name (λ n. is_this n (option_and_then (owner_named fields) name))
   owns checks fields are differ None = owns_none checks (λ n. false) (λ n. refl)
   owns checks fields are differ (Some name) = owns_name checks fields are differ name
@@ -107,7 +107,7 @@ module _ (setting : Setting) (earlier : Earlier) (decl : Decl) where
     owns_items_by more (λ n. p (suc n)) (λ item. (is item).1) items,
   )
 
-  pub owns_items : (checks : List Checks) (fields : List FieldDecl) → AreFields setting earlier decl checks fields → AreDistinct (names_of checks)
+  pub owns_items : (checks : List Checks) (fields : List FieldDecl) → AreFields setting earlier body checks fields → AreDistinct (names_of checks)
       → (items : List NestedMeta) → OwnsItems checks items (owners.own fields items)
   owns_items checks fields are differ items =
       owns_items_by checks (λ n item. is_this n (owner fields item))

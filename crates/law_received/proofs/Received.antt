@@ -16,7 +16,7 @@ use Rattle.meta_entries.specs.Entries.{items as items_in}
 use Rattle.meta_entries.specs.declared.entry.Entry.{Entry}
 use Rattle.meta_entries.specs.declared.entry.Entry.TheVariants as entry
 use Rattle.meaning_core.specs.Decl as decls
-use Rattle.meaning_core.specs.Decl.{Decl, FieldDecl, Flat, Many, Shape, Single, is_named_by, names}
+use Rattle.meaning_core.specs.Decl.{BodyDecl, FieldDecl, Flat, Many, Shape, Single, is_named_by, names}
 use Rattle.meaning_core.specs.EntryFaults as entries
 use Rattle.meaning_core.specs.FieldValue as values
 use Rattle.meaning_core.specs.Meaning.{joined}
@@ -45,7 +45,7 @@ unowned (checks ∷ more) before item name at out =
     (faults_of_name checks before item name at ∙ ap (λ b. cond b (checks.faults (own checks.name before) item) []) parts.0)
     (unowned more before item name at parts.1)
 
-module _ (setting : Setting) (earlier : Earlier) (decl : Decl) where
+module _ (setting : Setting) (earlier : Earlier) (body : BodyDecl) where
   -- the faults of an item by the number of its owner
   abbrev by_owner : List FieldDecl → (ℕ → List NestedMeta) → List Fault → NestedMeta → Option ℕ → List Fault
   by_owner fields own_items unknown item None = unknown
@@ -59,7 +59,7 @@ module _ (setting : Setting) (earlier : Earlier) (decl : Decl) where
 
   one_owner_by : (checks : Checks) (more : List Checks) (field : FieldDecl) (fields : List FieldDecl) (own_items : ℕ → List NestedMeta)
       → (unknown : List Fault) (before : List NestedMeta) (item : NestedMeta) (name : Text) → item_name item ≡ Some name
-      → IsField setting earlier decl checks field → is_among (names_of more) checks.name ≡ false → own_items zero ≡ own checks.name before
+      → IsField setting earlier body checks field → is_among (names_of more) checks.name ≡ false → own_items zero ≡ own checks.name before
       → (b : Bool) → bytes_eq checks.name name ≡ b
       → flat_map (field_faults before item) more ++ cond (is_among (names_of more) name || false) [] unknown
       ≡ by_owner fields (λ n. own_items (suc n)) unknown item (owner_named fields name)
@@ -85,8 +85,8 @@ module _ (setting : Setting) (earlier : Earlier) (decl : Decl) where
       ∙ next_owner field fields own_items unknown item (owner_named fields name)
 
   one_owner : (checks : List Checks) (fields : List FieldDecl) (own_items : ℕ → List NestedMeta) (unknown : List Fault) (before : List NestedMeta)
-      → (item : NestedMeta) (name : Text) → item_name item ≡ Some name → AreFields setting earlier decl checks fields → AreDistinct (names_of checks)
-      → OwnsItems setting earlier decl checks before own_items
+      → (item : NestedMeta) (name : Text) → item_name item ≡ Some name → AreFields setting earlier body checks fields → AreDistinct (names_of checks)
+      → OwnsItems setting earlier body checks before own_items
       → flat_map (field_faults before item) checks ++ cond (is_among (names_of checks) name || false) [] unknown
       ≡ by_owner fields own_items unknown item (owner_named fields name)
   one_owner [] [] own_items unknown before item name at are differ own_by = refl
@@ -96,11 +96,11 @@ module _ (setting : Setting) (earlier : Earlier) (decl : Decl) where
       one_owner_by first more field fields own_items unknown before item name at are.0 differ.0 own_by.0 (bytes_eq first.name name) refl
       (one_owner more fields (λ n. own_items (suc n)) unknown before item name at are.1 differ.1 own_by.1)
       ∙ ap (λ b. by_owner (field ∷ fields) own_items unknown item (cond b (Some zero) (option_map suc (owner_named fields name))))
-      (sym (has_same_name setting earlier decl first field name are.0))
+      (sym (has_same_name setting earlier body first field name are.0))
 
   -- ---- the fields of a declaration
 
-  same_names : (checks : List Checks) (fields : List FieldDecl) → AreFields setting earlier decl checks fields → names fields ≡ names_of checks
+  same_names : (checks : List Checks) (fields : List FieldDecl) → AreFields setting earlier body checks fields → names fields ≡ names_of checks
   same_names [] [] are = refl
   same_names [] (field ∷ fields) are = absurd are
   same_names (first ∷ more) [] are = absurd are
@@ -113,7 +113,7 @@ module _ (setting : Setting) (earlier : Earlier) (decl : Decl) where
   never_flat Many skip is = refl
   never_flat Flat skip is = absurd (cc is)
 
-  no_flat : (checks : List Checks) (fields : List FieldDecl) → AreFields setting earlier decl checks fields → decls.has_flat fields ≡ false
+  no_flat : (checks : List Checks) (fields : List FieldDecl) → AreFields setting earlier body checks fields → decls.has_flat fields ≡ false
   no_flat [] [] are = refl
   no_flat [] (field ∷ fields) are = absurd are
   no_flat (first ∷ more) [] are = absurd are
@@ -121,82 +121,82 @@ module _ (setting : Setting) (earlier : Earlier) (decl : Decl) where
       ap₂ (λ a b. cond a true b) (never_flat field.shape field.skip are.0.named) (no_flat more fields are.1)
 
   none_flat : (field : FieldDecl) (shape : Shape) (skip : Bool) (items : List NestedMeta) → is_named_by shape skip ≡ true
-      → values.flat_faults setting earlier decl field shape items ≡ []
+      → values.flat_faults setting earlier body field shape items ≡ []
   none_flat field Single skip items is = refl
   none_flat field Many skip items is = refl
   none_flat field Flat skip items is = absurd (cc is)
 
-  all_none_flat : (checks : List Checks) (fields : List FieldDecl) → AreFields setting earlier decl checks fields → (items : List NestedMeta)
+  all_none_flat : (checks : List Checks) (fields : List FieldDecl) → AreFields setting earlier body checks fields → (items : List NestedMeta)
       → (own_items : ℕ → List NestedMeta)
-      → joined (each (λ field own_items. values.flat_faults setting earlier decl field field.shape items) fields own_items) ≡ []
+      → joined (each (λ field own_items. values.flat_faults setting earlier body field field.shape items) fields own_items) ≡ []
   all_none_flat [] [] are items own_items = refl
   all_none_flat [] (field ∷ fields) are items own_items = absurd are
   all_none_flat (first ∷ more) [] are items own_items = absurd are
   all_none_flat (first ∷ more) (field ∷ fields) are items own_items =
       ap₂ (λ xs ys. xs ++ ys) (none_flat field field.shape field.skip items are.0.named) (all_none_flat more fields are.1 items (λ n. own_items (suc n)))
 
-  same_missing : (checks : List Checks) (fields : List FieldDecl) → AreFields setting earlier decl checks fields → (items : List NestedMeta)
-      → (own_items : ℕ → List NestedMeta) → OwnsItems setting earlier decl checks items own_items
-      → joined (each (λ field own_items. values.missing setting earlier decl field field.shape own_items) fields own_items) ≡ missing_faults checks items
+  same_missing : (checks : List Checks) (fields : List FieldDecl) → AreFields setting earlier body checks fields → (items : List NestedMeta)
+      → (own_items : ℕ → List NestedMeta) → OwnsItems setting earlier body checks items own_items
+      → joined (each (λ field own_items. values.missing setting earlier body field field.shape own_items) fields own_items) ≡ missing_faults checks items
   same_missing [] [] are items own_items own_by = refl
   same_missing [] (field ∷ fields) are items own_items own_by = absurd are
   same_missing (first ∷ more) [] are items own_items own_by = absurd are
   same_missing (first ∷ more) (field ∷ fields) are items own_items own_by =
       ap₂ (λ xs ys. xs ++ ys)
-      (ap (values.missing setting earlier decl field field.shape) own_by.0 ∙ are.0.missing_faults (own first.name items))
+      (ap (values.missing setting earlier body field field.shape) own_by.0 ∙ are.0.missing_faults (own first.name items))
       (same_missing more fields are.1 items (λ n. own_items (suc n)) own_by.1)
 
   -- ---- items
 
-  module _ (checks : List Checks) (are : AreFields setting earlier decl checks decl.fields) (differ : AreDistinct (names_of checks))
-      (closed : decl.allows_unknown ≡ false) where
-    same_unknown : (name : Text) (span : Span) → entries.unknown setting earlier decl name span ≡ at_span (UnknownField name (set_of (names_of checks))) span ∷ []
+  module _ (checks : List Checks) (are : AreFields setting earlier body checks body.fields) (differ : AreDistinct (names_of checks))
+      (closed : body.allows_unknown ≡ false) where
+    same_unknown : (name : Text) (span : Span) → entries.unknown setting earlier body name span ≡ at_span (UnknownField name (set_of (names_of checks))) span ∷ []
     same_unknown name span =
-        ap₂ (λ a b. cond a [] (cond b [] (at_span (UnknownField name (set_of (names decl.fields))) span ∷ []))) (no_flat checks decl.fields are) closed
-        ∙ ap (λ ns. at_span (UnknownField name (set_of ns)) span ∷ []) (same_names checks decl.fields are)
+        ap₂ (λ a b. cond a [] (cond b [] (at_span (UnknownField name (set_of (names body.fields))) span ∷ []))) (no_flat checks body.fields are) closed
+        ∙ ap (λ ns. at_span (UnknownField name (set_of ns)) span ∷ []) (same_names checks body.fields are)
 
     by_owner_is : (before : List NestedMeta) (item : NestedMeta) (name : Text) (o : Option ℕ)
-        → by_owner decl.fields (owners.own decl.fields before) (entries.unknown setting earlier decl name (nested_span item)) item o
-        ≡ entries.item_faults setting earlier decl before name item o
+        → by_owner body.fields (owners.own body.fields before) (entries.unknown setting earlier body name (nested_span item)) item o
+        ≡ entries.item_faults setting earlier body before name item o
     by_owner_is before item name None = refl
     by_owner_is before item name (Some number) = refl
 
     same_item : (before : List NestedMeta) (item : NestedMeta) (name : Option Text) → item_name item ≡ name
         → named_faults (names_of checks) false item name (flat_map (field_faults before item) checks)
-        ≡ entries.named_faults setting earlier decl before item name
+        ≡ entries.named_faults setting earlier body before item name
     same_item before item None at = refl
     same_item before item (Some name) at =
         ap (λ us. flat_map (field_faults before item) checks ++ cond (is_among (names_of checks) name || false) [] us) (sym (same_unknown name (nested_span item)))
-        ∙ one_owner checks decl.fields (owners.own decl.fields before) (entries.unknown setting earlier decl name (nested_span item)) before item name at
-        are differ (owns_items setting earlier decl checks decl.fields are differ before)
-        ∙ by_owner_is before item name (owner_named decl.fields name)
+        ∙ one_owner checks body.fields (owners.own body.fields before) (entries.unknown setting earlier body name (nested_span item)) before item name at
+        are differ (owns_items setting earlier body checks body.fields are differ before)
+        ∙ by_owner_is before item name (owner_named body.fields name)
 
     same_entries : (before : List NestedMeta) (those : List Entry)
-        → all_entry_faults checks false before those ≡ entries.all_entry_faults setting earlier decl before those
+        → all_entry_faults checks false before those ≡ entries.all_entry_faults setting earlier body before those
     same_entries before [] = refl
     same_entries before (entry.Item item ∷ more) =
         ap₂ (λ xs ys. xs ++ ys)
-        (same_item before item (item_name item) refl ∙ ap (entries.named_faults setting earlier decl before item) (sym (same_name item)))
+        (same_item before item (item_name item) refl ∙ ap (entries.named_faults setting earlier body before item) (sym (same_name item)))
         (same_entries (before ++ item ∷ []) more)
     same_entries before (entry.Fault fault ∷ more) =
         ap (λ faults. fault ∷ faults)
-        (same_entries before more ∙ ap (λ items. entries.all_entry_faults setting earlier decl items more) (sym (append-nil before)))
+        (same_entries before more ∙ ap (λ items. entries.all_entry_faults setting earlier body items more) (sym (append-nil before)))
 
 pub same_faults : {A : Type 0} (schema : Schema A) → SameFaults schema
 same_faults schema setting earlier decl is those =
     let checks = schema.fields in
-    let fields = decl.fields in
+    let fields = decl.body.fields in
     let items = items_in those in
     let own_items = owners.own fields items in
     ap (λ flattened. all_entry_faults checks (has_flat flattened) [] those ++ (flat_faults flattened [] items ++ missing_faults checks items))
     is.none_flattened
     ∙ ap₂ (λ xs ys. xs ++ ys)
-    (same_entries setting earlier decl checks is.are_fields is.are_distinct is.allows_unknown [] those)
+    (same_entries setting earlier decl.body checks is.are_fields is.are_distinct is.allows_unknown [] those)
     (sym
     (ap₂ (λ xs ys. xs ++ ys)
-    (all_none_flat setting earlier decl checks fields is.are_fields items own_items)
-    (same_missing setting earlier decl checks fields is.are_fields items own_items
-    (owns_items setting earlier decl checks fields is.are_fields is.are_distinct items))))
+    (all_none_flat setting earlier decl.body checks fields is.are_fields items own_items)
+    (same_missing setting earlier decl.body checks fields is.are_fields items own_items
+    (owns_items setting earlier decl.body checks fields is.are_fields is.are_distinct items))))
 
 -- entries without a fault are items
 all_items : (fields : List Checks) (flat : Bool) (before : List NestedMeta) (those : List Entry) → all_entry_faults fields flat before those ≡ []

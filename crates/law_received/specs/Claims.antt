@@ -17,23 +17,23 @@ use Rattle.law_received.specs.Agreement.{AreDistinct, AreFields}
 
 -- the declaration has the fields of a schema, whose names differ, and neither reads the items of other names
 pub record IsDeclared (fields : List Checks) (flattened : List FlatChecks) (setting : Setting) (earlier : Earlier) (decl : Decl) : Type 0 where
-  pub are_fields : AreFields setting earlier decl fields decl.fields
+  pub are_fields : AreFields setting earlier decl.body fields decl.body.fields
   pub are_distinct : AreDistinct (names_of fields)
   pub none_flattened : flattened ≡ []
-  pub allows_unknown : decl.allows_unknown ≡ false
+  pub allows_unknown : decl.body.allows_unknown ≡ false
 
 -- the value that the declaration builds of the items among entries
 abbrev pub declared_value : Setting → Earlier → Decl → List Entry → Outcome Datum
 declared_value setting earlier decl entries =
     transformed setting earlier decl.transform decl.type
-    (bind (whole_default setting decl.type decl.default) (λ whole. built_struct setting earlier decl whole entries))
+    (bind (whole_default setting decl.type decl.body.default) (λ whole. built_struct setting earlier decl.body decl.name whole entries))
 
 module _ {A : Type 0} (schema : Schema A) where
   -- the same is wrong with any entries of attributes, in the same order
   abbrev pub SameFaults : Type 0
   SameFaults =
       (setting : Setting) (earlier : Earlier) (decl : Decl) → IsDeclared schema.fields schema.flattened setting earlier decl → (entries : List Entry)
-      → faults_in schema entries ≡ collected setting earlier decl entries
+      → faults_in schema entries ≡ collected setting earlier decl.body entries
 
   -- where the values agree of items with which nothing is wrong, any entries mean the same, and so any items: their `meaning` is that of
   -- entries without a fault

@@ -6,7 +6,7 @@ use Rattle.meta_nested.specs.Dispatch.{from_nested_meta, from_none}
 use Rattle.meta_nested.specs.declared.nested.NestedMeta.{NestedMeta}
 use Rattle.machine_steps.specs.Setting.{Setting}
 use Rattle.machine_steps.specs.Convert.{Earlier, none}
-use Rattle.meaning_core.specs.Decl.{Decl, Fallback, FieldDecl, Many, Single, fallback}
+use Rattle.meaning_core.specs.Decl.{BodyDecl, Fallback, FieldDecl, Many, Single, fallback}
 use Rattle.meaning_core.specs.EntryFaults.{read}
 use Rattle.receive_core.specs.Checks.{multiple_checks, optional_checks, single_checks}
 use Rattle.law_received.specs.Agreement.{IsField}
@@ -19,21 +19,21 @@ ReadsAlike cells setting earlier field =
 -- a single field without a default, at a type that has a value for no item exactly where the cells have one
 abbrev pub SingleIsField : {A : Type 0} → Cells A → Type 0
 SingleIsField cells =
-    (setting : Setting) (earlier : Earlier) (decl : Decl) (field : FieldDecl) → ReadsAlike cells setting earlier field
-    → field.shape ≡ Single → field.skip ≡ false → fallback decl field ≡ None
+    (setting : Setting) (earlier : Earlier) (body : BodyDecl) (field : FieldDecl) → ReadsAlike cells setting earlier field
+    → field.shape ≡ Single → field.skip ≡ false → fallback body field ≡ None
     → is_some (none setting earlier field.type) ≡ is_some (from_none cells)
-    → IsField setting earlier decl (single_checks cells field.name) field
+    → IsField setting earlier body (single_checks cells field.name) field
 
 -- a single field with a default
 abbrev pub OptionalIsField : {A : Type 0} → Cells A → Type 0
 OptionalIsField cells =
-    (setting : Setting) (earlier : Earlier) (decl : Decl) (field : FieldDecl) → ReadsAlike cells setting earlier field
-    → field.shape ≡ Single → field.skip ≡ false → (fall : Fallback) → fallback decl field ≡ Some fall
-    → IsField setting earlier decl (optional_checks cells field.name) field
+    (setting : Setting) (earlier : Earlier) (body : BodyDecl) (field : FieldDecl) → ReadsAlike cells setting earlier field
+    → field.shape ≡ Single → field.skip ≡ false → (fall : Fallback) → fallback body field ≡ Some fall
+    → IsField setting earlier body (optional_checks cells field.name) field
 
 -- a field of many values, with a default or without
 abbrev pub MultipleIsField : {A : Type 0} → Cells A → Type 0
 MultipleIsField cells =
-    (setting : Setting) (earlier : Earlier) (decl : Decl) (field : FieldDecl) → ReadsAlike cells setting earlier field
+    (setting : Setting) (earlier : Earlier) (body : BodyDecl) (field : FieldDecl) → ReadsAlike cells setting earlier field
     → field.shape ≡ Many → field.skip ≡ false
-    → IsField setting earlier decl (multiple_checks cells field.name) field
+    → IsField setting earlier body (multiple_checks cells field.name) field

@@ -7,7 +7,7 @@ use Rattle.error_fault.specs.Faults.{at}
 use Rattle.error_fault.specs.Outcome.{Outcome, Value, Faults, faults_of}
 use Rattle.std.specs.Prelude.{option_and_then}
 use Rattle.machine_steps.specs.Names.{item_name}
-use Rattle.meaning_core.specs.Decl.{Shape, Single, Many, Flat, FieldDecl, Decl, is_named_by}
+use Rattle.meaning_core.specs.Decl.{Shape, Single, Many, Flat, FieldDecl, BodyDecl, is_named_by}
 use Rattle.machine_steps.specs.Setting.{Setting}
 use Rattle.machine_steps.specs.Convert.{Earlier}
 use Rattle.meta_entries.specs.Entries.{items}
@@ -58,37 +58,37 @@ module _ (setting : Setting) (earlier : Earlier) where
   clean_more f Many (x ∷ xs) i n e c = c
   clean_more f Flat is i n e c = absurd (true≢false (sym n))
 
-  module _ (decl : Decl) where
-    clean_item : (before : List NestedMeta) (n : Text) (i : NestedMeta) (o : Option ℕ) → owner decl.fields i ≡ o → OnOwner decl.fields o → item_faults setting earlier decl before n i o ≡ [] → (k : ℕ) → Clean (field_at decl.fields k) (own decl.fields before k) → Clean (field_at decl.fields k) (own decl.fields (before ++ i ∷ []) k)
+  module _ (body : BodyDecl) where
+    clean_item : (before : List NestedMeta) (n : Text) (i : NestedMeta) (o : Option ℕ) → owner body.fields i ≡ o → OnOwner body.fields o → item_faults setting earlier body before n i o ≡ [] → (k : ℕ) → Clean (field_at body.fields k) (own body.fields before k) → Clean (field_at body.fields k) (own body.fields (before ++ i ∷ []) k)
     clean_item before n i None e on none k c =
-        let P : List NestedMeta → Type 0 = λ is. Clean (field_at decl.fields k) is in
-        subst P (sym (filter_none (λ j. is_this k (owner decl.fields j)) before i (ap (is_this k) e))) c
+        let P : List NestedMeta → Type 0 = λ is. Clean (field_at body.fields k) is in
+        subst P (sym (filter_none (λ j. is_this k (owner body.fields j)) before i (ap (is_this k) e))) c
     clean_item before n i (Some j) e on none k c =
-        let P : List NestedMeta → Type 0 = λ is. Clean (field_at decl.fields k) is in
-        let hit : j ≡ k → P (own decl.fields (before ++ i ∷ []) k) = λ q.
-        let faults : own_faults setting earlier (field_at decl.fields k) (field_at decl.fields k).shape (own decl.fields before k) i ≡ [] = ap (λ x. own_faults setting earlier (field_at decl.fields x) (field_at decl.fields x).shape (own decl.fields before x) i) (sym q) ∙ none in
-        let named : is_named_by (field_at decl.fields k).shape (field_at decl.fields k).skip ≡ true = ap (λ x. is_named_by (field_at decl.fields x).shape (field_at decl.fields x).skip) (sym q) ∙ on.1 in
-        subst P (sym (filter_one (λ x. is_this k (owner decl.fields x)) before i (ap (is_this k) e ∙ ap (λ x. is_this k (Some x)) q ∙ same k)))
-        (clean_more (field_at decl.fields k) (field_at decl.fields k).shape (own decl.fields before k) i named faults c) in
-        let miss : ¬ (j ≡ k) → P (own decl.fields (before ++ i ∷ []) k) = λ ne.
-        subst P (sym (filter_none (λ x. is_this k (owner decl.fields x)) before i (ap (is_this k) e ∙ other j k ne))) c in
+        let P : List NestedMeta → Type 0 = λ is. Clean (field_at body.fields k) is in
+        let hit : j ≡ k → P (own body.fields (before ++ i ∷ []) k) = λ q.
+        let faults : own_faults setting earlier (field_at body.fields k) (field_at body.fields k).shape (own body.fields before k) i ≡ [] = ap (λ x. own_faults setting earlier (field_at body.fields x) (field_at body.fields x).shape (own body.fields before x) i) (sym q) ∙ none in
+        let named : is_named_by (field_at body.fields k).shape (field_at body.fields k).skip ≡ true = ap (λ x. is_named_by (field_at body.fields x).shape (field_at body.fields x).skip) (sym q) ∙ on.1 in
+        subst P (sym (filter_one (λ x. is_this k (owner body.fields x)) before i (ap (is_this k) e ∙ ap (λ x. is_this k (Some x)) q ∙ same k)))
+        (clean_more (field_at body.fields k) (field_at body.fields k).shape (own body.fields before k) i named faults c) in
+        let miss : ¬ (j ≡ k) → P (own body.fields (before ++ i ∷ []) k) = λ ne.
+        subst P (sym (filter_none (λ x. is_this k (owner body.fields x)) before i (ap (is_this k) e ∙ other j k ne))) c in
         ⊎_elim (λ q. hit q.1) (λ q. miss q.1) (eqb_tells j k)
 
-    clean_named : (before : List NestedMeta) (i : NestedMeta) (n : Option Text) → item_name i ≡ n → named_faults setting earlier decl before i n ≡ [] → (k : ℕ) → Clean (field_at decl.fields k) (own decl.fields before k) → Clean (field_at decl.fields k) (own decl.fields (before ++ i ∷ []) k)
+    clean_named : (before : List NestedMeta) (i : NestedMeta) (n : Option Text) → item_name i ≡ n → named_faults setting earlier body before i n ≡ [] → (k : ℕ) → Clean (field_at body.fields k) (own body.fields before k) → Clean (field_at body.fields k) (own body.fields (before ++ i ∷ []) k)
     clean_named before i None e none k c = absurd (not_nil _ [] none)
-    clean_named before i (Some n) e none k c = clean_item before n i (owner_named decl.fields n) (ap (option_and_then (owner_named decl.fields)) e) (owner_on decl.fields n) none k c
+    clean_named before i (Some n) e none k c = clean_item before n i (owner_named body.fields n) (ap (option_and_then (owner_named body.fields)) e) (owner_on body.fields n) none k c
 
-    clean_entry : (before : List NestedMeta) (e : Entry) → entry_faults setting earlier decl before e ≡ [] → (k : ℕ) → Clean (field_at decl.fields k) (own decl.fields before k) → Clean (field_at decl.fields k) (own decl.fields (before ++ items (e ∷ [])) k)
+    clean_entry : (before : List NestedMeta) (e : Entry) → entry_faults setting earlier body before e ≡ [] → (k : ℕ) → Clean (field_at body.fields k) (own body.fields before k) → Clean (field_at body.fields k) (own body.fields (before ++ items (e ∷ [])) k)
     clean_entry before (entry.Fault f) none k c = absurd (not_nil f [] none)
     clean_entry before (entry.Item i) none k c = clean_named before i (item_name i) refl none k c
 
-    clean_walk : (before : List NestedMeta) (es : List Entry) → all_entry_faults setting earlier decl before es ≡ [] → (k : ℕ) → Clean (field_at decl.fields k) (own decl.fields before k) → Clean (field_at decl.fields k) (own decl.fields (before ++ items es) k)
-    clean_walk before [] none k c = let P : List NestedMeta → Type 0 = λ is. Clean (field_at decl.fields k) (own decl.fields is k) in subst P (sym (append-nil before)) c
+    clean_walk : (before : List NestedMeta) (es : List Entry) → all_entry_faults setting earlier body before es ≡ [] → (k : ℕ) → Clean (field_at body.fields k) (own body.fields before k) → Clean (field_at body.fields k) (own body.fields (before ++ items es) k)
+    clean_walk before [] none k c = let P : List NestedMeta → Type 0 = λ is. Clean (field_at body.fields k) (own body.fields is k) in subst P (sym (append-nil before)) c
     clean_walk before (e ∷ es) none k c =
-        let P : List NestedMeta → Type 0 = λ is. Clean (field_at decl.fields k) (own decl.fields is k) in
+        let P : List NestedMeta → Type 0 = λ is. Clean (field_at body.fields k) (own body.fields is k) in
         subst P (append_assoc before (items (e ∷ [])) (items es) ∙ ap (λ is. before ++ is) (sym (items-append (e ∷ []) es)))
-        (clean_walk (before ++ items (e ∷ [])) es (nil_right (entry_faults setting earlier decl before e) (all_entry_faults setting earlier decl (before ++ items (e ∷ [])) es) none) k
-        (clean_entry before e (nil_left (entry_faults setting earlier decl before e) (all_entry_faults setting earlier decl (before ++ items (e ∷ [])) es) none) k c))
+        (clean_walk (before ++ items (e ∷ [])) es (nil_right (entry_faults setting earlier body before e) (all_entry_faults setting earlier body (before ++ items (e ∷ [])) es) none) k
+        (clean_entry before e (nil_left (entry_faults setting earlier body before e) (all_entry_faults setting earlier body (before ++ items (e ∷ [])) es) none) k c))
 
-    pub clean_all : (es : List Entry) → all_entry_faults setting earlier decl [] es ≡ [] → (k : ℕ) → Clean (field_at decl.fields k) (own decl.fields (items es) k)
+    pub clean_all : (es : List Entry) → all_entry_faults setting earlier body [] es ≡ [] → (k : ℕ) → Clean (field_at body.fields k) (own body.fields (items es) k)
     clean_all es none k = clean_walk [] es none k tt

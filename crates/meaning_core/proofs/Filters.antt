@@ -15,7 +15,7 @@ use Rattle.machine_value.specs.Members.{no_value}
 use Rattle.machine_steps.specs.Nodes.{nested_span}
 use Rattle.node_expr.specs.declared.ty.«Type».{«Type» as Type'}
 use Rattle.codegen_program.specs.declared.arm.Arm.{Arm}
-use Rattle.meaning_core.specs.Decl.{Shape, Single, Many, Flat, FieldDecl, Decl, is_named, is_named_by, has_flat, names}
+use Rattle.meaning_core.specs.Decl.{Shape, Single, Many, Flat, FieldDecl, BodyDecl, is_named, is_named_by, has_flat, names}
 use Rattle.machine_steps.specs.Names.{item_name}
 use Rattle.machine_steps.specs.Setting.{Setting}
 use Rattle.machine_steps.specs.Convert.{Earlier}
@@ -128,59 +128,59 @@ module _ (setting : Setting) (earlier : Earlier) where
       ∙ ap (λ vs. let r : Slot × List Fault = (Several f.type vs, at (faults_of (read setting earlier f i)) (label f.name (length (values setting earlier f is)))) in r) (sym (values_more f is i))
   arm_is f k i Flat is e n = absurd (true≢false (sym n))
 
-  module _ (decl : Decl) where
-    rested : (b a : Bool) (ns : List Text) (n : Text) (i : NestedMeta) (xs : List Slot) (fs : List Fault) (before : List NestedMeta) → is_unclaimed decl.fields i ≡ true
-        → by_rest (rest_by b a ns) n i (record { slots = xs; faults = fs; kept = kept_by setting earlier decl b before; whole = no_value })
-        ≡ record { slots = xs; faults = fs ++ cond b [] (cond a [] (at_span (UnknownField n (set_of ns)) (nested_span i) ∷ [])); kept = kept_by setting earlier decl b (before ++ i ∷ []); whole = no_value }
+  module _ (body : BodyDecl) where
+    rested : (b a : Bool) (ns : List Text) (n : Text) (i : NestedMeta) (xs : List Slot) (fs : List Fault) (before : List NestedMeta) → is_unclaimed body.fields i ≡ true
+        → by_rest (rest_by b a ns) n i (record { slots = xs; faults = fs; kept = kept_by setting earlier body b before; whole = no_value })
+        ≡ record { slots = xs; faults = fs ++ cond b [] (cond a [] (at_span (UnknownField n (set_of ns)) (nested_span i) ∷ [])); kept = kept_by setting earlier body b (before ++ i ∷ []); whole = no_value }
     rested true a ns n i xs fs before e =
-        ap₂ (λ fs is. let s : State = record { slots = xs; faults = fs; kept = is; whole = no_value } in s) (sym (append-nil fs)) (sym (filter_one (is_unclaimed decl.fields) before i e))
+        ap₂ (λ fs is. let s : State = record { slots = xs; faults = fs; kept = is; whole = no_value } in s) (sym (append-nil fs)) (sym (filter_one (is_unclaimed body.fields) before i e))
     rested false true ns n i xs fs before e = ap (λ fs. let s : State = record { slots = xs; faults = fs; kept = []; whole = no_value } in s) (sym (append-nil fs))
     rested false false ns n i xs fs before e = refl
 
-    kept_claimed : (b : Bool) (before : List NestedMeta) (i : NestedMeta) → is_unclaimed decl.fields i ≡ false → kept_by setting earlier decl b before ≡ kept_by setting earlier decl b (before ++ i ∷ [])
-    kept_claimed true before i e = sym (filter_none (is_unclaimed decl.fields) before i e)
+    kept_claimed : (b : Bool) (before : List NestedMeta) (i : NestedMeta) → is_unclaimed body.fields i ≡ false → kept_by setting earlier body b before ≡ kept_by setting earlier body b (before ++ i ∷ [])
+    kept_claimed true before i e = sym (filter_none (is_unclaimed body.fields) before i e)
     kept_claimed false before i e = refl
 
     -- an item that no field owns leaves the slots
-    slots_stay : (before : List NestedMeta) (i : NestedMeta) → owner decl.fields i ≡ None → each (field_slot setting earlier) decl.fields (own decl.fields before) ≡ each (field_slot setting earlier) decl.fields (own decl.fields (before ++ i ∷ []))
-    slots_stay before i e = ap (each (field_slot setting earlier) decl.fields) (fun_ext (λ k. sym (filter_none (λ j. is_this k (owner decl.fields j)) before i (ap (is_this k) e))))
+    slots_stay : (before : List NestedMeta) (i : NestedMeta) → owner body.fields i ≡ None → each (field_slot setting earlier) body.fields (own body.fields before) ≡ each (field_slot setting earlier) body.fields (own body.fields (before ++ i ∷ []))
+    slots_stay before i e = ap (each (field_slot setting earlier) body.fields) (fun_ext (λ k. sym (filter_none (λ j. is_this k (owner body.fields j)) before i (ap (is_this k) e))))
 
-    one_item : (before : List NestedMeta) (fs : List Fault) (n : Text) (i : NestedMeta) (o : Option ℕ) → owner decl.fields i ≡ o → is_unclaimed decl.fields i ≡ is_none o → OnOwner decl.fields o
-        → by_arm setting earlier (arms decl) (rest decl) n i (option_map (λ k. arm k (field_at decl.fields k)) o) (state_behind setting earlier decl before fs) ≡ state_behind setting earlier decl (before ++ i ∷ []) (fs ++ item_faults setting earlier decl before n i o)
+    one_item : (before : List NestedMeta) (fs : List Fault) (n : Text) (i : NestedMeta) (o : Option ℕ) → owner body.fields i ≡ o → is_unclaimed body.fields i ≡ is_none o → OnOwner body.fields o
+        → by_arm setting earlier (arms body) (rest body) n i (option_map (λ k. arm k (field_at body.fields k)) o) (state_behind setting earlier body before fs) ≡ state_behind setting earlier body (before ++ i ∷ []) (fs ++ item_faults setting earlier body before n i o)
     one_item before fs n i None e u on =
-        rested (has_flat decl.fields) decl.allows_unknown (names decl.fields) n i (each (field_slot setting earlier) decl.fields (own decl.fields before)) fs before u
-        ∙ ap (λ xs. let s : State = record { slots = xs; faults = fs ++ unknown setting earlier decl n (nested_span i); kept = kept_by setting earlier decl (has_flat decl.fields) (before ++ i ∷ []); whole = no_value } in s) (slots_stay before i e)
+        rested (has_flat body.fields) body.allows_unknown (names body.fields) n i (each (field_slot setting earlier) body.fields (own body.fields before)) fs before u
+        ∙ ap (λ xs. let s : State = record { slots = xs; faults = fs ++ unknown setting earlier body n (nested_span i); kept = kept_by setting earlier body (has_flat body.fields) (before ++ i ∷ []); whole = no_value } in s) (slots_stay before i e)
     one_item before fs n i (Some k) e u on =
-        let f = field_at decl.fields k in
-        let mine = own decl.fields before k in
-        let more : own decl.fields (before ++ i ∷ []) k ≡ mine ++ i ∷ [] = filter_one (λ j. is_this k (owner decl.fields j)) before i (ap (is_this k) e ∙ same k) in
-        let r : arm_slot setting earlier (arm k f) i (slot_at (each (field_slot setting earlier) decl.fields (own decl.fields before)) k) ≡ (field_slot setting earlier f (mine ++ i ∷ []), own_faults setting earlier f f.shape mine i) =
-        ap (arm_slot setting earlier (arm k f) i) (each_at (field_slot setting earlier) decl.fields k (own decl.fields before) on.0) ∙ arm_is f k i f.shape mine refl on.1 in
-        let slots : set (each (field_slot setting earlier) decl.fields (own decl.fields before)) k (field_slot setting earlier f (mine ++ i ∷ [])) ≡ each (field_slot setting earlier) decl.fields (own decl.fields (before ++ i ∷ [])) =
-        ap (λ is. set (each (field_slot setting earlier) decl.fields (own decl.fields before)) k (field_slot setting earlier f is)) (sym more)
-        ∙ sym (each_put (field_slot setting earlier) decl.fields k (own decl.fields before) (own decl.fields (before ++ i ∷ [])) (λ j ne. filter_none (λ x. is_this j (owner decl.fields x)) before i (ap (is_this j) e ∙ other k j (λ q. ne (sym q))))) in
-        ap (λ x. put k x (state_behind setting earlier decl before fs)) r
-        ∙ ap₂ (λ xs is. let s : State = record { slots = xs; faults = fs ++ own_faults setting earlier f f.shape mine i; kept = is; whole = no_value } in s) slots (kept_claimed (has_flat decl.fields) before i u)
+        let f = field_at body.fields k in
+        let mine = own body.fields before k in
+        let more : own body.fields (before ++ i ∷ []) k ≡ mine ++ i ∷ [] = filter_one (λ j. is_this k (owner body.fields j)) before i (ap (is_this k) e ∙ same k) in
+        let r : arm_slot setting earlier (arm k f) i (slot_at (each (field_slot setting earlier) body.fields (own body.fields before)) k) ≡ (field_slot setting earlier f (mine ++ i ∷ []), own_faults setting earlier f f.shape mine i) =
+        ap (arm_slot setting earlier (arm k f) i) (each_at (field_slot setting earlier) body.fields k (own body.fields before) on.0) ∙ arm_is f k i f.shape mine refl on.1 in
+        let slots : set (each (field_slot setting earlier) body.fields (own body.fields before)) k (field_slot setting earlier f (mine ++ i ∷ [])) ≡ each (field_slot setting earlier) body.fields (own body.fields (before ++ i ∷ [])) =
+        ap (λ is. set (each (field_slot setting earlier) body.fields (own body.fields before)) k (field_slot setting earlier f is)) (sym more)
+        ∙ sym (each_put (field_slot setting earlier) body.fields k (own body.fields before) (own body.fields (before ++ i ∷ [])) (λ j ne. filter_none (λ x. is_this j (owner body.fields x)) before i (ap (is_this j) e ∙ other k j (λ q. ne (sym q))))) in
+        ap (λ x. put k x (state_behind setting earlier body before fs)) r
+        ∙ ap₂ (λ xs is. let s : State = record { slots = xs; faults = fs ++ own_faults setting earlier f f.shape mine i; kept = is; whole = no_value } in s) slots (kept_claimed (has_flat body.fields) before i u)
 
     one_named : (before : List NestedMeta) (fs : List Fault) (i : NestedMeta) (n : Option Text) → item_name i ≡ n
-        → by_name setting earlier (arms decl) (rest decl) (state_behind setting earlier decl before fs) i n ≡ state_behind setting earlier decl (before ++ i ∷ []) (fs ++ named_faults setting earlier decl before i n)
+        → by_name setting earlier (arms body) (rest body) (state_behind setting earlier body before fs) i n ≡ state_behind setting earlier body (before ++ i ∷ []) (fs ++ named_faults setting earlier body before i n)
     one_named before fs i None e =
-        ap₂ (λ xs is. let s : State = record { slots = xs; faults = fs ++ named_faults setting earlier decl before i None; kept = is; whole = no_value } in s)
-        (slots_stay before i (ap (option_and_then (owner_named decl.fields)) e)) (kept_claimed (has_flat decl.fields) before i (ap (is_unclaimed_name decl.fields) e))
+        ap₂ (λ xs is. let s : State = record { slots = xs; faults = fs ++ named_faults setting earlier body before i None; kept = is; whole = no_value } in s)
+        (slots_stay before i (ap (option_and_then (owner_named body.fields)) e)) (kept_claimed (has_flat body.fields) before i (ap (is_unclaimed_name body.fields) e))
     one_named before fs i (Some n) e =
-        ap (λ a. by_arm setting earlier (arms decl) (rest decl) n i a (state_behind setting earlier decl before fs)) (arm_is_owner decl.fields n)
-        ∙ one_item before fs n i (owner_named decl.fields n) (ap (option_and_then (owner_named decl.fields)) e) (ap (is_unclaimed_name decl.fields) e) (owner_on decl.fields n)
+        ap (λ a. by_arm setting earlier (arms body) (rest body) n i a (state_behind setting earlier body before fs)) (arm_is_owner body.fields n)
+        ∙ one_item before fs n i (owner_named body.fields n) (ap (option_and_then (owner_named body.fields)) e) (ap (is_unclaimed_name body.fields) e) (owner_on body.fields n)
 
-    one_entry : (before : List NestedMeta) (fs : List Fault) (e : Entry) → entry_step setting earlier decl (state_behind setting earlier decl before fs) e ≡ state_behind setting earlier decl (before ++ items (e ∷ [])) (fs ++ entry_faults setting earlier decl before e)
-    one_entry before fs (entry.Fault f) = ap (λ is. state_behind setting earlier decl is (fs ++ f ∷ [])) (sym (append-nil before))
+    one_entry : (before : List NestedMeta) (fs : List Fault) (e : Entry) → entry_step setting earlier body (state_behind setting earlier body before fs) e ≡ state_behind setting earlier body (before ++ items (e ∷ [])) (fs ++ entry_faults setting earlier body before e)
+    one_entry before fs (entry.Fault f) = ap (λ is. state_behind setting earlier body is (fs ++ f ∷ [])) (sym (append-nil before))
     one_entry before fs (entry.Item i) = one_named before fs i (item_name i) refl
 
-    pub walk : (before : List NestedMeta) (fs : List Fault) (es : List Entry) → fold (entry_step setting earlier decl) (state_behind setting earlier decl before fs) es ≡ state_behind setting earlier decl (before ++ items es) (fs ++ all_entry_faults setting earlier decl before es)
-    walk before fs [] = ap₂ (state_behind setting earlier decl) (sym (append-nil before)) (sym (append-nil fs))
+    pub walk : (before : List NestedMeta) (fs : List Fault) (es : List Entry) → fold (entry_step setting earlier body) (state_behind setting earlier body before fs) es ≡ state_behind setting earlier body (before ++ items es) (fs ++ all_entry_faults setting earlier body before es)
+    walk before fs [] = ap₂ (state_behind setting earlier body) (sym (append-nil before)) (sym (append-nil fs))
     walk before fs (e ∷ es) =
-        ap (λ s. fold (entry_step setting earlier decl) s es) (one_entry before fs e)
-        ∙ walk (before ++ items (e ∷ [])) (fs ++ entry_faults setting earlier decl before e) es
-        ∙ ap₂ (state_behind setting earlier decl) (append_assoc before (items (e ∷ [])) (items es) ∙ ap (λ is. before ++ is) (sym (items-append (e ∷ []) es))) (append_assoc fs (entry_faults setting earlier decl before e) (all_entry_faults setting earlier decl (before ++ items (e ∷ [])) es))
+        ap (λ s. fold (entry_step setting earlier body) s es) (one_entry before fs e)
+        ∙ walk (before ++ items (e ∷ [])) (fs ++ entry_faults setting earlier body before e) es
+        ∙ ap₂ (state_behind setting earlier body) (append_assoc before (items (e ∷ [])) (items es) ∙ ap (λ is. before ++ is) (sym (items-append (e ∷ []) es))) (append_assoc fs (entry_faults setting earlier body before e) (all_entry_faults setting earlier body (before ++ items (e ∷ [])) es))
 
 pub walk_is_filters : WalkIsFilters
-walk_is_filters setting earlier decl es = walk setting earlier decl [] [] es
+walk_is_filters setting earlier body es = walk setting earlier body [] [] es

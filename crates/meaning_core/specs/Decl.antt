@@ -28,6 +28,12 @@ pub record FieldDecl : Type 0 where
   pub with : Option Callable
   pub transform : Option PostfixTransform
 
+-- what a struct reads of items: its fields, its own default, and whether it allows items that no field owns
+pub record BodyDecl : Type 0 where
+  pub fields : List FieldDecl
+  pub default : Option Default
+  pub allows_unknown : Bool
+
 -- a declaration: its number among all, its type, and the names of the attributes that it reads
 pub record Decl : Type 0 where
   pub derives : List Derive
@@ -35,10 +41,8 @@ pub record Decl : Type 0 where
   pub name : Text
   pub type : Type'
   pub attributes : List Text
-  pub fields : List FieldDecl
-  pub default : Option Default
+  pub body : BodyDecl
   pub transform : Option PostfixTransform
-  pub allows_unknown : Bool
 
 -- the field is neither skipped nor flattened, so items name it
 abbrev pub is_named_by : Shape → Bool → Bool
@@ -93,5 +97,5 @@ fallback_by field container (Some (ByCall callable)) = Some (OfCall callable)
 fallback_by field container None = container_fallback field container
 
 -- the fallback of a field: its own default, else the container's member, else the type's where it is skipped
-abbrev pub fallback : Decl → FieldDecl → Option Fallback
-fallback decl field = fallback_by field decl.default field.default
+abbrev pub fallback : BodyDecl → FieldDecl → Option Fallback
+fallback body field = fallback_by field body.default field.default

@@ -12,7 +12,7 @@ use Rattle.error_fault.specs.Outcome.{Outcome, Value, Faults, faults_of}
 use Rattle.machine_value.specs.declared.value.Value.{Value as Datum}
 use Rattle.machine_steps.specs.Nodes.{nested_span}
 use Rattle.node_expr.specs.declared.ty.«Type».{«Type» as Type'}
-use Rattle.meaning_core.specs.Decl.{Shape, Single, Many, Flat, FieldDecl, Decl, has_flat, names}
+use Rattle.meaning_core.specs.Decl.{Shape, Single, Many, Flat, FieldDecl, BodyDecl, has_flat, names}
 use Rattle.machine_steps.specs.Names.{item_name}
 use Rattle.machine_steps.specs.Setting.{Setting}
 use Rattle.machine_steps.specs.Convert.{Earlier, element}
@@ -48,23 +48,23 @@ module _ (setting : Setting) (earlier : Earlier) where
   own_faults field Single (first ∷ more) item = at_span (DuplicateField field.name) (nested_span item) ∷ []
   own_faults field Flat before item = []
 
-  module _ (decl : Decl) where
-    -- an item that no field owns: nothing where a field takes the rest or the declaration allows it
+  module _ (body : BodyDecl) where
+    -- an item that no field owns: nothing where a field takes the rest or the body allows it
     abbrev pub unknown : Text → Span → List Fault
     unknown name span =
-        cond (has_flat decl.fields) []
-        (cond decl.allows_unknown [] (at_span (UnknownField name (set_of (names decl.fields))) span ∷ []))
+        cond (has_flat body.fields) []
+        (cond body.allows_unknown [] (at_span (UnknownField name (set_of (names body.fields))) span ∷ []))
 
     -- an item with the number of its owner behind the earlier items
     abbrev pub item_faults : List NestedMeta → Text → NestedMeta → Option ℕ → List Fault
     item_faults before name item None = unknown name (nested_span item)
     item_faults before name item (Some number) =
-        own_faults (field_at decl.fields number) (field_at decl.fields number).shape (own decl.fields before number) item
+        own_faults (field_at body.fields number) (field_at body.fields number).shape (own body.fields before number) item
 
     -- the faults of an item by its name; a literal has none and is a fault
     abbrev pub named_faults : List NestedMeta → NestedMeta → Option Text → List Fault
     named_faults before item None = at_span (UnexpectedFormat (codes "literal")) (nested_span item) ∷ []
-    named_faults before item (Some name) = item_faults before name item (owner_named decl.fields name)
+    named_faults before item (Some name) = item_faults before name item (owner_named body.fields name)
 
     -- the faults of an entry behind the earlier items
     abbrev pub entry_faults : List NestedMeta → Entry → List Fault

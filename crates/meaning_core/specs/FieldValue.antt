@@ -11,7 +11,7 @@ use Rattle.machine_value.specs.Members.{member}
 use Rattle.machine_steps.specs.Seen.{NothingSeen}
 use Rattle.machine_steps.specs.Use.TheVariants as use_at
 use Rattle.node_expr.specs.declared.ty.«Type».{«Type» as Type'}
-use Rattle.meaning_core.specs.Decl.{Shape, Single, Many, Flat, FieldDecl, Decl, Fallback, OfType, OfCall, OfContainer, fallback, names}
+use Rattle.meaning_core.specs.Decl.{Shape, Single, Many, Flat, FieldDecl, BodyDecl, Fallback, OfType, OfCall, OfContainer, fallback, names}
 use Rattle.machine_steps.specs.Setting.{Setting, ask}
 use Rattle.machine_steps.specs.Convert.{Earlier, list, none, default}
 use Rattle.meaning_core.specs.Owners.{unclaimed}
@@ -23,10 +23,10 @@ fallback_outcome setting type whole OfType = Value (default setting type)
 fallback_outcome setting type whole (OfCall callable) = ask setting callable use_at.Default type NothingSeen
 fallback_outcome setting type whole (OfContainer name) = Value (member name whole)
 
-module _ (setting : Setting) (earlier : Earlier) (decl : Decl) where
+module _ (setting : Setting) (earlier : Earlier) (body : BodyDecl) where
   -- a flattened field reads what no other field takes
   abbrev pub flat_outcome : FieldDecl → List NestedMeta → Outcome Datum
-  flat_outcome field all = with_siblings (names decl.fields) (list setting earlier field.type (unclaimed decl.fields all))
+  flat_outcome field all = with_siblings (names body.fields) (list setting earlier field.type (unclaimed body.fields all))
 
   -- its faults; another field has none here
   abbrev pub flat_faults : FieldDecl → Shape → List NestedMeta → List Fault
@@ -42,7 +42,7 @@ module _ (setting : Setting) (earlier : Earlier) (decl : Decl) where
 
   -- the fault of a missing field, by its own items
   abbrev pub missing : FieldDecl → Shape → List NestedMeta → List Fault
-  missing field Single [] = missing_by field (fallback decl field) (none setting earlier field.type)
+  missing field Single [] = missing_by field (fallback body field) (none setting earlier field.type)
   missing field Single (item ∷ more) = []
   missing field Many own_items = []
   missing field Flat own_items = []
@@ -65,7 +65,7 @@ module _ (setting : Setting) (earlier : Earlier) (decl : Decl) where
   -- the value of a field by all items and by its own; `whole` is the container's default
   abbrev pub field_value : Datum → List NestedMeta → FieldDecl → Shape → List NestedMeta → Outcome Datum
   field_value whole all field Flat own_items = flat_outcome field all
-  field_value whole all field Many [] = empty_value field whole (fallback decl field)
+  field_value whole all field Many [] = empty_value field whole (fallback body field)
   field_value whole all field Many (item ∷ more) = Value (value.List (values setting earlier field (item ∷ more)))
-  field_value whole all field Single [] = absent_value field whole (fallback decl field)
+  field_value whole all field Single [] = absent_value field whole (fallback body field)
   field_value whole all field Single (item ∷ more) = read setting earlier field item

@@ -4,7 +4,7 @@ use Rattle.machine_steps.specs.NestedMeta.{NestedMeta}
 use Rattle.error_fault.specs.declared.fault.Fault.{Fault}
 use Rattle.error_fault.specs.Outcome.{value_of}
 use Rattle.machine_value.specs.Members.{no_value}
-use Rattle.meaning_core.specs.Decl.{Shape, Single, Many, Flat, FieldDecl, Decl, has_flat}
+use Rattle.meaning_core.specs.Decl.{Shape, Single, Many, Flat, FieldDecl, BodyDecl, has_flat}
 use Rattle.machine_steps.specs.Setting.{Setting}
 use Rattle.machine_steps.specs.Convert.{Earlier}
 use Rattle.meta_entries.specs.Entries.{items}
@@ -25,22 +25,22 @@ module _ (setting : Setting) (earlier : Earlier) where
   abbrev pub field_slot : FieldDecl → List NestedMeta → Slot
   field_slot field own_items = slot_by field field.shape own_items
 
-  module _ (decl : Decl) where
+  module _ (body : BodyDecl) where
     abbrev pub kept_by : Bool → List NestedMeta → List NestedMeta
-    kept_by true all = unclaimed decl.fields all
+    kept_by true all = unclaimed body.fields all
     kept_by false all = []
 
     -- the state behind these items, with these faults
     abbrev pub state_behind : List NestedMeta → List Fault → State
     state_behind all faults =
-        record { slots = each field_slot decl.fields (own decl.fields all); faults = faults; kept = kept_by (has_flat decl.fields) all; whole = no_value }
+        record { slots = each field_slot body.fields (own body.fields all); faults = faults; kept = kept_by (has_flat body.fields) all; whole = no_value }
 
     -- the state behind these entries, by filters
     abbrev pub behind : List Entry → State
-    behind entries = state_behind (items entries) (all_entry_faults setting earlier decl [] entries)
+    behind entries = state_behind (items entries) (all_entry_faults setting earlier body [] entries)
 
 -- the state behind any entries is the filters of those entries
 abbrev pub WalkIsFilters : Type 0
 WalkIsFilters =
-    (setting : Setting) (earlier : Earlier) (decl : Decl) (entries : List Entry)
-    → fold (entry_step setting earlier decl) (behind setting earlier decl []) entries ≡ behind setting earlier decl entries
+    (setting : Setting) (earlier : Earlier) (body : BodyDecl) (entries : List Entry)
+    → fold (entry_step setting earlier body) (behind setting earlier body []) entries ≡ behind setting earlier body entries
