@@ -24,7 +24,7 @@ use Rattle.law_asks.specs.Unfitness.{refusals}
 use Rattle.meaning_core.specs.Decl.{Decl}
 use Rattle.machine_steps.specs.Machine.{unit_type}
 use Rattle.run_accepted.specs.Attributes.{without_attributes}
-use Rattle.run_source.specs.Members.{fields_of}
+use Rattle.run_source.specs.Members.{body_fields}
 use Rattle.node_core.specs.Bodies.{field_list}
 use Rattle.run_source.specs.Stages.{meta_reader, options_of}
 use Rattle.run_accepted.specs.Unbuilt.{IsBuilt, are_named, has_named_fields}
@@ -81,7 +81,7 @@ listed_are (fields.Named it) named have = recursion_from_All IsTextField it.name
 listed_are (fields.Unnamed it) named have = absurd cc
 listed_are fields.Unit named have = absurd cc
 
-named_are : (it : «Data») → has_named_fields it ≡ true → IsTextBody it → AllByRecursion IsTextField (fields_of it)
+named_are : (it : «Data») → has_named_fields it ≡ true → IsTextBody it → AllByRecursion IsTextField (body_fields it)
 named_are (body.Struct it) named have = listed_are it.fields named have
 named_are (body.Enum it) named have = absurd cc
 named_are (body.Union it) named have = absurd cc
@@ -99,10 +99,10 @@ module _ (host : HostSays) (rules : Rules) (decls : List DeriveInput) (program :
     is_named : has_named_fields decl.body ≡ true
     is_named = named decl (at_place IsBuilt decls number decl built stands)
 
-    have_idents : AllByRecursion IsTextField (fields_of decl.body)
+    have_idents : AllByRecursion IsTextField (body_fields decl.body)
     have_idents = named_are decl.body is_named (at_place HasTextFields decls number decl idents stands)
 
-    names_differ : Differ (map member_name (fields_of decl.body))
+    names_differ : Differ (map member_name (body_fields decl.body))
     names_differ = members_differ decls is.sound.single number decl stands is_named have_idents
 
   -- items are read as a declaration that can be run

@@ -8,7 +8,7 @@ use Rattle.machine_steps.specs.Convert.{Earlier}
 use Rattle.machine_steps.specs.Names.{item_name}
 use Rattle.meaning_core.specs.NestedMeta.{NestedMeta}
 use Rattle.machine_steps.specs.Setting.{Setting}
-use Rattle.meaning_core.specs.Decl.{Shape, Single, Many, Flat, FieldDecl, Decl, is_flat, has_flat}
+use Rattle.meaning_core.specs.Decl.{Shape, Single, Many, Flat, FieldDecl, BodyDecl, is_flat, has_flat}
 use Rattle.meta_entries.specs.Entries.{items}
 use Rattle.meta_entries.specs.declared.entry.Entry.{Entry}
 use Rattle.meta_entries.specs.declared.entry.Entry.TheVariants as entry
@@ -37,42 +37,42 @@ both_fail : (here more : Bool) → cond here true more ≡ false → (here ≡ f
 both_fail true more e = absurd (true≢false e)
 both_fail false more e = (refl, e)
 
-module _ (setting : Setting) (earlier : Earlier) (decl : Decl) where
+module _ (setting : Setting) (earlier : Earlier) (body : BodyDecl) where
   -- the faults of entries behind earlier items depend on those items only by what each field owns of them
-  item_by_own : (xs ys : List NestedMeta) (name : Text) (item : NestedMeta) (found : Option ℕ) → own decl.fields xs ≡ own decl.fields ys → item_faults setting earlier decl xs name item found ≡ item_faults setting earlier decl ys name item found
+  item_by_own : (xs ys : List NestedMeta) (name : Text) (item : NestedMeta) (found : Option ℕ) → own body.fields xs ≡ own body.fields ys → item_faults setting earlier body xs name item found ≡ item_faults setting earlier body ys name item found
   item_by_own xs ys name item None e = refl
-  item_by_own xs ys name item (Some number) e = ap (λ (mine : ℕ → List NestedMeta). own_faults setting earlier (field_at decl.fields number) (field_at decl.fields number).shape (mine number) item) e
+  item_by_own xs ys name item (Some number) e = ap (λ (mine : ℕ → List NestedMeta). own_faults setting earlier (field_at body.fields number) (field_at body.fields number).shape (mine number) item) e
 
-  named_by_own : (xs ys : List NestedMeta) (item : NestedMeta) (name : Option Text) → own decl.fields xs ≡ own decl.fields ys → named_faults setting earlier decl xs item name ≡ named_faults setting earlier decl ys item name
+  named_by_own : (xs ys : List NestedMeta) (item : NestedMeta) (name : Option Text) → own body.fields xs ≡ own body.fields ys → named_faults setting earlier body xs item name ≡ named_faults setting earlier body ys item name
   named_by_own xs ys item None e = refl
-  named_by_own xs ys item (Some name) e = item_by_own xs ys name item (owner_named decl.fields name) e
+  named_by_own xs ys item (Some name) e = item_by_own xs ys name item (owner_named body.fields name) e
 
-  entry_by_own : (xs ys : List NestedMeta) (it : Entry) → own decl.fields xs ≡ own decl.fields ys → entry_faults setting earlier decl xs it ≡ entry_faults setting earlier decl ys it
+  entry_by_own : (xs ys : List NestedMeta) (it : Entry) → own body.fields xs ≡ own body.fields ys → entry_faults setting earlier body xs it ≡ entry_faults setting earlier body ys it
   entry_by_own xs ys (entry.Fault fault) e = refl
   entry_by_own xs ys (entry.Item item) e = named_by_own xs ys item (item_name item) e
 
-  entries_by_own : (xs ys : List NestedMeta) (entries : List Entry) → own decl.fields xs ≡ own decl.fields ys → all_entry_faults setting earlier decl xs entries ≡ all_entry_faults setting earlier decl ys entries
+  entries_by_own : (xs ys : List NestedMeta) (entries : List Entry) → own body.fields xs ≡ own body.fields ys → all_entry_faults setting earlier body xs entries ≡ all_entry_faults setting earlier body ys entries
   entries_by_own xs ys [] e = refl
   entries_by_own xs ys (it ∷ entries) e =
-      ap₂ (λ here more. here ++ more) (entry_by_own xs ys it e) (entries_by_own (xs ++ items (it ∷ [])) (ys ++ items (it ∷ [])) entries (own_behind decl.fields xs ys (items (it ∷ [])) e))
+      ap₂ (λ here more. here ++ more) (entry_by_own xs ys it e) (entries_by_own (xs ++ items (it ∷ [])) (ys ++ items (it ∷ [])) entries (own_behind body.fields xs ys (items (it ∷ [])) e))
 
   -- the faults of two lists of entries are those of the first, then those of the second behind the items of the first
-  entries_append : (before : List NestedMeta) (xs ys : List Entry) → all_entry_faults setting earlier decl before (xs ++ ys) ≡ all_entry_faults setting earlier decl before xs ++ all_entry_faults setting earlier decl (before ++ items xs) ys
-  entries_append before [] ys = ap (λ behind. all_entry_faults setting earlier decl behind ys) (sym (append-nil before))
+  entries_append : (before : List NestedMeta) (xs ys : List Entry) → all_entry_faults setting earlier body before (xs ++ ys) ≡ all_entry_faults setting earlier body before xs ++ all_entry_faults setting earlier body (before ++ items xs) ys
+  entries_append before [] ys = ap (λ behind. all_entry_faults setting earlier body behind ys) (sym (append-nil before))
   entries_append before (x ∷ xs) ys =
-      let here = entry_faults setting earlier decl before x in
-      let more = all_entry_faults setting earlier decl (before ++ items (x ∷ [])) xs in
+      let here = entry_faults setting earlier body before x in
+      let more = all_entry_faults setting earlier body (before ++ items (x ∷ [])) xs in
       ap (λ faults. here ++ faults) (entries_append (before ++ items (x ∷ [])) xs ys)
-      ∙ ap (λ behind. here ++ (more ++ all_entry_faults setting earlier decl behind ys)) (append_assoc before (items (x ∷ [])) (items xs) ∙ ap (λ rest. before ++ rest) (sym (items-append (x ∷ []) xs)))
-      ∙ sym (append_assoc here more (all_entry_faults setting earlier decl (before ++ items (x ∷ xs)) ys))
+      ∙ ap (λ behind. here ++ (more ++ all_entry_faults setting earlier body behind ys)) (append_assoc before (items (x ∷ [])) (items xs) ∙ ap (λ rest. before ++ rest) (sym (items-append (x ∷ []) xs)))
+      ∙ sym (append_assoc here more (all_entry_faults setting earlier body (before ++ items (x ∷ xs)) ys))
 
   -- a field that is not flattened has no flat faults, nor have fields of which none is flattened
-  not_flat : (field : FieldDecl) (shape : Shape) (all : List NestedMeta) → is_flat shape ≡ false → flat_faults setting earlier decl field shape all ≡ []
+  not_flat : (field : FieldDecl) (shape : Shape) (all : List NestedMeta) → is_flat shape ≡ false → flat_faults setting earlier body field shape all ≡ []
   not_flat field Single all e = refl
   not_flat field Many all e = refl
   not_flat field Flat all e = absurd (true≢false e)
 
-  none_flat : (fields : List FieldDecl) (all : List NestedMeta) (mine : ℕ → List NestedMeta) → has_flat fields ≡ false → joined (each (λ field own_items. flat_faults setting earlier decl field field.shape all) fields mine) ≡ []
+  none_flat : (fields : List FieldDecl) (all : List NestedMeta) (mine : ℕ → List NestedMeta) → has_flat fields ≡ false → joined (each (λ field own_items. flat_faults setting earlier body field field.shape all) fields mine) ≡ []
   none_flat [] all mine e = refl
   none_flat (field ∷ fields) all mine e =
       let both = both_fail (is_flat field.shape) (has_flat fields) e in
@@ -80,47 +80,47 @@ module _ (setting : Setting) (earlier : Earlier) (decl : Decl) where
 
   -- the faults of the missing fields, by what each field owns
   abbrev all_missing : (ℕ → List NestedMeta) → List Fault
-  all_missing mine = joined (each (λ field own_items. missing setting earlier decl field field.shape own_items) decl.fields mine)
+  all_missing mine = joined (each (λ field own_items. missing setting earlier body field field.shape own_items) body.fields mine)
 
   -- where no field is flattened, the faults of the entries are collected, then those of the missing fields
-  collected_unflattened : (entries : List Entry) → has_flat decl.fields ≡ false → collected setting earlier decl entries ≡ all_entry_faults setting earlier decl [] entries ++ all_missing (own decl.fields (items entries))
+  collected_unflattened : (entries : List Entry) → has_flat body.fields ≡ false → collected setting earlier body entries ≡ all_entry_faults setting earlier body [] entries ++ all_missing (own body.fields (items entries))
   collected_unflattened entries e =
-      ap (λ flattened. all_entry_faults setting earlier decl [] entries ++ (flattened ++ all_missing (own decl.fields (items entries)))) (none_flat decl.fields (items entries) (own decl.fields (items entries)) e)
+      ap (λ flattened. all_entry_faults setting earlier body [] entries ++ (flattened ++ all_missing (own body.fields (items entries)))) (none_flat body.fields (items entries) (own body.fields (items entries)) e)
 
   -- an item of a name that no field has is one fault, where no field is flattened and unknown items are refused
-  unknown_alone : (before : List NestedMeta) (item : NestedMeta) (name : Text) → has_flat decl.fields ≡ false → decl.allows_unknown ≡ false → item_name item ≡ Some name → owner_named decl.fields name ≡ None → entry_faults setting earlier decl before (entry.Item item) ≡ unknown_fault decl name item ∷ []
+  unknown_alone : (before : List NestedMeta) (item : NestedMeta) (name : Text) → has_flat body.fields ≡ false → body.allows_unknown ≡ false → item_name item ≡ Some name → owner_named body.fields name ≡ None → entry_faults setting earlier body before (entry.Item item) ≡ unknown_fault body name item ∷ []
   unknown_alone before item name flat allows named unowned =
-      ap (named_faults setting earlier decl before item) named
-      ∙ ap (item_faults setting earlier decl before name item) unowned
-      ∙ ap₂ (λ (flattened allowed : Bool). cond flattened [] (cond allowed [] (unknown_fault decl name item ∷ []))) flat allows
+      ap (named_faults setting earlier body before item) named
+      ∙ ap (item_faults setting earlier body before name item) unowned
+      ∙ ap₂ (λ (flattened allowed : Bool). cond flattened [] (cond allowed [] (unknown_fault body name item ∷ []))) flat allows
 
   -- an item without an owner, put among entries, leaves what each field owns
-  owned_alike : (before after : List Entry) (item : NestedMeta) → owner decl.fields item ≡ None → own decl.fields (items (before ++ entry.Item item ∷ after)) ≡ own decl.fields (items (before ++ after))
+  owned_alike : (before after : List Entry) (item : NestedMeta) → owner body.fields item ≡ None → own body.fields (items (before ++ entry.Item item ∷ after)) ≡ own body.fields (items (before ++ after))
   owned_alike before after item e =
-      ap (own decl.fields) (items-append before (entry.Item item ∷ after))
-      ∙ own_without decl.fields (items before) (items after) item e
-      ∙ ap (own decl.fields) (sym (items-append before after))
+      ap (own body.fields) (items-append before (entry.Item item ∷ after))
+      ∙ own_without body.fields (items before) (items after) item e
+      ∙ ap (own body.fields) (sym (items-append before after))
 
   -- and it leaves the faults of the entries behind it
-  later_alike : (before : List NestedMeta) (item : NestedMeta) (after : List Entry) → owner decl.fields item ≡ None → all_entry_faults setting earlier decl (before ++ item ∷ []) after ≡ all_entry_faults setting earlier decl before after
+  later_alike : (before : List NestedMeta) (item : NestedMeta) (after : List Entry) → owner body.fields item ≡ None → all_entry_faults setting earlier body (before ++ item ∷ []) after ≡ all_entry_faults setting earlier body before after
   later_alike before item after e =
-      entries_by_own (before ++ item ∷ []) before after (own_without decl.fields before [] item e ∙ ap (own decl.fields) (append-nil before))
+      entries_by_own (before ++ item ∷ []) before after (own_without body.fields before [] item e ∙ ap (own body.fields) (append-nil before))
 
 pub one_more_fault : OneMoreFault
-one_more_fault setting earlier decl before after item name flat allows named unowned =
-    let first = all_entry_faults setting earlier decl [] before in
-    let behind = all_entry_faults setting earlier decl (items before) after in
-    let last = all_missing setting earlier decl (own decl.fields (items (before ++ after))) in
-    let fault = unknown_fault decl name item in
-    let ownerless : owner decl.fields item ≡ None = ap (option_and_then (owner_named decl.fields)) named ∙ unowned in
-    let added : all_entry_faults setting earlier decl [] (before ++ entry.Item item ∷ after) ≡ first ++ fault ∷ behind =
-    entries_append setting earlier decl [] before (entry.Item item ∷ after)
-    ∙ ap₂ (λ here more. first ++ (here ++ more)) (unknown_alone setting earlier decl (items before) item name flat allows named unowned) (later_alike setting earlier decl (items before) item after ownerless) in (
+one_more_fault setting earlier body before after item name flat allows named unowned =
+    let first = all_entry_faults setting earlier body [] before in
+    let behind = all_entry_faults setting earlier body (items before) after in
+    let last = all_missing setting earlier body (own body.fields (items (before ++ after))) in
+    let fault = unknown_fault body name item in
+    let ownerless : owner body.fields item ≡ None = ap (option_and_then (owner_named body.fields)) named ∙ unowned in
+    let added : all_entry_faults setting earlier body [] (before ++ entry.Item item ∷ after) ≡ first ++ fault ∷ behind =
+    entries_append setting earlier body [] before (entry.Item item ∷ after)
+    ∙ ap₂ (λ here more. first ++ (here ++ more)) (unknown_alone setting earlier body (items before) item name flat allows named unowned) (later_alike setting earlier body (items before) item after ownerless) in (
       behind ++ last,
-      collected_unflattened setting earlier decl (before ++ after) flat
-          ∙ ap (λ faults. faults ++ last) (entries_append setting earlier decl [] before after)
+      collected_unflattened setting earlier body (before ++ after) flat
+          ∙ ap (λ faults. faults ++ last) (entries_append setting earlier body [] before after)
           ∙ append_assoc first behind last,
-      collected_unflattened setting earlier decl (before ++ entry.Item item ∷ after) flat
-          ∙ ap₂ (λ faults mine. faults ++ all_missing setting earlier decl mine) added (owned_alike setting earlier decl before after item ownerless)
+      collected_unflattened setting earlier body (before ++ entry.Item item ∷ after) flat
+          ∙ ap₂ (λ faults mine. faults ++ all_missing setting earlier body mine) added (owned_alike setting earlier body before after item ownerless)
           ∙ append_assoc first (fault ∷ behind) last,
     )

@@ -26,7 +26,7 @@ use Rattle.meaning_core.specs.Made.{name_of, named_type}
 use Rattle.law_asks.specs.Names.{field_names, has_name, repeated_field, repeated_fields, repeated_members, repeated_names}
 use Rattle.law_asks.specs.Places.{refused_if}
 use Rattle.run_accepted.specs.Attributes.{without_attributes}
-use Rattle.run_source.specs.Members.{fields_of}
+use Rattle.run_source.specs.Members.{body_fields}
 use Rattle.run_accepted.specs.Unbuilt.{has_named_fields}
 use Rattle.run_accepted.specs.Accepted.{derives_named_again, duplicate}
 use Rattle.run_accepted.proofs.NameLemmas.{same_names}
@@ -156,13 +156,13 @@ same_list (fields.Named it) single = single
 same_list (fields.Unnamed it) single = single
 same_list fields.Unit single = single
 
-of_struct : (it : «Data») → has_named_fields it ≡ true → repeated_members it ≡ [] → repeated_fields (fields_of it) ≡ []
+of_struct : (it : «Data») → has_named_fields it ≡ true → repeated_members it ≡ [] → repeated_fields (body_fields it) ≡ []
 of_struct (body.Struct it) is single = same_list it.fields single
 of_struct (body.Enum it) is single = cc
 of_struct (body.Union it) is single = cc
 
 -- the names of a declaration's fields differ as they are written
 pub members_differ : (decls : List DeriveInput) → duplicate decls ≡ None → (number : ℕ) (decl : DeriveInput) → slice_get decls number ≡ Some decl
-    → has_named_fields decl.body ≡ true → AllByRecursion IsTextField (fields_of decl.body) → Differ (map member_name (fields_of decl.body))
+    → has_named_fields decl.body ≡ true → AllByRecursion IsTextField (body_fields decl.body) → Differ (map member_name (body_fields decl.body))
 members_differ decls single number decl stands is have =
-    fields_differ (fields_of decl.body) have (of_struct decl.body is (members_single decls (names_single decls single) number decl stands))
+    fields_differ (body_fields decl.body) have (of_struct decl.body is (members_single decls (names_single decls single) number decl stands))

@@ -25,7 +25,7 @@ use Rattle.run_source.specs.Core.{Core}
 use Rattle.run_source.specs.Entries.{items, option_entries}
 use Rattle.run_source.specs.FieldOptions.{of_field, of_field_faults}
 use Rattle.run_source.specs.InputField.{InputField}
-use Rattle.run_source.specs.Members.{fields_of, no_variant, variants_of}
+use Rattle.run_source.specs.Members.{body_fields, no_variant, variants_of}
 use Rattle.node_core.specs.Bodies.{is_union, field_list}
 use Rattle.run_accepted.specs.Pairs.{faults_under}
 use Rattle.run_source.specs.Rows.{else_faults, list_of}
@@ -87,7 +87,7 @@ same_members (field ∷ its) (it ∷ meant) zip = ap₂ ◌∷◌ zip.0.0 (same_
 
 -- ---- declarations
 
-bare_named : (it : «Data») → has_named_fields it ≡ true → named_fields (body_without it) ≡ Some (map field_without (fields_of it))
+bare_named : (it : «Data») → has_named_fields it ≡ true → named_fields (body_without it) ≡ Some (map field_without (body_fields it))
 bare_named (body.Struct it) is = of_fields it.fields is
   where
     of_fields : (its : Fields) → are_named its ≡ true → named_of (fields_without its) ≡ Some (map field_without (field_list its))
@@ -102,22 +102,22 @@ kept (body.Struct it) goods is = refl
 kept (body.Enum it) goods is = cc
 kept (body.Union it) goods is = cc
 
-module _ (decl : DeriveInput) (named : has_named_fields decl.body ≡ true) (have : AllByRecursion IsTextField (fields_of decl.body)) (differ : Differ (map member_name (fields_of decl.body))) where
+module _ (decl : DeriveInput) (named : has_named_fields decl.body ≡ true) (have : AllByRecursion IsTextField (body_fields decl.body)) (differ : Differ (map member_name (body_fields decl.body))) where
   -- what a container means that keeps the fields of the declaration
   pub meant_is : (number : ℕ) (derives : List Derive) (names : List Text) (core : Core) (goods : List InputField) → core.ident ≡ decl.ident
-      → core.body ≡ with_fields (start_body decl.body) goods → AllZip Keeps (fields_of decl.body) goods → IsOf (without_attributes decl) (meant_decl number derives names core)
+      → core.body ≡ with_fields (start_body decl.body) goods → AllZip Keeps (body_fields decl.body) goods → IsOf (without_attributes decl) (meant_decl number derives names core)
   meant_is number derives names core goods ident same keep =
-      let bare : List Field = map field_without (fields_of decl.body) in
+      let bare : List Field = map field_without (body_fields decl.body) in
       let fields_same : fields_in core.body ≡ goods = ap fields_in same ∙ kept decl.body goods named in
       let are : AllZip IsFieldOf bare (map meant_field (fields_in core.body)) =
-      subst (λ its. AllZip IsFieldOf bare (map meant_field its)) (sym fields_same) (fields_are (fields_of decl.body) goods keep have) in
+      subst (λ its. AllZip IsFieldOf bare (map meant_field its)) (sym fields_same) (fields_are (body_fields decl.body) goods keep have) in
       record {
         named = bare;
         is_struct = bare_named decl.body named;
         name = ap ident_text (sym ident);
         type = ap (λ (it : Ident). named_type it.text) (sym ident);
         members = are;
-        differ = subst Differ (sym (map-map member_name field_without (fields_of decl.body)) ∙ same_members bare (map meant_field (fields_in core.body)) are) differ;
+        differ = subst Differ (sym (map-map member_name field_without (body_fields decl.body)) ∙ same_members bare (map meant_field (fields_in core.body)) are) differ;
       }
 
 -- ---- faults
@@ -129,33 +129,33 @@ none_later (fault ∷ more) later none = cc
 module _ {S : Type 0} (reader : Reader S) (decl : DeriveInput) where
   -- where nothing is wrong with a declaration, nothing is with any of its fields
   pub no_field_faults : option_faults reader decl ≡ []
-      → AllByRecursion (λ field. reader.field_faults (container_options reader decl) field ≡ []) (fields_of decl.body)
+      → AllByRecursion (λ field. reader.field_faults (container_options reader decl) field ≡ []) (body_fields decl.body)
   no_field_faults none =
-      let of_fields = flat_map (reader.field_faults (container_options reader decl)) (fields_of decl.body) in
+      let of_fields = flat_map (reader.field_faults (container_options reader decl)) (body_fields decl.body) in
       let of_variants = flat_map (λ variant. no_variant variant ∷ []) (variants_of decl.body) in
       let of_items = all_faults reader.options reader.item_faults reader.start [] (option_entries decl.attrs) in
       let of_body =
       none_later of_items (body_faults reader decl) (none_later (union_faults (is_union decl.body)) (else_faults of_items (body_faults reader decl)) none) in
       let of_members = (append-eq-nil_iff {p = of_fields ++ of_variants} {q = reader.checks (options_of reader decl)}).0 of_body in
-      none_made (reader.field_faults (container_options reader decl)) (fields_of decl.body) ((append-eq-nil_iff {p = of_fields} {q = of_variants}).0 of_members.0).0
+      none_made (reader.field_faults (container_options reader decl)) (body_fields decl.body) ((append-eq-nil_iff {p = of_fields} {q = of_variants}).0 of_members.0).0
 
 -- what the options mean is of the declaration
-module _ (rules : Rules) (number : ℕ) (decl : DeriveInput) (named : has_named_fields decl.body ≡ true) (have : AllByRecursion IsTextField (fields_of decl.body))
-    (differ : Differ (map member_name (fields_of decl.body))) where
+module _ (rules : Rules) (number : ℕ) (decl : DeriveInput) (named : has_named_fields decl.body ≡ true) (have : AllByRecursion IsTextField (body_fields decl.body))
+    (differ : Differ (map member_name (body_fields decl.body))) where
   pub input_is : faults_under rules decl derive.FromDeriveInput ≡ [] → IsOf (without_attributes decl) (input_decl rules number decl)
   input_is none =
       let set = container_options (fdi_reader rules decl) decl in
       let core = set.base.container in
-      let goods = good_fields rules core (fields_of decl.body) in
+      let goods = good_fields rules core (body_fields decl.body) in
       let whole = options_of (fdi_reader rules decl) decl in
       meant_is decl named have differ number (derive.FromDeriveInput ∷ []) (map path_text whole.base.attr_names.0) whole.base.container goods refl refl
-      (goods_are rules core (fields_of decl.body) (no_field_faults (fdi_reader rules decl) decl none))
+      (goods_are rules core (body_fields decl.body) (no_field_faults (fdi_reader rules decl) decl none))
 
   pub items_are : faults_under rules decl derive.FromMeta ≡ [] → IsOf (without_attributes decl) (meant_items number (derive.FromMeta ∷ []) (options_of (meta_reader rules decl) decl))
   items_are none =
       let set = container_options (meta_reader rules decl) decl in
       let core = set.base in
-      let goods = good_fields rules core (fields_of decl.body) in
+      let goods = good_fields rules core (body_fields decl.body) in
       let whole = options_of (meta_reader rules decl) decl in
       meant_is decl named have differ number (derive.FromMeta ∷ []) [] whole.base goods refl refl
-      (goods_are rules core (fields_of decl.body) (no_field_faults (meta_reader rules decl) decl none))
+      (goods_are rules core (body_fields decl.body) (no_field_faults (meta_reader rules decl) decl none))

@@ -17,7 +17,7 @@ use Rattle.run_accepted.specs.Compiled.{IsUnitUnder}
 use Rattle.run_accepted.specs.Unbuilt.{IsBuilt}
 use Rattle.run_accepted.proofs.UnitLemmas.{number_is}
 use Rattle.law_machine.specs.Compiles.{IsDecl, IsField, meant_fallback}
-use Rattle.law_machine.specs.Decl.{Decl, FieldDecl, Shape, Single, Many, Flat, Default, ByType, ByCall, fallback_by, is_flat, is_many, skip_fallback}
+use Rattle.law_machine.specs.Decl.{BodyDecl, Decl, FieldDecl, Shape, Single, Many, Flat, Default, ByType, ByCall, fallback_by, is_flat, is_many, skip_fallback}
 use Rattle.law_machine.specs.Left.{IsLeft, IsLeftDefault, IsLeftField, IsLeftUnit}
 use Rattle.law_options.proofs.Declared.{input_options_are, item_options_are}
 use Rattle.law_options.proofs.Idents.{no_ident}
@@ -53,15 +53,15 @@ module _ (left : Field) (field : FieldDecl) (member : ident_text left.ident.now 
   default_is whole own (Some (defaults.Explicit call)) is = tt
   default_is whole own (Some (defaults.Trait span)) is = tt
 
-module _ (decl : Decl) where
-  field_is : (left : Field) (field : FieldDecl) → IsField decl left field → IsLeftField decl.default left
+module _ (body : BodyDecl) where
+  field_is : (left : Field) (field : FieldDecl) → IsField body left field → IsLeftField body.default left
   field_is left field is =
       record {
         one_shape = (λ k. is.many k && is.flat k) ∙ one_shape field.shape;
-        default = default_is left field is.member is.skip decl.default field.default left.default_expression is.fallback;
+        default = default_is left field is.member is.skip body.default field.default left.default_expression is.fallback;
       }
 
-  fields_are : (lefts : List Field) (fields : List FieldDecl) → AllZip (IsField decl) lefts fields → AllByRecursion (IsLeftField decl.default) lefts
+  fields_are : (lefts : List Field) (fields : List FieldDecl) → AllZip (IsField body) lefts fields → AllByRecursion (IsLeftField body.default) lefts
   fields_are [] [] zip = tt
   fields_are [] (field ∷ fields) zip = absurd zip
   fields_are (left ∷ lefts) [] zip = absurd zip
@@ -70,7 +70,7 @@ module _ (decl : Decl) where
 -- what options leave of a declaration that they mean is such as options without a fault leave
 pub is_left : (left : TraitImpl) (decl : Decl) → IsDecl left decl → IsLeft left
 is_left left decl is =
-    subst (λ whole. AllByRecursion (IsLeftField whole) (fields_of left)) (sym is.default) (fields_are decl (fields_of left) decl.fields is.fields)
+    subst (λ whole. AllByRecursion (IsLeftField whole) (fields_of left)) (sym is.default) (fields_are decl.body (fields_of left) decl.body.fields is.fields)
 
 -- ---- units
 

@@ -22,7 +22,7 @@ use Rattle.law_options.specs.Entries.{items, option_entries}
 use Rattle.law_options.specs.FieldOptions.{of_field, of_field_faults}
 use Rattle.law_options.specs.InputField.{InputField}
 use Rattle.law_options.specs.Meant.{fields_in}
-use Rattle.law_options.specs.Members.{fields_of, no_variant, variants_of}
+use Rattle.law_options.specs.Members.{body_fields, no_variant, variants_of}
 use Rattle.law_options.specs.Rows.{else_faults, list_of}
 use Rattle.law_options.specs.Stages.{Reader, body_faults, container_options, field_faults, good_fields, option_faults, options_of, union_faults}
 use Rattle.law_options.specs.Values.{Rules}
@@ -62,14 +62,14 @@ module _ (rules : Rules) (core : Core) where
       ∙ ap₂ ◌++◌ (one_member field both.0) (good_members its both.1)
 
   -- those are all fields of its body
-  kept : (it : NodeData) → fields_in (with_fields (start_body it) (good_fields rules core (fields_of it))) ≡ good_fields rules core (fields_of it)
+  kept : (it : NodeData) → fields_in (with_fields (start_body it) (good_fields rules core (body_fields it))) ≡ good_fields rules core (body_fields it)
   kept (node.Struct it) = refl
   kept (node.Enum it) = refl
   kept (node.Union it) = refl
 
-  members_kept : (it : NodeData) → flat_map (field_faults rules core) (fields_of it) ≡ []
-      → map option_member (fields_in (with_fields (start_body it) (good_fields rules core (fields_of it)))) ≡ map member_of (fields_of it)
-  members_kept it none = ap (map option_member) (kept it) ∙ good_members (fields_of it) none
+  members_kept : (it : NodeData) → flat_map (field_faults rules core) (body_fields it) ≡ []
+      → map option_member (fields_in (with_fields (start_body it) (good_fields rules core (body_fields it)))) ≡ map member_of (body_fields it)
+  members_kept it none = ap (map option_member) (kept it) ∙ good_members (body_fields it) none
 
 -- what is compiled from fields has their identifiers and types
 left_members : (lefts : List Left) (its : List InputField) → AllZip views.IsField lefts its → map left_member lefts ≡ map option_member its
@@ -86,8 +86,8 @@ body_members (container.Enum lefts) (container.Enum variants) is = absurd is
 
 -- what is compiled from a struct has those of all its fields, where none has a fault
 pub struct_members : (rules : Rules) (core : Core) (it : NodeData) (left : TraitImpl) (whole : Core) → IsImpl left whole
-    → whole.body ≡ with_fields (start_body it) (good_fields rules core (fields_of it)) → flat_map (field_faults rules core) (fields_of it) ≡ []
-    → map left_member (left_fields left) ≡ map member_of (fields_of it)
+    → whole.body ≡ with_fields (start_body it) (good_fields rules core (body_fields it)) → flat_map (field_faults rules core) (body_fields it) ≡ []
+    → map left_member (left_fields left) ≡ map member_of (body_fields it)
 struct_members rules core it left whole is same none =
     body_members left.body whole.body is.members ∙ ap (λ body. map option_member (fields_in body)) same ∙ members_kept rules core it none
 
@@ -99,9 +99,9 @@ none_later (fault ∷ more) later none = cc
 
 module _ {S : Type 0} (reader : Reader S) (decl : DeriveInput) where
   -- where nothing is wrong with a declaration, nothing is with its fields
-  pub no_field_faults : option_faults reader decl ≡ [] → flat_map (reader.field_faults (container_options reader decl)) (fields_of decl.body) ≡ []
+  pub no_field_faults : option_faults reader decl ≡ [] → flat_map (reader.field_faults (container_options reader decl)) (body_fields decl.body) ≡ []
   no_field_faults none =
-      let of_fields = flat_map (reader.field_faults (container_options reader decl)) (fields_of decl.body) in
+      let of_fields = flat_map (reader.field_faults (container_options reader decl)) (body_fields decl.body) in
       let of_variants = flat_map (λ variant. no_variant variant ∷ []) (variants_of decl.body) in
       let of_items = all_faults reader.options reader.item_faults reader.start [] (option_entries decl.attrs) in
       let of_rest = none_later (union_faults (is_union decl.body)) (else_faults of_items (body_faults reader decl)) none in

@@ -20,7 +20,7 @@ use Rattle.codegen_core.specs.declared.trait_impl.TraitImpl.{TraitImpl}
 use Rattle.node_core.specs.Bodies.{field_list}
 use Rattle.law_options.specs.Body.{start_body, with_fields}
 use Rattle.law_options.specs.Core.{Core}
-use Rattle.law_options.specs.Members.{fields_of}
+use Rattle.law_options.specs.Members.{body_fields}
 use Rattle.law_options.specs.Stages.{container_options, fdi_reader, field_faults, good_fields, meta_reader, options_of}
 use Rattle.law_options.specs.Values.{Rules}
 use Rattle.run_accepted.specs.Attributes.{body_without, field_without, fields_without, generics_without, without_attributes}
@@ -42,16 +42,16 @@ listed_bare (fields.Named it) = refl
 listed_bare (fields.Unnamed it) = refl
 listed_bare fields.Unit = refl
 
-fields_bare : (it : «Data») → fields_of (body_without it) ≡ map field_without (fields_of it)
+fields_bare : (it : «Data») → body_fields (body_without it) ≡ map field_without (body_fields it)
 fields_bare (body.Struct it) = listed_bare it.fields
 fields_bare (body.Enum it) = refl
 fields_bare (body.Union it) = refl
 
-members_bare : (it : «Data») → map member_of (fields_of (body_without it)) ≡ map member_of (fields_of it)
-members_bare it = ap (map member_of) (fields_bare it) ∙ map-map member_of field_without (fields_of it)
+members_bare : (it : «Data») → map member_of (body_fields (body_without it)) ≡ map member_of (body_fields it)
+members_bare it = ap (map member_of) (fields_bare it) ∙ map-map member_of field_without (body_fields it)
 
-few_bare : (it : «Data») → length (fields_of it) < 2 ^ 32 → length (fields_of (body_without it)) < 2 ^ 32
-few_bare it few = subst (λ n. n < 2 ^ 32) (sym (ap length (fields_bare it) ∙ length-map (fields_of it) field_without)) few
+few_bare : (it : «Data») → length (body_fields it) < 2 ^ 32 → length (body_fields (body_without it)) < 2 ^ 32
+few_bare it few = subst (λ n. n < 2 ^ 32) (sym (ap length (fields_bare it) ∙ length-map (body_fields it) field_without)) few
 
 -- ---- the path to `darling`
 
@@ -69,8 +69,8 @@ module _ (rules : Rules) (decl : DeriveInput) (few : HasFewFields decl) where
   -- a unit that is compiled from all that the options of the declaration leave
   unit_owned : (core whole : Core) (left : TraitImpl) (number : ℕ) (it : Derive) (parse : Bool) (func : Func) → IsImpl left whole
       → whole.ident ≡ decl.ident → whole.generics ≡ decl.generics
-      → whole.body ≡ with_fields (start_body decl.body) (good_fields rules core (fields_of decl.body))
-      → flat_map (field_faults rules core) (fields_of decl.body) ≡ [] → slots_of func ≡ numbered (map left_member (left_fields left))
+      → whole.body ≡ with_fields (start_body decl.body) (good_fields rules core (body_fields decl.body))
+      → flat_map (field_faults rules core) (body_fields decl.body) ≡ [] → slots_of func ≡ numbered (map left_member (left_fields left))
       → IsOfDeclaration (without_attributes decl) (unit_with number it left parse (func ∷ []))
   unit_owned core whole left number it parse func is ident generics same none slots =
       let members = struct_members rules core decl.body left whole is same none ∙ sym (members_bare decl.body) in
@@ -78,7 +78,7 @@ module _ (rules : Rules) (decl : DeriveInput) (few : HasFewFields decl) where
         ident = is.ident ∙ ident;
         generics = ap generics_without (is.generics ∙ generics);
         slots =
-            All-from_recursion (λ func. slots_of func ≡ numbered (map member_of (fields_of (body_without decl.body)))) (func ∷ [])
+            All-from_recursion (λ func. slots_of func ≡ numbered (map member_of (body_fields (body_without decl.body)))) (func ∷ [])
             (slots ∙ ap numbered members, tt);
         few = few_bare decl.body few;
         krate = unusual (option_copied left.krate);

@@ -12,7 +12,7 @@ use Rattle.codegen_program.specs.declared.program.Func.{Func}
 use Rattle.codegen_program.specs.declared.program.Program.{Program}
 use Rattle.codegen_program.specs.declared.program.«Unit».{«Unit» as Unit'}
 use Rattle.law_options.specs.Body.{field_ident}
-use Rattle.law_options.specs.Members.{fields_of}
+use Rattle.law_options.specs.Members.{body_fields}
 use Rattle.law_options.specs.Values.{Rules}
 use Rattle.run_accepted.specs.Compiled.{IsProgram}
 use Rattle.run_accepted.specs.Pairs.{pairs_from, rejected}
@@ -52,15 +52,15 @@ first_type other (slot ∷ slots) = slot.1.1
 
 -- a slot of another type than the field of its number is not
 pub type_differs : (decl : DeriveInput) (field : Field) (unit : Unit') (func : Func) (ident : Ident) (type : Type')
-    → unit.decl ≡ 0 → fields_of decl.body ≡ field ∷ [] → unit.funcs ≡ func ∷ [] → slots_of func ≡ (0, (ident, type)) ∷ []
+    → unit.decl ≡ 0 → body_fields decl.body ≡ field ∷ [] → unit.funcs ≡ func ∷ [] → slots_of func ≡ (0, (ident, type)) ∷ []
     → (type ≡ field.ty → ⊥) → IsGiven (record { decls = decl ∷ []; units = unit ∷ [] }) → ⊥
 type_differs decl field unit func ident type first fields funcs slots other given =
     let program : Program = record { decls = decl ∷ []; units = unit ∷ [] } in
     let (own, at, is) = (given_is_of_declarations program 0 unit given refl).1 in
     let same : own ≡ decl = sym (same_Some decl own (ap (slice_get (decl ∷ [])) (sym first) ∙ at)) in
-    let owns : Func → Type 0 = λ it. slots_of it ≡ numbered (map member_of (fields_of own.body)) in
+    let owns : Func → Type 0 = λ it. slots_of it ≡ numbered (map member_of (body_fields own.body)) in
     let declared : owns func = subst (All owns) funcs is.slots 0 func (omega arith) in
     let here : ◌≡◌ {A = List Slot} ((0, (ident, type)) ∷ []) ((0, (field_ident field, field.ty)) ∷ []) =
-    sym slots ∙ declared ∙ ap (λ (it : DeriveInput). numbered (map member_of (fields_of it.body))) same
+    sym slots ∙ declared ∙ ap (λ (it : DeriveInput). numbered (map member_of (body_fields it.body))) same
     ∙ ap (λ its. numbered (map member_of its)) fields in
     other (ap (first_type type) here)

@@ -7,7 +7,7 @@ use Rattle.codegen_program.specs.declared.program.Program.{Program}
 use Rattle.codegen_program.specs.declared.program.«Unit».{«Unit» as Unit'}
 use Rattle.machine_forms.specs.Asks.{unit_asks}
 use Rattle.machine_forms.specs.Forms.{generated_ask}
-use Rattle.law_options.specs.Members.{fields_of}
+use Rattle.law_options.specs.Members.{body_fields}
 use Rattle.law_options.specs.Values.{Rules}
 use Rattle.run_accepted.specs.Attributes.{without_attributes}
 use Rattle.run_accepted.specs.Compiled.{IsUnitUnder}
@@ -26,7 +26,7 @@ NamesDerive decl derive = Any (λ (it : Derived). it.derive ≡ derive) (derives
 
 -- each field has a slot, and a `u32` counts them
 abbrev pub HasFewFields : DeriveInput → Type 0
-HasFewFields decl = length (fields_of decl.body) < 2 ^ 32
+HasFewFields decl = length (body_fields decl.body) < 2 ^ 32
 
 -- no function that the unit names begins with the name by which generated code calls `darling`
 abbrev pub NamesNoGenerated : Unit' → Type 0

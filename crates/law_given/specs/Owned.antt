@@ -11,7 +11,7 @@ use Rattle.codegen_program.specs.declared.stmt.Stmt.{Stmt, out-Stmt}
 use Rattle.codegen_program.specs.declared.stmt.Stmt.TheOpen.{Stmt-F}
 use Rattle.codegen_core.specs.Compiled.{is_usual}
 use Rattle.law_options.specs.Body.{field_ident}
-use Rattle.law_options.specs.Members.{fields_of}
+use Rattle.law_options.specs.Members.{body_fields}
 use Rattle.run_accepted.specs.Attributes.{generics_without}
 
 -- the identifier and the type of a field
@@ -47,6 +47,6 @@ numbered members = enumerate_from 0 members
 pub record IsOfDeclaration (decl : DeriveInput) (unit : Unit') : Type 0 where
   pub ident : unit.ident ≡ decl.ident
   pub generics : generics_without unit.generics ≡ decl.generics
-  pub slots : All (λ func. slots_of func ≡ numbered (map member_of (fields_of decl.body))) unit.funcs
-  pub few : length (fields_of decl.body) < 2 ^ 32
+  pub slots : All (λ func. slots_of func ≡ numbered (map member_of (body_fields decl.body))) unit.funcs
+  pub few : length (body_fields decl.body) < 2 ^ 32
   pub krate : IfSome unit.krate (λ path. is_usual path ≡ false)

@@ -17,13 +17,13 @@ use Rattle.codegen_core.specs.declared.default_expression.DefaultExpression.TheV
 use Rattle.codegen_core.specs.declared.field.Field.{Field}
 use Rattle.codegen_core.specs.declared.trait_impl.TraitImpl.{TraitImpl}
 use Rattle.codegen_core.specs.declared.variant.Variant.{Variant}
-use Rattle.law_machine.specs.Decl.{Decl, FieldDecl, Default, OfCall, OfContainer, fallback_by, skip_fallback}
+use Rattle.law_machine.specs.Decl.{BodyDecl, FieldDecl, Default, OfCall, OfContainer, fallback_by, skip_fallback}
 use Rattle.body_core.specs.declared.ast.data.«Data».{«Data»}
 use Rattle.body_core.specs.declared.ast.data.«Data».TheVariants as container
 use Rattle.run_accepted.specs.DefaultExpression.{DefaultExpression}
 use Rattle.run_accepted.specs.DefaultExpression.TheVariants as defaults
 use Rattle.run_accepted.specs.Entries.{items, option_entries}
-use Rattle.run_accepted.specs.Members.{fields_of}
+use Rattle.run_accepted.specs.Members.{body_fields}
 use Rattle.run_accepted.specs.Rows.{values}
 use Rattle.run_accepted.specs.Values.{Rules}
 use Rattle.run_accepted.specs.Core.{Core}
@@ -78,8 +78,8 @@ default_is ident (Some (shown.Trait span)) (Some (defaults.Trait it)) are = refl
 
 -- ---- fields
 
-module _ (decl : Decl) where
-  field_is : (left : Field) (it : InputField) → views.IsField left it → IsLeft decl.default it → IsField decl left (meant_field it)
+module _ (body : BodyDecl) where
+  field_is : (left : Field) (it : InputField) → views.IsField left it → IsLeft body.default it → IsField body left (meant_field it)
   field_is left it is left_so =
       let many = unwrap_or it.multiple false in
       let flat = is_some it.flatten.0 in
@@ -92,18 +92,18 @@ module _ (decl : Decl) where
         skip = is.skip;
         with = is.with;
         transform = is.transform;
-        fallback = fallback_is it.ident (meant_field it) decl.default left.default_expression it.default refl is.default left_so.default;
+        fallback = fallback_is it.ident (meant_field it) body.default left.default_expression it.default refl is.default left_so.default;
       }
 
-  all_are : (lefts : List Field) (its : List InputField) → AllZip views.IsField lefts its → AllByRecursion (IsLeft decl.default) its
-      → AllZip (IsField decl) lefts (map meant_field its)
+  all_are : (lefts : List Field) (its : List InputField) → AllZip views.IsField lefts its → AllByRecursion (IsLeft body.default) its
+      → AllZip (IsField body) lefts (map meant_field its)
   all_are [] [] zip are = tt
   all_are [] (it ∷ its) zip are = absurd zip
   all_are (left ∷ lefts) [] zip are = absurd zip
   all_are (left ∷ lefts) (it ∷ its) zip are = (field_is left it zip.0 are.0, all_are lefts its zip.1 are.1)
 
-  body_is : (left : «Data» Variant Field) (it : Body) → IsStruct left it → AllByRecursion (IsLeft decl.default) (fields_in it)
-      → AllZip (IsField decl) (struct_fields left) (map meant_field (fields_in it))
+  body_is : (left : «Data» Variant Field) (it : Body) → IsStruct left it → AllByRecursion (IsLeft body.default) (fields_in it)
+      → AllZip (IsField body) (struct_fields left) (map meant_field (fields_in it))
   body_is (container.Struct left) (container.Struct it) is are = all_are left.fields it.fields is.1 are
   body_is (container.Struct left) (container.Enum variants) is are = absurd is
   body_is (container.Enum lefts) (container.Struct it) is are = absurd is
@@ -114,7 +114,7 @@ decl_is : (left : TraitImpl) (core : Core) (number : ℕ) (derives : List Derive
 decl_is left core number derives names is are =
     record {
       name = ap ident_text is.ident;
-      fields = body_is (meant_decl number derives names core) left.body core.body is.members are;
+      fields = body_is (meant_decl number derives names core).body left.body core.body is.members are;
       default = default_is core.ident left.default core.default is.default;
       transform = is.transform;
       allows_unknown = is.allow;
@@ -134,10 +134,10 @@ with_is P (container.Struct it) fields are more = all-append P it.fields fields 
 
 -- the fields that a container ends with
 whole_is : (rules : Rules) (core : Core) (input : DeriveInput) → IsOwnIfAny core.default → core.body ≡ start_body input.body
-    → AllByRecursion (IsLeft (own_default core.default)) (fields_in (with_fields (start_body input.body) (good_fields rules core (fields_of input.body))))
+    → AllByRecursion (IsLeft (own_default core.default)) (fields_in (with_fields (start_body input.body) (good_fields rules core (body_fields input.body))))
 whole_is rules core input own is =
     let P = IsLeft (own_default core.default) in
-    with_is P (start_body input.body) (good_fields rules core (fields_of input.body)) (start_is P input.body) (fields_are rules core own (fields_of input.body))
+    with_is P (start_body input.body) (good_fields rules core (body_fields input.body)) (start_is P input.body) (fields_are rules core own (body_fields input.body))
 
 pub input_options_are : InputOptionsAreMeant
 input_options_are rules input left number derives is no_ident =

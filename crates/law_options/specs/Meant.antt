@@ -52,10 +52,13 @@ meant_decl number derives names core =
       name = ident_text core.ident;
       type = named_type core.ident.text;
       attributes = names;
-      fields = map meant_field (fields_in core.body);
-      default = own_default core.default;
+      body =
+          record {
+            fields = map meant_field (fields_in core.body);
+            default = own_default core.default;
+            allows_unknown = unwrap_or core.allow_unknown_fields false;
+          };
       transform = core.post_transform;
-      allows_unknown = unwrap_or core.allow_unknown_fields false;
     }
 
 -- the same of the options of `FromDeriveInput`

@@ -9,7 +9,7 @@ use Rattle.error_fault.specs.declared.fault.Fault.{Fault}
 use Rattle.body_core.specs.Data.{with_members}
 use Rattle.body_core.specs.declared.ast.data.«Data».TheVariants as container
 use Rattle.options_rows.specs.Entries.{option_entries}
-use Rattle.options_rows.specs.Members.{after_members, after_outcome, fields_of, members_faults, no_variant, read_body, variants_of, variant_or}
+use Rattle.options_rows.specs.Members.{after_members, after_outcome, body_fields, members_faults, no_variant, read_body, variants_of, variant_or}
 use Rattle.node_core.specs.Bodies.{is_union}
 use Rattle.options_rows.specs.Rows.{else_faults, list_of}
 use Rattle.options_rows.specs.Values.{Rules}
@@ -114,7 +114,7 @@ module _ {S : Type 0} (reader : Reader S) (rules : Rules) (takes : S → Field �
   staged-is =
       let set = container_options reader input in
       let whole = options_of reader input in
-      let fields = fields_of input.body in
+      let fields = body_fields input.body in
       let variants = variants_of input.body in
       let none = variant_or {S = S} no_variants rules in
       let unions = union_faults (is_union input.body) in

@@ -9,7 +9,7 @@ use Rattle.error_fault.specs.Outcome.{Outcome, Value, bind, faults_of, value_of,
 use Rattle.error_fault.specs.declared.fault.Fault.{Fault}
 use Rattle.body_core.specs.Data.{no_unions}
 use Rattle.options_rows.specs.Entries.{items, option_entries}
-use Rattle.options_rows.specs.Members.{fields_of, no_variant, read_body, variants_of, field_or, variant_or}
+use Rattle.options_rows.specs.Members.{body_fields, no_variant, read_body, variants_of, field_or, variant_or}
 use Rattle.node_core.specs.Bodies.{is_union}
 use Rattle.options_rows.specs.Rows.{else_faults, list_of}
 use Rattle.options_rows.specs.Values.{Rules}
@@ -75,12 +75,12 @@ module _ {S : Type 0} (reader : Reader S) (input : DeriveInput) where
 
   -- what the options of a declaration are, where nothing is wrong with them
   abbrev pub options_of : S
-  options_of = reader.with_fields container_options (fields_of input.body)
+  options_of = reader.with_fields container_options (body_fields input.body)
 
   -- what is wrong with the members, and with what they leave; no variant is read
   abbrev pub body_faults : List Fault
   body_faults =
-      flat_map (reader.field_faults container_options) (fields_of input.body)
+      flat_map (reader.field_faults container_options) (body_fields input.body)
       ++ flat_map (λ variant. no_variant variant ∷ []) (variants_of input.body)
       ++ reader.checks options_of
 

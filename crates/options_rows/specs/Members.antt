@@ -12,10 +12,10 @@ use Rattle.error_fault.specs.declared.kind.FaultKind.TheVariants.{UnexpectedForm
 use Rattle.options_rows.specs.Values.{Rules}
 
 -- the fields of a struct, which are read one by one
-abbrev pub fields_of : «Data» → List Field
-fields_of (body.Struct it) = field_list it.fields
-fields_of (body.Enum it) = []
-fields_of (body.Union it) = []
+abbrev pub body_fields : «Data» → List Field
+body_fields (body.Struct it) = field_list it.fields
+body_fields (body.Enum it) = []
+body_fields (body.Union it) = []
 
 -- the variants of an enum in order
 abbrev pub variants_of : «Data» → List Variant
@@ -59,16 +59,16 @@ variant_or own rules set variant = own_or (own rules set variant) (no_variant va
 module _ {S : Type 0} (takes_field : S → Field → Outcome S) (takes_variant : S → Variant → Outcome S) where
   -- what the members of a body leave
   abbrev pub after_body : S → «Data» → S
-  after_body set it = after_members takes_variant (after_members takes_field set (fields_of it)) (variants_of it)
+  after_body set it = after_members takes_variant (after_members takes_field set (body_fields it)) (variants_of it)
 
   -- what the first of them leave
   abbrev pub after_first : ℕ → S → «Data» → S
   after_first count set it =
-      after_members takes_variant (after_members takes_field set (take count (fields_of it))) (take count (variants_of it))
+      after_members takes_variant (after_members takes_field set (take count (body_fields it))) (take count (variants_of it))
 
   abbrev pub body_faults : S → «Data» → List Fault
   body_faults set it =
-      members_faults takes_field set (fields_of it) ++ members_faults takes_variant (after_members takes_field set (fields_of it)) (variants_of it)
+      members_faults takes_field set (body_fields it) ++ members_faults takes_variant (after_members takes_field set (body_fields it)) (variants_of it)
 
   -- what a body means: the faults of its members and of what they leave, else what they leave
   abbrev pub read_body : (S → List Fault) → S → «Data» → Outcome S
