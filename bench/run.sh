@@ -1,6 +1,6 @@
 #!/bin/sh
 # Measures the lexer or the parsers on long texts: `bench/run.sh lex` or `bench/run.sh parse`, whole runs of the tool on
-# many items: `bench/run.sh run`, or this side beside proc_macro2, syn and the derive of darling: `bench/run.sh beside`. Words behind it choose the workloads.
+# many items: `bench/run.sh run`, inputs of two sizes at once: `bench/run.sh growth`, or this side beside proc_macro2, syn and the derive of darling: `bench/run.sh beside`. Words behind it choose the workloads.
 # `lex`: the processor seconds of a whole run for 1, 4 and 16 MB of each workload, and the peak memory. `parse`: the
 # processor seconds that a MB takes, to lex the text and to parse its tokens (a run that parses less a run that
 # lexes), the peak memory at 16 MB, and what the parser answers there.
@@ -165,11 +165,63 @@ runs() {
     done
 }
 
+# The input of a workload in which so many things stand before as many others.
+growing() {
+    case "$1" in
+    unknown)
+        echo '#[derive(FromMeta)] struct Inner { inner: Option<u8> }'
+        echo '#[derive(FromDeriveInput)] #[darling(attributes(my))] struct Outer {'
+        seq -f 'f%.0f: Option<u8>,' "$2"
+        printf '#[darling(flatten)] rest: Inner }\n%%%%\n#[my('
+        seq -f 'u%.0f,' "$2"
+        echo ')] struct S;'
+        ;;
+    lists)
+        echo '#[derive(FromDeriveInput)] #[darling(attributes(my))] struct Outer {'
+        seq -f 'f%.0f: Option<u8>,' "$2"
+        printf '}\n%%%%\n'
+        seq -f '#[my(u%.0f)]' "$2"
+        echo 'struct S;'
+        ;;
+    declarations)
+        seq -f '#[derive(FromMeta)] struct D%.0f { a: u8, b: String, c: bool, d: Option<char>, e: Vec<String> }' "$2"
+        echo '#[derive(FromDeriveInput)] #[darling(attributes(my))] struct Outer { a: u8 }'
+        printf '%%%%\n#[my(a = 1)] struct S;\n'
+        ;;
+    defaults)
+        echo '#[derive(FromMeta)] struct D0 { a: u8 }'
+        seq "$2" | awk '{ printf "#[derive(FromMeta)] struct D%d { #[darling(default)] a: D%d }\n", $1, $1 - 1 }'
+        echo '#[derive(FromDeriveInput)] #[darling(attributes(my))] struct Outer { a: u8 }'
+        printf '%%%%\n#[my(a = 1)] struct S;\n'
+        ;;
+    esac
+}
+
+# Twice as many of both: processor seconds, growth and peak memory.
+growth() {
+    printf '| %-12s | %6s | %8s | %8s | %6s | %8s |\n' workload things seconds twice growth memory
+    printf '|---|---|---|---|---|---|\n'
+    for workload in ${*:-unknown lists declarations defaults}; do
+        for count in 5000 10000; do
+            growing "$workload" "$count" >"$kept/input"
+            /usr/bin/time -o "$kept/time" -f '%U %S %M' "$tool" run <"$kept/input" >"$kept/said" || true
+            tail -n 1 "$kept/time" >"$kept/time.$count"
+        done
+        awk -v workload="$workload" '
+            NR == 1 { first = $1 + $2 }
+            NR == 2 {
+                printf "| %-12s | %6d | %6.2f s | %6.2f s | %6.1f | %5.0f MB |\n", workload, 5000, first, $1 + $2,
+                    first > 0 ? ($1 + $2) / first : 0, $3 / 1024
+            }' "$kept/time.5000" "$kept/time.10000"
+    done
+}
+
 stage="${1:-}"
 case "$stage" in
 lex) shift && lexer "$@" ;;
 parse) shift && parsers "$@" ;;
 beside) shift && beside "$@" ;;
 run) shift && runs "$@" ;;
-*) echo "bench/run.sh lex|parse|run|beside [WORKLOAD..]" >&2 && exit 2 ;;
+growth) shift && growth "$@" ;;
+*) echo "bench/run.sh lex|parse|run|growth|beside [WORKLOAD..]" >&2 && exit 2 ;;
 esac
