@@ -9,6 +9,7 @@ pub use Rattle.machine_forms.specs.Asks
 pub use Rattle.machine_forms.specs.Convert
 pub use Rattle.machine_forms.specs.Forms
 pub use Rattle.machine_forms.specs.Machine
+pub use Rattle.machine_forms.specs.Receivers
 pub use Rattle.machine_forms.specs.MachineStepsNames as Names
 pub use Rattle.machine_forms.specs.Names as MachineFormsNames
 pub use Rattle.machine_forms.specs.Places

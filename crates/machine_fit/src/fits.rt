@@ -9,7 +9,7 @@ ghost use Rattle.machine_forms.specs.Units.{is_item as item_at};
 
 use crate::checker::Checker;
 use base_core::Mem;
-use machine_forms::{Host, named_type};
+use machine_forms::Host;
 use machine_rows::{Leaf, Row, element_among, row_among};
 use node_expr::Type;
 
@@ -85,37 +85,34 @@ impl<H: Host> Checker<'_, H> {
         ensures { IfOk result (λ has. has ≡ spec.has_default (H.says self.now.host.now) self.now.program.now ty.now) }
     {
         let row = self.row(ty)?;
-        self.row_has_default(&row)
+        Ok(self.row_has_default(&row))
     }
 
-    fn row_has_default(&self, row: &Row) -> Mem<bool>
-        ensures { IfOk result (λ has. has ≡ spec.row_has_default (H.says self.now.host.now) self.now.program.now row.now) }
+    fn row_has_default(&self, row: &Row) -> bool
+        ensures { result ≡ spec.row_has_default (H.says self.now.host.now) self.now.program.now row.now }
     {
         match row {
-            Row::Unit => Ok(true),
-            Row::Leaf(leaf) => Ok(leaf_has_default(*leaf)),
-            Row::Option(_) => Ok(true),
+            Row::Unit => true,
+            Row::Leaf(leaf) => leaf_has_default(*leaf),
+            Row::Option(_) => true,
             Row::Box(inner) => self.row_has_default(inner.get()),
-            Row::Result(_) | Row::ResultMeta(_) | Row::WithOriginal(_) => Ok(false),
-            Row::Override(_) => Ok(true),
+            Row::Result(_) | Row::ResultMeta(_) | Row::WithOriginal(_) => false,
+            Row::Override(_) => true,
             Row::SpannedValue(inner) => self.row_has_default(inner.get()),
-            Row::HashMap(_, _) | Row::BTreeMap(_, _) => Ok(true),
-            Row::Vec(_) => Ok(true),
+            Row::HashMap(_, _) | Row::BTreeMap(_, _) => true,
+            Row::Vec(_) => true,
             Row::Declared(number) => self.declared_has_default(*number),
-            Row::Host(ty) => Ok(self.host_has_default(ty)),
+            Row::Host(ty) => self.host_has_default(ty),
         }
     }
 
     /// Whether the declaration of the number has a default.
-    fn declared_has_default(&self, number: usize) -> Mem<bool>
-        ensures { IfOk result (λ has. has ≡ is_some (convert.declared_default (setting_of (H.says self.now.host.now) self.now.program.now) number)) }
+    fn declared_has_default(&self, number: usize) -> bool
+        ensures { result ≡ is_some (convert.declared_default (setting_of (H.says self.now.host.now) self.now.program.now) number) }
     {
-        match self.program.decls.get(number) {
-            Some(decl) => {
-                let ty = named_type(self.alloc, decl.ident.text.as_str())?;
-                Ok(self.host_has_default(&ty))
-            }
-            None => Ok(false),
+        match self.defaults.get(number) {
+            Some(flag) => *flag,
+            None => false,
         }
     }
 

@@ -29,11 +29,13 @@ pub fn refusals<H: Host>(alloc: Global, program: &Program, host: &H) -> Mem<Refu
 {
     let groups = groups_of(alloc, program)?;
     let items = item_flags(alloc, program, groups.as_slice())?;
+    let defaults = host.defaulted(alloc, &program.decls)?;
     let checker = Checker {
         alloc,
         program,
         host,
         items,
+        defaults,
     };
     let duplicate_names = duplicate_names(alloc, program, groups.as_slice())?;
     let unsupported = unsupported_forms(alloc, program, groups.as_slice())?;

@@ -10,6 +10,7 @@ use Rattle.law_spans_items.specs.Erased.{erased_derive_input}
 use Rattle.machine_value.specs.declared.value.Value.{Value}
 use Rattle.machine_host.specs.declared.place.Place.{Place}
 use Rattle.machine_host.specs.declared.said.Said.{Said}
+use Rattle.machine_host.specs.Made.{named_type}
 use Rattle.machine_host.specs.Seen.{SeenArg, SeenItem}
 
 -- what a host answers to each call, by the declarations, the callable, the place or the type
@@ -34,3 +35,7 @@ erased_call call = option_map (λ it. record { call = erased_expr it.now.call })
 -- what is asked for, where the type is without its places in the text
 abbrev pub erased_place : Place → Place
 erased_place place = record { at = place.at; ty = erased_type place.ty }
+
+-- which of the declarations have a default, each as the type of its name
+abbrev pub defaulted : HostSays → List DeriveInput → List Bool
+defaulted host decls = map (λ decl. host.has_default (erased_decls decls) (erased_type (named_type decl.ident.text))) decls

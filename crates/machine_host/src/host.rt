@@ -3,13 +3,14 @@
 ghost use Rattle.std.specs.Prelude.{◌≡◌, IfOk};
 ghost use Rattle.std.specs.Option.{option_copied};
 ghost use Rattle.law_spans.specs.Erased.{erased_path, erased_type};
-ghost use Rattle.machine_host.specs.HostSays.{erased_call, erased_decls, erased_place};
+ghost use Rattle.machine_host.specs.HostSays.{defaulted as defaulted_by, erased_call, erased_decls, erased_place};
 ghost use Rattle.machine_host.specs.Seen.{seen_arg, seen_item};
 
 use crate::arg::{Arg, HostItem};
+use crate::made::named_type;
 use crate::place::Place;
 use crate::said::Said;
-use base_core::Mem;
+use base_core::{Items, Mem};
 use codegen_program::Decls;
 use machine_value::Value;
 use node_expr::{Path, Type};
@@ -54,6 +55,22 @@ pub trait Host {
     /// Whether the type, which is the host's or a declaration, has a default.
     fn has_default(&self, decls: &Decls, ty: &Type) -> bool
         ensures { result ≡ (says self.now).has_default (erased_decls decls.now) (erased_type ty.now) };
+
+    /// Which of the declarations have a default, by their numbers. It is asked once, before a program is run: a host that can
+    /// tell it of all of them in less time than of one after another writes this itself.
+    fn defaulted(&self, alloc: Global, decls: &Decls) -> Mem<Items<bool>>
+        ensures { IfOk result (λ flags. flags ≡ defaulted_by (says self.now) decls.now) }
+    {
+        let mut flags = Items::new(alloc);
+        for decl in decls.as_slice() {
+            let flag = {
+                let ty = named_type(alloc, decl.ident.text.as_str())?;
+                self.has_default(decls, &ty)
+            };
+            flags.push(flag)?;
+        }
+        Ok(flags)
+    }
 
     /// The default of the type.
     fn default_of(&self, alloc: Global, decls: &Decls, ty: &Type) -> Mem<Value>

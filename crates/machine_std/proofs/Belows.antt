@@ -11,7 +11,7 @@ module _ (decls : List DeriveInput) where
   abbrev pub made_at : ℕ → Option Value
   made_at number = decl_default (type_default decls (default_below decls number)) (slice_get decls number)
 
-  at_bound : (bound number : ℕ) (b : Bool) → nat_eq number bound ≡ b → default_below decls (suc bound) number ≡ (if b then made_at bound else default_below decls bound number)
+  pub at_bound : (bound number : ℕ) (b : Bool) → nat_eq number bound ≡ b → default_below decls (suc bound) number ≡ (if b then made_at bound else default_below decls bound number)
   unfolding default_below
   at_bound bound number b e = ap (λ b. if b then made_at bound else default_below decls bound number) e
 

@@ -9,3 +9,4 @@ pub mod Members
 pub mod Rests
 pub mod Offers
 pub mod Erased
+pub mod FlagLemmas

@@ -1,6 +1,7 @@
 pub mod Texts
 pub mod Functions
 pub mod Defaults
+pub mod Defaulted
 pub mod Marks
 pub mod Rests
 pub mod StdSays

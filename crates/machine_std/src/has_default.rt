@@ -208,7 +208,7 @@ fn number_rests(decls: &Decls, base: usize, below: usize, words: &mut [u32], num
 
 /// What the default of a type rests on, where the type is looked into as deep as the level.
 #[cycle(rest_of)]
-fn rest_of(decls: &Decls, level: usize, ty: &Type) -> Rest
+pub(crate) fn rest_of(decls: &Decls, level: usize, ty: &Type) -> Rest
     ensures { (declared : ℕ → Option Value) → is_some (row_default declared none_of_host (row_at (decl_names decls.now) level ty.now)) ≡ rests declared result }
 {
     if level == 0 {

@@ -5,6 +5,7 @@
 #![tactic(auto)]
 
 mod asked;
+mod defaulted;
 mod function;
 mod has_default;
 mod make_default;

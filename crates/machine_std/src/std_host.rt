@@ -6,11 +6,12 @@ ghost use Rattle.machine_host.specs.Decls.{decl_names};
 ghost use Rattle.machine_rows.specs.Heads as spec;
 ghost use Rattle.machine_std.specs.Defaults.{declared_in, default_among};
 
+use crate::defaulted::defaulted;
 use crate::function::{function_for, is_transform, unasked};
 use crate::has_default::has_default;
 use crate::make_default::{ROOM, declaration_default};
 use crate::tag::{is_tag, read_tag};
-use base_core::Mem;
+use base_core::{Items, Mem};
 use codegen_program::Decls;
 use machine_host::{Arg, Callable, Host, HostItem, Place, Said, named_type};
 use machine_rows::{Head, head_of};
@@ -77,6 +78,10 @@ impl Host for StdHost {
         }
     }
 
+    fn defaulted(&self, alloc: Global, decls: &Decls) -> Mem<Items<bool>> {
+        defaulted(alloc, decls)
+    }
+
     fn default_of(&self, alloc: Global, decls: &Decls, ty: &Type) -> Mem<Value> {
         match declared(decls, ty) {
             Some(number) => default_of(alloc, decls, number),
@@ -94,7 +99,7 @@ impl Host for StdHost {
 }
 
 /// The number of the declaration that the type is.
-fn declared(decls: &Decls, ty: &Type) -> Option<usize>
+pub(crate) fn declared(decls: &Decls, ty: &Type) -> Option<usize>
     ensures { result ≡ declared_in (spec.head_of (decl_names decls.now) ty.now) }
 {
     match head_of(decls, ty) {

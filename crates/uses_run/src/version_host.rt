@@ -5,8 +5,8 @@ ghost use Rattle.machine_core.specs.host.HostSays.{erased_call, erased_decls, er
 ghost use Rattle.uses_run.specs.VersionHost as spec;
 
 use machine_core::{
-    Arg, Callable, Decls, Host, HostItem, Leaf, Mem, Path, Place, Said, StdHost, Text, TryClone,
-    Type, Use, Value, is_function, leaf_of,
+    Arg, Callable, Decls, Host, HostItem, Items, Leaf, Mem, Path, Place, Said, StdHost, Text,
+    TryClone, Type, Use, Value, is_function, leaf_of,
 };
 use std::alloc::Global;
 
@@ -84,6 +84,10 @@ impl Host for VersionHost {
 
     fn has_default(&self, decls: &Decls, ty: &Type) -> bool {
         self.standard.has_default(decls, ty)
+    }
+
+    fn defaulted(&self, alloc: Global, decls: &Decls) -> Mem<Items<bool>> {
+        self.standard.defaulted(alloc, decls)
     }
 
     fn default_of(&self, alloc: Global, decls: &Decls, ty: &Type) -> Mem<Value> {
