@@ -1,10 +1,9 @@
 -- What is read at a type fits it.
-use Rattle.std.proofs.Common.{◌≡◌, ◌∙◌, refl, sym, ap, subst, ℕ, zero, suc, ◌<◌, Bool, true, false, ◌&&◌, nat_lt, List, Option, Some, None, All, IsTrue, ltb-true, true≢false}
+use Rattle.std.proofs.Common.{◌≡◌, ◌∙◌, refl, sym, ap, subst, ℕ, zero, suc, ◌<◌, Bool, true, false, ◌&&◌, nat_lt, List, Some, None, IsTrue, ltb-true, true≢false}
 use Rattle.tok_types.specs.declared.ident.Ident.{Ident}
 use Rattle.node_expr.specs.declared.ty.«Type».{«Type» as Type'}
 use Rattle.codegen_program.specs.declared.program.Program.{Program}
 use Rattle.law_cells.specs.Cells.{Cells}
-use Rattle.meaning_core.specs.NestedMeta.{NestedMeta}
 use Rattle.machine_rows.specs.Heads.{head_of}
 use Rattle.machine_rows.specs.Rows.{around, row_at, row_by, row_of}
 use Rattle.machine_rows.specs.declared.head.Head.{Head}
@@ -27,11 +26,10 @@ use Rattle.law_cells.specs.Seen.{BadItem, ListItem, MetaItem}
 use Rattle.law_cells.specs.Said.{Said}
 use Rattle.law_cells.specs.Said.TheVariants as said
 use Rattle.law_cells.proofs.Fitting.{fits_layer}
-use Rattle.machine_fit.specs.Convert.{Earlier, cells, declared_cells, host_cells}
+use Rattle.machine_fit.specs.Convert.{Earlier, cells, host_cells}
 use Rattle.machine_fit.specs.Machine.{setting_of}
 use Rattle.machine_fit.specs.Setting.{outcome_of}
 use Rattle.machine_fit.specs.Fits.{layer_fits, row_fits, type_fits}
-use Rattle.law_cells.specs.Listed.{IsListed}
 use Rattle.law_cells.specs.Reads.{OnValue, Reads}
 use Rattle.law_cells.proofs.Plain.{reads_plain}
 use Rattle.law_cells.proofs.Leaves.{leaves_read}
@@ -59,10 +57,10 @@ module _ (host : HostSays) (program : Program) (here : ℕ) (earlier : Earlier) 
   IsBefore = FitsBelow program.decls here
 
   abbrev read_layer : Row-F (Cells Datum) → Cells Datum
-  read_layer = layer_cells (declared_cells earlier) (host_cells (setting_of host program))
+  read_layer = layer_cells earlier (host_cells (setting_of host program))
 
   abbrev read : Row → Cells Datum
-  read = row_cells (declared_cells earlier) (host_cells (setting_of host program))
+  read = row_cells earlier (host_cells (setting_of host program))
 
   abbrev may_layer : Row-F Bool → Bool
   may_layer = layer_fits host program here false
@@ -88,14 +86,10 @@ module _ (host : HostSays) (program : Program) (here : ℕ) (earlier : Earlier) 
 
   -- ---- a declaration, and a type of the host
 
-  declared_says : (number : ℕ) → number < here → (items : List NestedMeta) → All IsListed items → OnValue (IsBefore number) (earlier number items)
-  declared_says number lt items listed =
-      let P : Form → Type 0 = λ Fits. OnValue Fits (earlier number items) in
-      subst P (sym (below_is_among program.decls here number lt)) (below number items lt listed)
-
-  declared_reads : (number : ℕ) → number < here → Reads (IsBefore number) (declared_cells earlier number)
+  declared_reads : (number : ℕ) → number < here → Reads (IsBefore number) (earlier number)
   declared_reads number lt =
-      reads_plain (IsBefore number) None (λ items. Some (earlier number items)) (λ it. None) (λ it. None) None tt (declared_says number lt) (λ it listed. tt) (λ it listed. tt) tt
+      let P : Form → Type 0 = λ Fits. Reads Fits (earlier number) in
+      subst P (sym (below_is_among program.decls here number lt)) (below number lt)
 
   abbrev IsOf : Type' → Form
   IsOf type = IsHostOf (type_name type)

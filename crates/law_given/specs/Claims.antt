@@ -10,7 +10,7 @@ use Rattle.run_accepted.specs.Accepted.{IsAccepted}
 use Rattle.run_accepted.specs.Compiled.{IsProgram}
 use Rattle.run_accepted.specs.Pairs.{pairs_from, rejected}
 use Rattle.run_accepted.specs.Unbuilt.{IsBuilt}
-use Rattle.machine_execute.specs.Elements.{HasOutcome, On}
+use Rattle.machine_execute.specs.Elements.{Element, HasOutcome}
 use Rattle.law_machine.specs.Kinds.{IsOfKind}
 use Rattle.law_machine.specs.Left.{IsLeftUnit}
 use Rattle.run_source.specs.Receiver.{CanRun}
@@ -20,7 +20,7 @@ use Rattle.law_given.specs.Owned.{IsOfDeclaration}
 -- a unit of such a program has an outcome on each element of its kind, under any host
 abbrev pub GivenHasOutcome : Type 0
 GivenHasOutcome =
-    (host : HostSays) (program : Program) (number : ℕ) (unit : Unit') (element : On) → IsGiven program
+    (host : HostSays) (program : Program) (number : ℕ) (unit : Unit') (element : Element) → IsGiven program
     → slice_get program.units number ≡ Some unit → IsOfKind unit.derive element → HasOutcome host program number element
 
 -- where nothing stands against running it with a host, it has a receiver, and this has an outcome on any item

@@ -9,7 +9,7 @@ use Rattle.error_fault.specs.declared.fault.Fault.{Fault}
 use Rattle.error_fault.specs.Outcome.{Outcome, Value, Faults, bind, on_value, value_of}
 use Rattle.machine_value.specs.declared.value.Value.{Value as Datum}
 use Rattle.machine_value.specs.declared.value.Value.TheVariants as value
-use Rattle.machine_value.specs.Members.{no_value, struct_of, labelled}
+use Rattle.machine_value.specs.Members.{no_value, labelled}
 use Rattle.codegen_program.specs.declared.arm.PostfixTransform.{PostfixTransform}
 use Rattle.codegen_program.specs.declared.init.DefaultSource.{DefaultSource}
 use Rattle.codegen_program.specs.declared.init.DefaultSource.TheVariants as sources
@@ -34,14 +34,21 @@ use Rattle.meaning_core.specs.FieldValue.{absent_value, empty_value, fallback_ou
 use Rattle.meaning_core.specs.Meaning.{default_outcome, in_order, joined, whole_default}
 use Rattle.machine_execute.specs.State.{Slot, One, Several, State, slot_at}
 use Rattle.meaning_core.proofs.Clean.{Clean, IsValue, nil_left, nil_right, not_nil, value_if_none}
-use Rattle.machine_execute.specs.Progress.{Given, Progress, Going, Built, Ended, built_or_stuck, on_outcome, outcome}
+use Rattle.machine_execute.specs.Asked.{Asked}
+use Rattle.machine_execute.specs.Building.{built, built_style}
+use Rattle.machine_execute.specs.Reads.{Before, metas}
+use Rattle.machine_execute.specs.Receivers.{Receiver}
+use Rattle.machine_execute.specs.Progress.{Aside, Progress, Going, Built, Ended, built_or_stuck, on_outcome, outcome}
 use Rattle.machine_execute.specs.Slots.{absent, fallback_value, in_front, init_value, init_values}
-use Rattle.machine_execute.specs.Statements.{built_struct}
+use Rattle.machine_execute.proofs.Building.{plain_built}
 use Rattle.machine_execute.proofs.Statements as statement
 use Rattle.law_machine.specs.Compiles.{IsField, IsDecl, meant_default, meant_fallback}
 use Rattle.law_machine.proofs.Passes.{at_here, flat_added, full_by, full_slot, go, missing_added, missing_full, missing_is, one_more}
 
-module _ (setting : Setting) (earlier : Earlier) (type : Type') (given : Given) (body : BodyDecl) (all kept : List NestedMeta) where
+module _ (setting : Setting) (before : Before) (receiver : Receiver) (asked : Asked) (aside : Aside) (body : BodyDecl) (all kept : List NestedMeta) where
+  abbrev earlier : Earlier
+  earlier = metas before
+
   -- ---- the value of one member
 
   abbrev empty_meant : Type' → Datum → Option Fallback → Outcome Datum
@@ -86,8 +93,8 @@ module _ (setting : Setting) (earlier : Earlier) (type : Type') (given : Given) 
   none_is f whole None e = absurd (not_nil _ [] e)
 
   init_is : (f : FieldDecl) (s : Shape) (x : Option Fallback) (whole : Datum) (own_items : List NestedMeta) → fallback body f ≡ x → Clean setting earlier f own_items
-      → flat_faults setting earlier body f s all ≡ [] → missing_full setting earlier type given body all kept f s x own_items ≡ []
-      → init_meant whole x (full_by setting earlier type given body all kept f s x own_items) ≡ Some (field_value setting earlier body whole all f s own_items)
+      → flat_faults setting earlier body f s all ≡ [] → missing_full setting before receiver asked aside body all kept f s x own_items ≡ []
+      → init_meant whole x (full_by setting before receiver asked aside body all kept f s x own_items) ≡ Some (field_value setting earlier body whole all f s own_items)
   init_is f Flat x whole own_items e c a m = value_by_read whole x f.type (flat_outcome setting earlier body f all) (value_if_none (flat_outcome setting earlier body f all) a)
   init_is f Many x whole [] e c a m = ap (λ o. let r : Option (Outcome Datum) = Some o in r) (empty_is f whole x ∙ ap (empty_value setting earlier body f whole) (sym e))
   init_is f Many x whole (i ∷ more) e c a m = values_by_read whole x f.type (read setting earlier f i) (values setting earlier f more) c
@@ -99,13 +106,13 @@ module _ (setting : Setting) (earlier : Earlier) (type : Type') (given : Given) 
   -- ---- all members
 
   abbrev full : FieldDecl → List NestedMeta → Slot
-  full f own_items = full_slot setting earlier type given body all kept f own_items
+  full f own_items = full_slot setting before receiver asked aside body all kept f own_items
 
   abbrev added_flat : FieldDecl → List NestedMeta → List Fault
-  added_flat f own_items = flat_added setting earlier type given body all kept f own_items
+  added_flat f own_items = flat_added setting before receiver asked aside body all kept f own_items
 
   abbrev added_missing : FieldDecl → List NestedMeta → List Fault
-  added_missing f own_items = missing_added setting earlier type given body all kept f own_items
+  added_missing f own_items = missing_added setting before receiver asked aside body all kept f own_items
 
   -- no fault of the field was collected
   abbrev IsGood : FieldDecl → List NestedMeta → Type 0
@@ -146,7 +153,7 @@ module _ (setting : Setting) (earlier : Earlier) (type : Type') (given : Given) 
       ap (init_value setting whole (fallback_of left)) (at_here done (each full fs later) x)
       ∙ meant_is whole (fallback_of left) x
       ∙ ap (λ y. init_meant whole y x) zip.0.fallback
-      ∙ init_is f f.shape (fallback body f) whole (own_items zero) refl good.0.0 good.0.1 (missing_is setting earlier type given body all kept f f.shape (own_items zero) ∙ good.0.2) in
+      ∙ init_is f f.shape (fallback body f) whole (own_items zero) refl good.0.0 good.0.1 (missing_is setting before receiver asked aside body all kept f f.shape (own_items zero) ∙ good.0.2) in
       let more : init_values setting whole (done ++ x ∷ each full fs later) (at_slots one_init (length done + 1) lefts) ≡ Some (in_order (each (value_here whole) fs later)) =
       ap₂ (λ xs k. init_values setting whole xs (at_slots one_init k lefts)) (sym (append_assoc done (x ∷ []) (each full fs later))) (one_more done x)
       ∙ values_are whole lefts fs later (done ++ x ∷ []) zip.1 good.1 in
@@ -166,80 +173,84 @@ module _ (setting : Setting) (earlier : Earlier) (type : Type') (given : Given) 
 
 -- ---- the statements behind the errors
 
-module _ (setting : Setting) (earlier : Earlier) (type : Type') (given : Given) (decl : Decl) (all kept : List NestedMeta) where
+module _ (setting : Setting) (before : Before) (receiver : Receiver) (asked : Asked) (aside : Aside) (decl : Decl) (all kept : List NestedMeta) where
+  abbrev earlier_metas : Earlier
+  earlier_metas = metas before
+
   abbrev own_items : ℕ → List NestedMeta
   own_items = own decl.body.fields all
 
   abbrev state : Datum → List Fault → State
-  state whole faults = full_state setting earlier type given decl.body all kept whole faults
+  state whole faults = full_state setting before receiver asked aside decl.body all kept whole faults
 
   abbrev Good : Type 0
-  Good = AreGood setting earlier type given decl.body all kept decl.body.fields own_items
+  Good = AreGood setting before receiver asked aside decl.body all kept decl.body.fields own_items
 
   abbrev values_made : Datum → Outcome (List Datum)
-  values_made whole = in_order (each (λ f those. field_value setting earlier decl.body whole all f f.shape those) decl.body.fields own_items)
+  values_made whole = in_order (each (λ f those. field_value setting earlier_metas decl.body whole all f f.shape those) decl.body.fields own_items)
 
   abbrev pub made : Datum → Outcome Datum
-  made whole = on_value (λ vs. struct_of decl.name (labelled (map (λ f. f.member) decl.body.fields) vs)) (values_made whole)
+  made whole = on_value (λ vs. value.Struct decl.name (built_style receiver asked) (labelled (map (λ f. f.member) decl.body.fields) vs)) (values_made whole)
 
   abbrev run_on : List Stmt → Progress → Progress
-  run_on stmts progress = go setting earlier type given decl.body stmts progress
+  run_on stmts progress = go setting before receiver asked aside decl.body stmts progress
 
-  transform_is : (p : Option PostfixTransform) (o : Outcome Datum) → run_on (transform p) (Built o) ≡ Built (transformed setting earlier p type o)
+  transform_is : (p : Option PostfixTransform) (o : Outcome Datum) → run_on (transform p) (Built o) ≡ Built (transformed setting earlier_metas p receiver.type o)
   transform_is None o = refl
-  transform_is (Some p) o = statement.transform setting earlier type p given (Built o)
+  transform_is (Some p) o = statement.transform setting before receiver p asked (Built o)
 
   ended_transform : (p : Option PostfixTransform) (f : Fault) (fs : List Fault) → run_on (transform p) (Ended f fs) ≡ Ended f fs
   ended_transform None f fs = refl
-  ended_transform (Some p) f fs = statement.transform setting earlier type p given (Ended f fs)
+  ended_transform (Some p) f fs = statement.transform setting before receiver p asked (Ended f fs)
 
   module _ (left : TraitImpl) (is : IsDecl left decl) where
     abbrev pub last : List Stmt
     last = build left ∷ transform (option_copied left.post_transform)
 
-    build_is : (whole : Datum) (faults : List Fault) → Good → run_on (build left ∷ []) (Going (state whole faults)) ≡ Built (made whole)
+    build_is : (whole : Datum) (faults : List Fault) → Good → run_on (build left ∷ []) (Going (state whole faults) aside) ≡ Built (made whole)
     build_is whole faults good =
         let o = values_made whole in
-        statement.build setting earlier type left.ident.now None [] (inits (fields_of left)) given (Going (state whole faults))
-        ∙ ap (λ b. built_or_stuck (option_map (built_struct left.ident.now (inits (fields_of left))) b)) (values_are setting earlier type given decl.body all kept whole (fields_of left) decl.body.fields own_items [] is.fields good)
-        ∙ ap₂ (λ n ms. Built (on_value (λ vs. struct_of n (labelled ms vs)) o)) is.name (members_are setting earlier type given decl.body all kept (fields_of left) decl.body.fields zero is.fields)
+        statement.build setting before receiver left.ident.now None [] (inits (fields_of left)) asked (Going (state whole faults) aside)
+        ∙ ap (λ b. built_or_stuck (option_map (built receiver asked aside left.ident.now None [] (inits (fields_of left)) setting) b)) (values_are setting before receiver asked aside decl.body all kept whole (fields_of left) decl.body.fields own_items [] is.fields good)
+        ∙ ap Built (plain_built setting receiver asked aside left.ident.now (inits (fields_of left)) o)
+        ∙ ap₂ (λ n ms. Built (on_value (λ vs. value.Struct n (built_style receiver asked) (labelled ms vs)) o)) is.name (members_are setting before receiver asked aside decl.body all kept (fields_of left) decl.body.fields zero is.fields)
 
-    last_is : (whole : Datum) (faults : List Fault) → Good → run_on last (Going (state whole faults)) ≡ Built (transformed setting earlier decl.transform type (made whole))
+    last_is : (whole : Datum) (faults : List Fault) → Good → run_on last (Going (state whole faults) aside) ≡ Built (transformed setting earlier_metas decl.transform receiver.type (made whole))
     last_is whole faults good =
         ap (run_on (transform (option_copied left.post_transform))) (build_is whole faults good)
         ∙ transform_is (option_copied left.post_transform) (made whole)
-        ∙ ap (λ p. Built (transformed setting earlier p type (made whole))) is.transform
+        ∙ ap (λ p. Built (transformed setting earlier_metas p receiver.type (made whole))) is.transform
 
     ended_last : (f : Fault) (fs : List Fault) → run_on last (Ended f fs) ≡ Ended f fs
     ended_last f fs =
-        ap (run_on (transform (option_copied left.post_transform))) (statement.build setting earlier type left.ident.now None [] (inits (fields_of left)) given (Ended f fs))
+        ap (run_on (transform (option_copied left.post_transform))) (statement.build setting before receiver left.ident.now None [] (inits (fields_of left)) asked (Ended f fs))
         ∙ ended_transform (option_copied left.post_transform) f fs
 
-    passed_by : (p : Option PostfixTransform) (f : Fault) (fs : List Fault) → Some (Faults f fs) ≡ Some (transformed setting earlier p type (Faults f fs))
+    passed_by : (p : Option PostfixTransform) (f : Fault) (fs : List Fault) → Some (Faults f fs) ≡ Some (transformed setting earlier_metas p receiver.type (Faults f fs))
     passed_by None f fs = refl
     passed_by (Some p) f fs = refl
 
     -- the default of the receiver first, whose faults end all
     behind_whole : (o : Outcome Datum) (faults : List Fault) → Good
-        → outcome (run_on last (on_outcome o (λ whole. Going (state whole faults)))) ≡ Some (transformed setting earlier decl.transform type (bind o made))
+        → outcome (run_on last (on_outcome o (λ whole. Going (state whole faults) aside))) ≡ Some (transformed setting earlier_metas decl.transform receiver.type (bind o made))
     behind_whole (Value whole) faults good = ap outcome (last_is whole faults good)
     behind_whole (Faults f fs) faults good = ap outcome (ended_last f fs) ∙ passed_by decl.transform f fs
 
     pub behind_default : (x : Option DefaultExpression) (d : Option Default) (faults : List Fault) → option_and_then meant_default (option_and_then source x) ≡ d → Good
-        → outcome (run_on (set_default (option_and_then source x) ++ last) (Going (state no_value faults))) ≡ Some (transformed setting earlier decl.transform type (bind (whole_default setting type d) made))
+        → outcome (run_on (set_default (option_and_then source x) ++ last) (Going (state no_value faults) aside)) ≡ Some (transformed setting earlier_metas decl.transform receiver.type (bind (whole_default setting receiver.type d) made))
     behind_default None d faults e good =
-        behind_whole (Value no_value) faults good ∙ ap (λ d. let r : Option (Outcome Datum) = Some (transformed setting earlier decl.transform type (bind (whole_default setting type d) made)) in r) e
+        behind_whole (Value no_value) faults good ∙ ap (λ d. let r : Option (Outcome Datum) = Some (transformed setting earlier_metas decl.transform receiver.type (bind (whole_default setting receiver.type d) made)) in r) e
     behind_default (Some (defaults.Inherit ident)) d faults e good =
-        behind_whole (Value no_value) faults good ∙ ap (λ d. let r : Option (Outcome Datum) = Some (transformed setting earlier decl.transform type (bind (whole_default setting type d) made)) in r) e
+        behind_whole (Value no_value) faults good ∙ ap (λ d. let r : Option (Outcome Datum) = Some (transformed setting earlier_metas decl.transform receiver.type (bind (whole_default setting receiver.type d) made)) in r) e
     behind_default (Some (defaults.Explicit call)) d faults e good =
-        ap (λ p. outcome (run_on last p)) (statement.set_default setting earlier type (sources.Explicit call.now) given (Going (state no_value faults)))
-        ∙ behind_whole (default_outcome setting type (ByCall call.now)) faults good
-        ∙ ap (λ d. let r : Option (Outcome Datum) = Some (transformed setting earlier decl.transform type (bind (whole_default setting type d) made)) in r) e
+        ap (λ p. outcome (run_on last p)) (statement.set_default setting before receiver (sources.Explicit call.now) asked (Going (state no_value faults) aside))
+        ∙ behind_whole (default_outcome setting receiver.type (ByCall call.now)) faults good
+        ∙ ap (λ d. let r : Option (Outcome Datum) = Some (transformed setting earlier_metas decl.transform receiver.type (bind (whole_default setting receiver.type d) made)) in r) e
     behind_default (Some (defaults.Trait span)) d faults e good =
-        ap (λ p. outcome (run_on last p)) (statement.set_default setting earlier type sources.Trait given (Going (state no_value faults)))
-        ∙ behind_whole (default_outcome setting type ByType) faults good
-        ∙ ap (λ d. let r : Option (Outcome Datum) = Some (transformed setting earlier decl.transform type (bind (whole_default setting type d) made)) in r) e
+        ap (λ p. outcome (run_on last p)) (statement.set_default setting before receiver sources.Trait asked (Going (state no_value faults) aside))
+        ∙ behind_whole (default_outcome setting receiver.type ByType) faults good
+        ∙ ap (λ d. let r : Option (Outcome Datum) = Some (transformed setting earlier_metas decl.transform receiver.type (bind (whole_default setting receiver.type d) made)) in r) e
 
     pub ended_default : (x : Option DefaultSource) (f : Fault) (fs : List Fault) → run_on (set_default x ++ last) (Ended f fs) ≡ Ended f fs
     ended_default None f fs = ended_last f fs
-    ended_default (Some it) f fs = ap (run_on last) (statement.set_default setting earlier type it given (Ended f fs)) ∙ ended_last f fs
+    ended_default (Some it) f fs = ap (run_on last) (statement.set_default setting before receiver it asked (Ended f fs)) ∙ ended_last f fs

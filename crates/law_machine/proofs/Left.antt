@@ -4,20 +4,21 @@ use Rattle.std.specs.List.{AllByRecursion, AllZip}
 use Rattle.base_core.specs.declared.text.Text.{Text}
 use Rattle.node_expr.specs.declared.ty.«Type».{«Type» as Type'}
 use Rattle.node_make.specs.PathText.{path_text}
-use Rattle.codegen_core.specs.Compiled.{fields_of, input_stmts, list_stmts}
+use Rattle.codegen_core.specs.Compiled.{compiled_derive_input, compiled_meta, fields_of}
 use Rattle.codegen_core.specs.Defaults.{fallback as falls}
 use Rattle.codegen_core.specs.declared.default_expression.DefaultExpression.{DefaultExpression}
 use Rattle.codegen_core.specs.declared.default_expression.DefaultExpression.TheVariants as defaults
 use Rattle.codegen_core.specs.declared.field.Field.{Field}
 use Rattle.codegen_core.specs.declared.trait_impl.TraitImpl.{TraitImpl}
 use Rattle.machine_execute.specs.Machine.{is_from_derive_input, is_from_list, run_func, unit_type}
-use Rattle.machine_execute.specs.Progress.{Items, Input, outcome}
-use Rattle.machine_execute.specs.Statements.{run}
+use Rattle.machine_execute.specs.Asked.{Items, OnElement}
+use Rattle.machine_execute.specs.Elements.{OnInput}
+use Rattle.machine_execute.specs.Receivers.{receiver_of}
 use Rattle.meaning_core.specs.Decl.{BodyDecl, Default, OfContainer, fallback_by, is_flat, is_many, skip_fallback}
 use Rattle.law_machine.specs.Claims.{InputsHaveOutcomes, ListsHaveOutcomes}
 use Rattle.law_machine.specs.Compiles.{IsDecl, IsField, meant_fallback}
 use Rattle.law_machine.specs.Left.{IsLeft, IsLeftDefault, IsLeftField, meant_decl, meant_field, own_default, shape_of}
-use Rattle.law_machine.proofs.Units.{input_is_meaning, list_is_meaning}
+use Rattle.law_machine.proofs.Units.{input_outcome, list_outcome}
 
 pub many_is : (many flat : Bool) → (many && flat) ≡ false → many ≡ is_many (shape_of many flat)
 many_is true true is = cc
@@ -69,20 +70,19 @@ decl_is type attributes left is =
     }
 
 pub lists_have_outcomes : ListsHaveOutcomes
-lists_have_outcomes setting earlier unit items (left, compiled, is) =
+lists_have_outcomes setting before unit items (left, compiled, is) =
     let decl = meant_decl (unit_type unit) [] left.base in (
       _,
-      ap (λ u. run_func setting earlier is_from_list u (Items items)) compiled
-          ∙ ap (λ t. outcome (run setting earlier t (list_stmts left.base) (Items items))) (sym (ap unit_type compiled))
-          ∙ list_is_meaning setting earlier left.base decl items (decl_is (unit_type unit) [] left.base is),
+      ap (λ u. run_func setting before is_from_list u (Items items)) compiled
+          ∙ list_outcome setting before (receiver_of setting (compiled_meta left unit.decl)) left.base decl items (decl_is (unit_type unit) [] left.base is),
     )
 
 pub inputs_have_outcomes : InputsHaveOutcomes
-inputs_have_outcomes setting earlier unit input (left, compiled, is, no_ident) =
+inputs_have_outcomes setting before unit input (left, compiled, is, no_ident) =
     let names = map path_text left.attr_names.now.0 in
     let decl = meant_decl (unit_type unit) names left.base in (
       _,
-      ap (λ u. run_func setting earlier is_from_derive_input u (Input input)) compiled
-          ∙ ap (λ t. outcome (run setting earlier t (input_stmts left) (Input input))) (sym (ap unit_type compiled))
-          ∙ input_is_meaning setting earlier left decl input (record { base = decl_is (unit_type unit) names left.base is; attributes = refl; no_ident = no_ident }),
+      ap (λ u. run_func setting before is_from_derive_input u (OnElement (OnInput input))) compiled
+          ∙ input_outcome setting before (receiver_of setting (compiled_derive_input left unit.decl)) left decl input
+          (record { base = decl_is (unit_type unit) names left.base is; attributes = refl; no_ident = no_ident }),
     )

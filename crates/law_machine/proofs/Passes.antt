@@ -22,11 +22,15 @@ use Rattle.meaning_core.specs.Owners.{unclaimed, each}
 use Rattle.meaning_core.specs.EntryFaults.{read}
 use Rattle.meaning_core.specs.FieldValue.{flat_outcome, flat_faults, missing, missing_by}
 use Rattle.meaning_core.specs.Meaning.{joined}
-use Rattle.machine_execute.specs.State.{Slot, One, State, put, slot_at}
+use Rattle.machine_execute.specs.State.{Slot, One, Several, State, put, slot_at}
 use Rattle.meaning_core.specs.Walk.{slot_by, field_slot}
-use Rattle.machine_execute.specs.Progress.{Given, Progress, Going}
+use Rattle.machine_execute.specs.Asked.{Asked}
+use Rattle.machine_execute.specs.Progress.{Aside, Progress, Going}
+use Rattle.machine_execute.specs.Reads.{Before, metas}
+use Rattle.machine_execute.specs.Receivers.{Receiver}
 use Rattle.machine_execute.specs.Slots.{absent, check_missing, read_flat, read_slot}
 use Rattle.machine_execute.specs.Statements.{run_from}
+use Rattle.machine_execute.proofs.Slots.{declared_next}
 use Rattle.machine_execute.proofs.Statements as statement
 use Rattle.law_machine.specs.Compiles.{IsField, meant_fallback}
 
@@ -42,12 +46,15 @@ put_here (z ∷ zs) todo x y = ap (λ xs. z ∷ xs) (put_here zs todo x y)
 pub one_more : (done : List Slot) (x : Slot) → length done + 1 ≡ length (done ++ x ∷ [])
 one_more done x = omega (arith, length-append done (x ∷ []))
 
-module _ (setting : Setting) (earlier : Earlier) (type : Type') (given : Given) (body : BodyDecl) where
+module _ (setting : Setting) (before : Before) (receiver : Receiver) (asked : Asked) (aside : Aside) (body : BodyDecl) where
+  abbrev earlier : Earlier
+  earlier = metas before
+
   abbrev pub go : List Stmt → Progress → Progress
-  go stmts progress = run_from setting earlier type stmts given progress
+  go stmts progress = run_from setting before receiver stmts asked progress
 
   abbrev pub with_slots_kept : List NestedMeta → List Slot → List Fault → Progress
-  with_slots_kept kept slots faults = Going (record { slots = slots; faults = faults; kept = kept; whole = no_value })
+  with_slots_kept kept slots faults = Going (record { slots = slots; faults = faults; kept = kept; whole = no_value }) aside
 
   -- ---- the declarations
 
@@ -55,29 +62,38 @@ module _ (setting : Setting) (earlier : Earlier) (type : Type') (given : Given) 
   declaration_by many flat slot ident ty =
       (if many then stmt.DeclareMany slot ident ty else stmt.DeclareOne slot ident ty) ∷ (if flat then stmt.DeclareBuffer ∷ [] else [])
 
-  declare_by : (s : Shape) (f : FieldDecl) (ident : Ident) (k : ℕ) (xs : List Slot) → go (declaration_by (is_many s) (is_flat s) k ident f.type) (with_slots_kept [] xs []) ≡ with_slots_kept [] (xs ++ slot_by setting earlier f s [] ∷ []) []
-  declare_by Single f ident k xs = statement.declare_one setting earlier type k ident f.type given (with_slots_kept [] xs [])
-  declare_by Many f ident k xs = statement.declare_many setting earlier type k ident f.type given (with_slots_kept [] xs [])
-  declare_by Flat f ident k xs =
-      ap (go (stmt.DeclareBuffer ∷ [])) (statement.declare_one setting earlier type k ident f.type given (with_slots_kept [] xs []))
-      ∙ statement.declare_buffer setting earlier type given (with_slots_kept [] (xs ++ One f.type false None ∷ []) [])
+  declare_one : (f : FieldDecl) (ident : Ident) (xs : List Slot) → go (stmt.DeclareOne (length xs) ident f.type ∷ []) (with_slots_kept [] xs []) ≡ with_slots_kept [] (xs ++ One f.type false None ∷ []) []
+  declare_one f ident xs =
+      statement.declare_one setting before receiver (length xs) ident f.type asked (with_slots_kept [] xs [])
+      ∙ ap (λ ys. with_slots_kept [] ys []) (declared_next xs (One f.type false None))
 
-  declare_field : (left : Field) (f : FieldDecl) (k : ℕ) (xs : List Slot) → IsField body left f → go (declaration k left) (with_slots_kept [] xs []) ≡ with_slots_kept [] (xs ++ field_slot setting earlier f [] ∷ []) []
-  declare_field left f k xs is =
-      ap₂ (λ m b. go (declaration_by m b k left.ident.now left.ty.now) (with_slots_kept [] xs [])) is.many is.flat
-      ∙ ap (λ t. go (declaration_by (is_many f.shape) (is_flat f.shape) k left.ident.now t) (with_slots_kept [] xs [])) is.type
-      ∙ declare_by f.shape f left.ident.now k xs
+  declare_by : (s : Shape) (f : FieldDecl) (ident : Ident) (xs : List Slot) → go (declaration_by (is_many s) (is_flat s) (length xs) ident f.type) (with_slots_kept [] xs []) ≡ with_slots_kept [] (xs ++ slot_by setting earlier f s [] ∷ []) []
+  declare_by Single f ident xs = declare_one f ident xs
+  declare_by Many f ident xs =
+      statement.declare_many setting before receiver (length xs) ident f.type asked (with_slots_kept [] xs [])
+      ∙ ap (λ ys. with_slots_kept [] ys []) (declared_next xs (Several f.type []))
+  declare_by Flat f ident xs =
+      ap (go (stmt.DeclareBuffer ∷ [])) (declare_one f ident xs)
+      ∙ statement.declare_buffer setting before receiver asked (with_slots_kept [] (xs ++ One f.type false None ∷ []) [])
 
-  pub run_declarations : (lefts : List Field) (fs : List FieldDecl) (k : ℕ) (xs : List Slot) → AllZip (IsField body) lefts fs
-      → go (at_slots declaration k lefts) (with_slots_kept [] xs []) ≡ with_slots_kept [] (xs ++ each (field_slot setting earlier) fs (λ j. [])) []
-  run_declarations [] [] k xs zip = ap (λ x. with_slots_kept [] x []) (sym (append-nil xs))
-  run_declarations [] (f ∷ fs) k xs zip = absurd zip
-  run_declarations (left ∷ lefts) [] k xs zip = absurd zip
-  run_declarations (left ∷ lefts) (f ∷ fs) k xs zip =
-      statement.run_append setting earlier type (declaration k left) (at_slots declaration (k + 1) lefts) given (with_slots_kept [] xs [])
-      ∙ ap (go (at_slots declaration (k + 1) lefts)) (declare_field left f k xs zip.0)
-      ∙ run_declarations lefts fs (k + 1) (xs ++ field_slot setting earlier f [] ∷ []) zip.1
-      ∙ ap (λ x. with_slots_kept [] x []) (append_assoc xs (field_slot setting earlier f [] ∷ []) (each (field_slot setting earlier) fs (λ j. [])))
+  declare_field : (left : Field) (f : FieldDecl) (xs : List Slot) → IsField body left f → go (declaration (length xs) left) (with_slots_kept [] xs []) ≡ with_slots_kept [] (xs ++ field_slot setting earlier f [] ∷ []) []
+  declare_field left f xs is =
+      ap₂ (λ m b. go (declaration_by m b (length xs) left.ident.now left.ty.now) (with_slots_kept [] xs [])) is.many is.flat
+      ∙ ap (λ t. go (declaration_by (is_many f.shape) (is_flat f.shape) (length xs) left.ident.now t) (with_slots_kept [] xs [])) is.type
+      ∙ declare_by f.shape f left.ident.now xs
+
+  pub run_declarations : (lefts : List Field) (fs : List FieldDecl) (xs : List Slot) → AllZip (IsField body) lefts fs
+      → go (at_slots declaration (length xs) lefts) (with_slots_kept [] xs []) ≡ with_slots_kept [] (xs ++ each (field_slot setting earlier) fs (λ j. [])) []
+  run_declarations [] [] xs zip = ap (λ x. with_slots_kept [] x []) (sym (append-nil xs))
+  run_declarations [] (f ∷ fs) xs zip = absurd zip
+  run_declarations (left ∷ lefts) [] xs zip = absurd zip
+  run_declarations (left ∷ lefts) (f ∷ fs) xs zip =
+      let slot = field_slot setting earlier f [] in
+      statement.run_append setting before receiver (declaration (length xs) left) (at_slots declaration (length xs + 1) lefts) asked (with_slots_kept [] xs [])
+      ∙ ap (go (at_slots declaration (length xs + 1) lefts)) (declare_field left f xs zip.0)
+      ∙ ap (λ k. go (at_slots declaration k lefts) (with_slots_kept [] (xs ++ slot ∷ []) [])) (one_more xs slot)
+      ∙ run_declarations lefts fs (xs ++ slot ∷ []) zip.1
+      ∙ ap (λ x. with_slots_kept [] x []) (append_assoc xs (slot ∷ []) (each (field_slot setting earlier) fs (λ j. [])))
 
   -- ---- a pass
 
@@ -111,7 +127,7 @@ module _ (setting : Setting) (earlier : Earlier) (type : Type') (given : Given) 
         let y = b f is in
         let here : done ++ y ∷ each a fs later ≡ (done ++ y ∷ []) ++ each a fs later = sym (append_assoc done (y ∷ []) (each a fs later)) in
         let there : (done ++ y ∷ []) ++ each b fs later ≡ done ++ y ∷ each b fs later = append_assoc done (y ∷ []) (each b fs later) in
-        statement.run_append setting earlier type (give (length done) left) (at_slots give (length done + 1) lefts) given (at_slots_with (done ++ a f is ∷ each a fs later) faults)
+        statement.run_append setting before receiver (give (length done) left) (at_slots give (length done + 1) lefts) asked (at_slots_with (done ++ a f is ∷ each a fs later) faults)
         ∙ ap (go (at_slots give (length done + 1) lefts)) (passes left f is done (each a fs later) faults zip.0 are.0)
         ∙ ap₂ (λ k xs. go (at_slots give k lefts) (at_slots_with xs (faults ++ c f is))) (one_more done y) here
         ∙ run_pass give a b c passes lefts fs later (done ++ y ∷ []) (faults ++ c f is) zip.1 are.1
@@ -144,8 +160,8 @@ module _ (setting : Setting) (earlier : Earlier) (type : Type') (given : Given) 
         let r : read_flat setting earlier (names body.fields) kept (slot_at (done ++ x ∷ todo) (length done)) ≡ (One f.type true (value_of o), faults_of o) =
         ap₂ (read_flat setting earlier (names body.fields)) (e refl) (at_here done todo x) ∙ read_slot_is f.type o in
         let state : List Slot → List Fault → State = λ xs fs. record { slots = xs; faults = fs; kept = kept; whole = no_value } in
-        statement.read_flatten setting earlier type (length done) (names body.fields) given (at_slots_with (done ++ x ∷ todo) faults)
-        ∙ ap (λ q. Going (put (length done) q (state (done ++ x ∷ todo) faults))) r
+        statement.read_flatten setting before receiver (length done) (names body.fields) asked (at_slots_with (done ++ x ∷ todo) faults)
+        ∙ ap (λ q. Going (put (length done) q (state (done ++ x ∷ todo) faults)) aside) r
         ∙ ap (λ xs. at_slots_with xs (faults ++ faults_of o)) (put_here done todo x (One f.type true (value_of o)))
 
     abbrev pub flat_slot : FieldDecl → List NestedMeta → Slot
@@ -195,8 +211,8 @@ module _ (setting : Setting) (earlier : Earlier) (type : Type') (given : Given) 
         → go (stmt.CheckMissing (length done) t name ∷ []) (at_slots_with (done ++ x ∷ todo) faults) ≡ at_slots_with (done ++ x ∷ todo) (faults ++ [])
     stays done t name x todo faults e =
         let state : List Slot → List Fault → State = λ xs fs. record { slots = xs; faults = fs; kept = kept; whole = no_value } in
-        statement.check_missing setting earlier type (length done) t name given (at_slots_with (done ++ x ∷ todo) faults)
-        ∙ ap (λ q. Going (put (length done) q (state (done ++ x ∷ todo) faults))) (ap (check_missing setting earlier t name) (at_here done todo x) ∙ e)
+        statement.check_missing setting before receiver (length done) t name asked (at_slots_with (done ++ x ∷ todo) faults)
+        ∙ ap (λ q. Going (put (length done) q (state (done ++ x ∷ todo) faults)) aside) (ap (check_missing setting earlier t name) (at_here done todo x) ∙ e)
         ∙ ap (λ xs. at_slots_with xs (faults ++ [])) (put_here done todo x x)
 
     check_step : (s : Shape) (x : Option Fallback) (f : FieldDecl) (own_items : List NestedMeta) (done todo : List Slot) (faults : List Fault)
@@ -204,8 +220,8 @@ module _ (setting : Setting) (earlier : Earlier) (type : Type') (given : Given) 
     check_step Single None f [] done todo faults =
         let x : Slot = One f.type false None in
         let state : List Slot → List Fault → State = λ xs fs. record { slots = xs; faults = fs; kept = kept; whole = no_value } in
-        statement.check_missing setting earlier type (length done) f.type f.name given (at_slots_with (done ++ x ∷ todo) faults)
-        ∙ ap (λ q. Going (put (length done) (check_missing setting earlier f.type f.name q) (state (done ++ x ∷ todo) faults))) (at_here done todo x)
+        statement.check_missing setting before receiver (length done) f.type f.name asked (at_slots_with (done ++ x ∷ todo) faults)
+        ∙ ap (λ q. Going (put (length done) (check_missing setting earlier f.type f.name q) (state (done ++ x ∷ todo) faults)) aside) (at_here done todo x)
         ∙ ap₂ (λ xs e. at_slots_with xs (faults ++ e)) (put_here done todo x (absent f.type f.name (none setting earlier f.type)).0) (absent_faults f (none setting earlier f.type))
     check_step Single None f (i ∷ more) done todo faults = stays done f.type f.name (One f.type true (value_of (read setting earlier f i))) todo faults refl
     check_step Single (Some x) f [] done todo faults = nothing (done ++ One f.type false None ∷ todo) faults

@@ -1,50 +1,59 @@
 -- The units of a program read what their declarations mean.
-use Rattle.std.proofs.Common.{◌≡◌, ℕ, zero, suc, ◌==◌, List, cond, Option, Some, None, refl, ap, ◌∙◌, sym}
+use Rattle.std.proofs.Common.{◌≡◌, ℕ, zero, suc, ◌==◌, Bool, true, false, List, cond, Option, Some, None, refl, ap, ◌∙◌, sym}
 use mathlib.Core.Path.{fun_ext}
+use Rattle.meta_nested.specs.Cells.{Cells, no_cells}
 use Rattle.meta_nested.specs.declared.nested.NestedMeta.{NestedMeta}
+use Rattle.meta_entries.specs.Entries.{named_entries}
+use Rattle.meta_entries.specs.declared.entry.Entry.{Entry}
 use Rattle.error_fault.specs.Outcome.{Outcome}
 use Rattle.machine_value.specs.declared.value.Value.{Value as Datum}
+use Rattle.codegen_program.specs.declared.program.Derive.TheVariants as derives
 use Rattle.codegen_program.specs.declared.program.«Unit».{«Unit» as Unit'}
-use Rattle.codegen_core.specs.Compiled.{compiled_derive_input, input_stmts, list_stmts}
-use Rattle.machine_execute.specs.Below.{below}
-use Rattle.machine_execute.specs.Convert.{Earlier}
+use Rattle.codegen_core.specs.Compiled.{compiled_derive_input, compiled_meta}
+use Rattle.machine_execute.specs.Asked.{OnElement}
+use Rattle.machine_execute.specs.Elements.{OnInput}
+use Rattle.machine_execute.specs.Machine.{cells_by, earlier_units, is_from_derive_input, or_unread, run_func, setting_of, unit_cells, unit_reads, unit_under, unit_type}
+use Rattle.machine_execute.specs.Reads.{Before, metas}
+use Rattle.machine_execute.specs.Receivers.{declared_style, receiver_of}
 use Rattle.machine_execute.specs.Setting.{Setting}
-use Rattle.machine_execute.specs.Machine.{earlier_units, is_from_derive_input, is_from_list, meta_unit, or_unread, read_list, run_func, setting_of, unit_type}
-use Rattle.machine_execute.specs.Progress.{Items, Input, outcome}
-use Rattle.machine_execute.specs.Statements.{run}
 use Rattle.meaning_core.specs.Decl.{Decl}
-use Rattle.meaning_core.specs.Declarations.{earlier_decls, list_meaning, meta_decl}
+use Rattle.meaning_core.specs.Declarations.{earlier_decls, meta_cells, meta_decl}
+use Rattle.meaning_core.specs.Meaning.{struct_meaning}
 use Rattle.law_machine.specs.Claims.{ProgramIsMeaning}
 use Rattle.law_machine.specs.Compiles.{AreMetaUnits, IsMetaUnit}
 use Rattle.law_machine.proofs.Units.{input_is_meaning, list_is_meaning}
 
--- two ways to read a number agree where they do over the same earlier readings
-below_same : (a b : Earlier → ℕ → List NestedMeta → Outcome Datum) → ((earlier : Earlier) (k : ℕ) (is : List NestedMeta) → a earlier k is ≡ b earlier k is) → (n : ℕ) → below a n ≡ below b n
-below_same a b e zero = refl
-below_same a b e (suc n) =
-    let ih = below_same a b e n in
-    fun_ext (λ k. fun_ext (λ is. ap (λ x. cond (k == n) x (below a n k is)) (ap (λ earlier. a earlier n is) ih ∙ e (below b n) n is) ∙ ap (λ earlier. cond (k == n) (b (below b n) n is) (earlier k is)) ih))
-
 module _ (setting : Setting) where
-  read_is : (earlier : Earlier) (unit : Option Unit') (decl : Option Decl) (is : List NestedMeta) → IsMetaUnit unit decl → read_list setting earlier unit is ≡ list_meaning setting earlier decl is
-  read_is earlier None None is same = refl
-  read_is earlier None (Some decl) is same = absurd same
-  read_is earlier (Some unit) None is same = absurd same
-  read_is earlier (Some unit) (Some decl) is (left, compiled, left_is, type_is) =
-      ap (λ u. or_unread (run_func setting earlier is_from_list u (Items is))) compiled
-      ∙ ap (λ t. or_unread (outcome (run setting earlier t (list_stmts left.base) (Items is)))) (sym (ap unit_type compiled) ∙ type_is)
-      ∙ ap or_unread (list_is_meaning setting earlier left.base decl is left_is)
+  cells_are : (before : Before) (unit : Option Unit') (decl : Option Decl) → IsMetaUnit unit decl → cells_by setting before unit ≡ meta_cells setting (metas before) decl
+  cells_are before None None same = refl
+  cells_are before None (Some decl) same = absurd same
+  cells_are before (Some unit) None same = absurd same
+  cells_are before (Some unit) (Some decl) (left, compiled, left_is, type_is) =
+      let lists : (List NestedMeta → Outcome Datum) → Cells Datum = λ read. record no_cells { list = λ items. Some (read items) } in
+      let receiver = receiver_of setting (compiled_meta left unit.decl) in
+      ap (unit_cells setting before) compiled
+      ∙ ap lists (fun_ext (λ items. ap or_unread (list_is_meaning setting before receiver left.base decl items left_is (sym (ap unit_type compiled) ∙ type_is))))
 
-  earlier_is : (units : List Unit') (decls : List Decl) (n : ℕ) → AreMetaUnits units decls → earlier_units setting units n ≡ earlier_decls setting decls n
-  earlier_is units decls n are =
-      below_same (λ earlier k is. read_list setting earlier (meta_unit units k) is) (λ earlier k is. list_meaning setting earlier (meta_decl decls k) is)
-      (λ earlier k is. read_is earlier (meta_unit units k) (meta_decl decls k) is (are k)) n
+  module _ (units : List Unit') (decls : List Decl) (are : AreMetaUnits units decls) where
+    -- the number at the bound, or one below it
+    chosen : (test : Bool) (bound number : ℕ) → metas (earlier_units setting units bound) ≡ earlier_decls setting decls bound
+        → (cond test (unit_reads setting units (earlier_units setting units bound) bound) (earlier_units setting units bound number)).cells
+        ≡ cond test (meta_cells setting (earlier_decls setting decls bound) (meta_decl decls bound)) (earlier_decls setting decls bound number)
+    chosen true bound number same =
+        cells_are (earlier_units setting units bound) (unit_under units bound derives.FromMeta) (meta_decl decls bound) (are bound)
+        ∙ ap (λ earlier. meta_cells setting earlier (meta_decl decls bound)) same
+    chosen false bound number same = ap (λ earlier. earlier number) same
+
+    pub earlier_is : (bound : ℕ) → metas (earlier_units setting units bound) ≡ earlier_decls setting decls bound
+    earlier_is zero = refl
+    earlier_is (suc bound) = fun_ext (λ number. chosen (number == bound) bound number (earlier_is bound))
 
 pub program_is_meaning : ProgramIsMeaning
-program_is_meaning host program unit decls decl input are (left, compiled, left_is, type_is) =
+program_is_meaning host program unit decls decl input are (left, compiled, left_is, type_is) braced =
     let setting = setting_of host program in
-    let earlier = earlier_decls setting decls decl.number in
-    ap (λ u. run_func setting (earlier_units setting program.units u.decl) is_from_derive_input u (Input input)) compiled
-    ∙ ap (λ e. outcome (run setting e (unit_type (compiled_derive_input left decl.number)) (input_stmts left) (Input input))) (earlier_is setting program.units decls decl.number are)
-    ∙ ap (λ t. outcome (run setting earlier t (input_stmts left) (Input input))) (sym (ap unit_type compiled) ∙ type_is)
-    ∙ input_is_meaning setting earlier left decl input left_is
+    let before = earlier_units setting program.units decl.number in
+    let entries : List Entry = named_entries decl.attributes input.attrs in
+    ap (λ u. run_func setting (earlier_units setting program.units u.decl) is_from_derive_input u (OnElement (OnInput input))) compiled
+    ∙ input_is_meaning setting before (receiver_of setting (compiled_derive_input left decl.number)) left decl input left_is (sym (ap unit_type compiled) ∙ type_is)
+    (ap (λ u. declared_style (receiver_of setting u).decl) (sym compiled) ∙ braced)
+    ∙ ap (λ e. Some (struct_meaning setting e decl entries)) (earlier_is setting program.units decls are decl.number)

@@ -4,10 +4,13 @@ use Rattle.std.specs.List.{AllZip}
 use Rattle.std.specs.Option.{option_copied}
 use Rattle.tok_types.specs.Ident.{ident_text}
 use Rattle.node_make.specs.PathText.{path_text}
+use Rattle.node_core.specs.declared.derive.DeriveInput.{DeriveInput}
+use Rattle.node_core.specs.declared.style.Style.TheVariants as style
 use Rattle.codegen_program.specs.declared.init.DefaultSource.{DefaultSource}
 use Rattle.codegen_program.specs.declared.init.DefaultSource.TheVariants as sources
 use Rattle.codegen_program.specs.declared.init.Fallback.{Fallback as Falls}
 use Rattle.codegen_program.specs.declared.init.Fallback.TheVariants as fallbacks
+use Rattle.codegen_program.specs.declared.program.Derive.TheVariants as derives
 use Rattle.codegen_program.specs.declared.program.«Unit».{«Unit» as Unit'}
 use Rattle.codegen_core.specs.Compiled.{compiled_derive_input, compiled_meta, fields_of, default_of}
 use Rattle.codegen_core.specs.Defaults.{custom}
@@ -16,7 +19,8 @@ use Rattle.codegen_core.specs.declared.field.Field.{Field}
 use Rattle.codegen_core.specs.declared.from_derive_impl.FromDeriveInputImpl.{FromDeriveInputImpl}
 use Rattle.codegen_core.specs.declared.from_meta_impl.FromMetaImpl.{FromMetaImpl}
 use Rattle.codegen_core.specs.declared.trait_impl.TraitImpl.{TraitImpl}
-use Rattle.machine_execute.specs.Machine.{meta_unit, unit_type}
+use Rattle.machine_execute.specs.Machine.{unit_under, unit_type}
+use Rattle.machine_execute.specs.Receivers.{declared_style}
 use Rattle.meaning_core.specs.Declarations.{meta_decl}
 use Rattle.meaning_core.specs.Decl.{BodyDecl, Decl, FieldDecl, Fallback, OfType, OfCall, OfContainer, Default, ByType, ByCall, fallback, is_flat, is_many}
 
@@ -68,9 +72,13 @@ IsMetaUnit (Some unit) (Some decl) =
 
 -- a declaration that is read from items has its unit, and no other number has one
 abbrev pub AreMetaUnits : List Unit' → List Decl → Type 0
-AreMetaUnits units decls = (number : ℕ) → IsMetaUnit (meta_unit units number) (meta_decl decls number)
+AreMetaUnits units decls = (number : ℕ) → IsMetaUnit (unit_under units number derives.FromMeta) (meta_decl decls number)
 
 -- the unit by which items of a text are read as the declaration
 abbrev pub IsInputUnit : Unit' → Decl → Type 0
 IsInputUnit unit decl =
     (left : FromDeriveInputImpl) × (unit ≡ compiled_derive_input left decl.number) × IsInputDecl left decl × (unit_type unit ≡ decl.type)
+
+-- the struct is declared with braces, where there is a declaration
+abbrev pub IsBraced : Option DeriveInput → Type 0
+IsBraced decl = declared_style decl ≡ style.Struct

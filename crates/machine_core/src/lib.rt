@@ -15,8 +15,8 @@ pub use codegen_program::{
 };
 pub use error_fault::Fault;
 pub use machine_execute::{
-    Arg, Callable, Element, Host, HostItem, MAX_READING, NestedMeta, Outcome, Place, RefusingHost,
-    Said, Use, execute, try_execute, what_fits_a_type,
+    Arg, Callable, Element, Host, HostItem, MAX_READING, NestedMeta, Outcome, Place, Prepared,
+    RefusingHost, Said, Use, execute, try_execute, what_fits_a_type,
 };
 pub use machine_fit::{Form, Refusals, Unfit, Unsupported, fit, refusals};
 pub use machine_host as host;

@@ -1,28 +1,25 @@
-//! Units of a program: each declaration is read by the unit of its number, and its types name those of lower numbers.
+//! Units of a program: each declaration is read by the units of its number, and its types name those of lower numbers.
 
-ghost use Rattle.std.specs.Prelude.{◌≡◌, Some, option_map};
-ghost use Rattle.std.specs.Option.{option_copied};
+ghost use Rattle.std.specs.Prelude.{option_map};
 ghost use Rattle.error_core.specs.Answers.{Answers};
-ghost use Rattle.machine_read.specs.Below.{unread as unread_outcome};
+ghost use Rattle.machine_read.specs.Answers.{AnswersAsked};
+ghost use Rattle.machine_read.specs.Elements.{element_of};
 ghost use Rattle.machine_read.specs.Machine as spec;
-ghost use Rattle.machine_read.specs.Progress.{outcome};
-ghost use Rattle.machine_read.specs.Statements.{run as run_of};
-ghost use Rattle.machine_run.specs.Seen.{given_of};
-ghost use Rattle.machine_run.specs.Steps.{IsOutcome};
-ghost use Rattle.machine_execute.specs.Units.{declared_list, is_such, setting_at};
+ghost use Rattle.machine_read.specs.Reads.{no_reads, unread as unread_outcome};
+ghost use Rattle.machine_run.specs.Seen.{answered};
+ghost use Rattle.machine_read.specs.Cells.{AnswersCell, cell_at};
+ghost use Rattle.machine_execute.specs.Units.{cells_of, outer_of, reads_at, setting_at};
 
 use crate::context::Context;
-use base_core::Mem;
-use codegen_program::{Derive, Func, FuncName, MAX_NESTING, Stmt, Unit};
+use crate::unit::{unit_cell, unit_element};
+use codegen_program::Derive;
 use error_core::{Error, Fail, Result};
-use machine_read::{Declared, Host, NestedMeta, Scope, Setting, named_type};
-use machine_run::{Given, Progress, Run, State};
+use machine_read::{Asked, Call, Declared, Element, Host};
 use machine_value::Value;
-use node_expr::Type;
 use std::alloc::Global;
 use std::result;
 
-/// What the declarations below a number read, each by its unit.
+/// What the declarations below a number read, each by its units.
 pub(crate) struct Earlier<'p, H, F> {
     pub context: &'p Context<'p, H>,
     pub bound: usize,
@@ -31,10 +28,9 @@ pub(crate) struct Earlier<'p, H, F> {
 
 impl<H: Host, F> Declared for Earlier<'_, H, F>
 where
-    F: Fn(&Context<'_, H>, usize, usize, &[NestedMeta]) -> Result<Value>,
+    F: Fn(&Context<'_, H>, usize, usize, Asked<'_>) -> Result<Option<Value>>,
 {
     ghost use Rattle.std.specs.Prelude.{ℕ, ◌≤◌};
-    ghost use Rattle.machine_read.specs.Convert.{Earlier as EarlierSeen};
     ghost use Rattle.machine_execute.specs.Units.{ReadsBelow, earlier_at, reads-less};
 
     ghost earlier = { λ it. earlier_at H.says it.context.now it.bound };
@@ -43,162 +39,125 @@ where
 
     ghost reads_less = { λ it less room small within. reads-less small within };
 
-    fn list(
+    fn read(
         &self,
         alloc: Global,
         room: usize,
         number: usize,
-        items: &[NestedMeta],
-    ) -> Result<Value> {
+        asked: Asked<'_>,
+    ) -> Result<Option<Value>> {
         if number < self.bound {
-            (self.read)(self.context, room, number, items)
+            (self.read)(self.context, room, number, asked)
         } else {
-            unread(alloc)
+            read_nothing(alloc, asked)
         }
     }
 }
 
-/// What the declaration of the number reads from the items of a list, no deeper than `room` levels. What would be deeper is
+/// What a number reads that has no declaration: it answers no call, and each element is a fault.
+#[tactic(auto, using(crate::proofs::Cells::no_cell))]
+fn read_nothing(alloc: Global, asked: Asked<'_>) -> Result<Option<Value>>
+    ensures { AnswersAsked result no_reads asked.entry }
+{
+    match asked {
+        Asked::Cell(_) => Ok(None),
+        Asked::Element(_) => Ok(Some(unread(alloc)?)),
+    }
+}
+
+/// What the declaration of the number reads from what it is asked, no deeper than `room` levels. What would be deeper is
 /// want of memory.
 #[cycle(units)]
 pub(crate) fn read_declared<H: Host>(
     context: &Context<'_, H>,
     room: usize,
     number: usize,
-    items: &[NestedMeta],
-) -> Result<Value>
-    ensures { Answers (λ it. it) result (declared_list (setting_at H.says context.now) context.now.program.now.units number items.now) }
+    asked: Asked<'_>,
+) -> Result<Option<Value>>
+    ensures { AnswersAsked result (reads_at H.says context.now number) asked.entry }
 {
     if room == 0 {
         return Err(Fail::NoMemory);
     }
-    let Some(unit) = meta_unit(context.program.units.as_slice(), number) else {
-        return unread(context.alloc);
-    };
     let earlier = Earlier {
         context: &*context,
         bound: number,
         read: read_declared::<H>,
     };
-    read_list(&*context, &earlier, room - 1, unit, &*items)
+    read_asked(&*context, &earlier, room - 1, number, asked)
 }
 
-/// What a unit reads from the items of a list.
-pub(crate) fn read_list<H: Host, D: Declared>(
+/// What the declaration of the number reads from what it is asked, where these are the declarations of lower numbers.
+pub(crate) fn read_asked<H: Host, D: Declared>(
     context: &Context<'_, H>,
     earlier: &D,
     room: usize,
-    unit: &Unit,
-    items: &[NestedMeta],
-) -> Result<Value>
+    number: usize,
+    asked: Asked<'_>,
+) -> Result<Option<Value>>
     requires { D.reads_within earlier.now room }
-    ensures { Answers (λ it. it) result (spec.read_list (setting_at H.says context.now) (D.earlier earlier.now) (Some unit.now) items.now) }
+    ensures { AnswersAsked result (spec.unit_reads (setting_at H.says context.now) context.now.program.now.units (D.earlier earlier.now) number) asked.entry }
 {
-    match run_func(
-        context,
-        earlier,
-        room,
-        FuncName::FromList,
-        unit,
-        Given::Items(items),
-    )? {
-        Some(Ok(value)) => Ok(value),
-        Some(Err(error)) => Err(Fail::Faults(error)),
-        None => unread(context.alloc),
+    match asked {
+        Asked::Cell(call) => read_call(context, earlier, room, number, call),
+        Asked::Element(element) => Ok(Some(read_element(context, earlier, room, number, element)?)),
     }
 }
 
-/// The fault of a number that no unit reads from items.
-pub(crate) fn unread(alloc: Global) -> Result<Value>
-    ensures { Answers (λ it. it) result unread_outcome }
-{
-    Err(Fail::Faults(Error::custom(alloc, "no declaration")?))
-}
-
-/// The first unit by which items are read as the declaration of the number.
-pub(crate) fn meta_unit(units: &[Unit], number: usize) -> Option<&Unit>
-    ensures { option_copied result ≡ spec.meta_unit units.now number }
-{
-    for unit in units {
-        if unit.decl as usize == number && unit.derive == Derive::FromMeta {
-            return Some(unit);
-        }
-    }
-    None
-}
-
-/// The outcome of a unit's function, which may read the declarations of lower numbers. None where it has none.
-pub(crate) fn run_func<H: Host, D: Declared>(
+/// What the declaration of the number answers to a call of `FromMeta` itself.
+#[tactic(auto, using(crate::proofs::Cells::no_cell))]
+fn read_call<H: Host, D: Declared>(
     context: &Context<'_, H>,
     earlier: &D,
     room: usize,
-    name: FuncName,
-    unit: &Unit,
-    given: Given<'_>,
-) -> Mem<Option<result::Result<Value, Error>>>
+    number: usize,
+    call: Call<'_>,
+) -> Result<Option<Value>>
     requires { D.reads_within earlier.now room }
-    ensures { IsOutcome result (spec.run_func (setting_at H.says context.now) (D.earlier earlier.now) (is_such name) unit.now (given_of given.entry)) }
+    ensures { AnswersCell (λ it. it) result (cell_at (cells_of H.says D.earlier context.now earlier.now number) call.entry) }
 {
-    match stmts_named(unit.funcs.as_slice(), name) {
-        Some(stmts) => {
-            let ty = named_type(context.alloc, unit.ident.text.as_str())?;
-            run_stmts(context, earlier, room, &ty, stmts, given)
-        }
+    match context.unit_under(number, Derive::FromMeta) {
+        Some(unit) => unit_cell(context, earlier, room, unit, call),
         None => Ok(None),
     }
 }
 
-/// The outcome of statements that make this type. None where they have none.
-fn run_stmts<H: Host, D: Declared>(
+/// What the declaration of the number makes of an element.
+fn read_element<H: Host, D: Declared>(
     context: &Context<'_, H>,
     earlier: &D,
     room: usize,
-    ty: &Type,
-    stmts: &[Stmt],
-    given: Given<'_>,
-) -> Mem<Option<result::Result<Value, Error>>>
+    number: usize,
+    element: Element<'_>,
+) -> Result<Value>
     requires { D.reads_within earlier.now room }
-    ensures { IsOutcome result (outcome (run_of (setting_at H.says context.now) (D.earlier earlier.now) ty.now stmts.now (given_of given.entry))) }
+    ensures { Answers (λ it. it) result (outer_of H.says D.earlier context.now earlier.now number (element_of element.entry)) }
 {
-    let run = Run {
-        scope: Scope {
-            alloc: context.alloc,
-            setting: Setting {
-                host: context.host,
-                decls: &context.program.decls,
-            },
-            declared: earlier,
-        },
-        room,
-        ty,
-        nameless: context.nameless,
-    };
-    let mut state = State::new(context.alloc);
-    let progress = run.run_from(given, stmts, MAX_NESTING, &mut state, Progress::Going)?;
-    Ok(progress.outcome())
-}
-
-/// The statements of the first function of the name.
-fn stmts_named(funcs: &[Func], name: FuncName) -> Option<&[Stmt]>
-    ensures { option_map (λ stmts. stmts.now) result ≡ spec.stmts_named (is_such name) funcs.now }
-{
-    for func in funcs {
-        if is_such(name, func.name) {
-            return Some(func.stmts.as_slice());
+    match context.unit_under(number, element.derive()) {
+        Some(unit) => {
+            let found = unit_element(context, earlier, room, unit, element)?;
+            or_unread(context.alloc, found)
         }
+        None => unread(context.alloc),
     }
-    None
 }
 
-/// Whether a function is the one that a run asks for.
-fn is_such(name: FuncName, other: FuncName) -> bool
-    ensures { result ≡ is_such name other }
+/// What was found; what has no outcome reads as a declaration that is not there.
+pub(crate) fn or_unread(alloc: Global, found: Option<result::Result<Value, Error>>) -> Result<Value>
+    ensures { Answers (λ it. it) result (spec.or_unread (option_map answered found)) }
 {
-    match (name, other) {
-        (FuncName::FromList, FuncName::FromList) => true,
-        (FuncName::FromDeriveInput, FuncName::FromDeriveInput) => true,
-        _ => false,
+    match found {
+        Some(Ok(value)) => Ok(value),
+        Some(Err(error)) => Err(Fail::Faults(error)),
+        None => unread(alloc),
     }
+}
+
+/// The fault of a number that no unit reads.
+fn unread(alloc: Global) -> Result<Value>
+    ensures { Answers (λ it. it) result unread_outcome }
+{
+    Err(Fail::Faults(Error::custom(alloc, "no declaration")?))
 }
 
 impl<H, F: Drop> Drop for Earlier<'_, H, F> {

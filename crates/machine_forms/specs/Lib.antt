@@ -11,6 +11,7 @@ pub use Rattle.machine_steps.specs.Decls
 pub use Rattle.machine_steps.specs.Defaults
 pub use Rattle.machine_steps.specs.HostSays
 pub use Rattle.machine_steps.specs.Machine
+pub use Rattle.machine_steps.specs.Receivers
 pub use Rattle.machine_steps.specs.Made
 pub use Rattle.machine_steps.specs.Names as MachineStepsNames
 pub use Rattle.machine_steps.specs.Reading

@@ -1,5 +1,5 @@
 -- How answers follow from answers.
-use Rattle.std.specs.Prelude.{ℕ, Option, Result}
+use Rattle.std.specs.Prelude.{ℕ, Option, Some, Result}
 use denote.Ref.{Bor}
 use Rattle.error_core.specs.Answers.{Answers}
 use Rattle.error_core.specs.declared.fail.Fail.{Fail}
@@ -9,6 +9,10 @@ use Rattle.meta_nested.specs.declared.call.Call.{Call}
 use Rattle.machine_leaf.specs.Shown.{shown_cells}
 use Rattle.machine_value.specs.declared.value.Value.{Value as Datum}
 use Rattle.machine_rows.specs.declared.row.Row.{Row}
+use Rattle.machine_steps.specs.Elements.{element_of}
+use Rattle.machine_steps.specs.Reads.{Reads}
+use Rattle.machine_steps.specs.declared.asked.Asked.{Asked}
+use Rattle.machine_steps.specs.declared.asked.Asked.TheVariants as asked
 use Rattle.machine_read.specs.declared.inside.Inside.{Inside}
 use Rattle.machine_read.specs.declared.scope.Scope.{Scope}
 
@@ -21,6 +25,11 @@ abbrev pub Shows : {T Seen : Type 0} → (T → Seen) → (Seen → Datum) → R
 Shows {T} {Seen} seen show answer result =
     (cells : Cells Seen) (call : Call) → AnswersCell seen answer (cell_at cells call)
     → AnswersCell (λ it. it) result (cell_at (shown_cells show cells) call)
+
+-- a declaration that reads so answers what it is asked
+abbrev pub AnswersAsked : Result (Option Datum) Fail → Reads → Asked → Type 0
+AnswersAsked answer reads (asked.Cell call) = AnswersCell (λ it. it) answer (cell_at reads.cells call)
+AnswersAsked answer reads (asked.Element element) = AnswersCell (λ it. it) answer (Some (reads.outer (element_of element)))
 
 -- the function of a row may be asked each call, and answers what these cells do
 abbrev pub ReadsRow :

@@ -3,16 +3,23 @@ pub mod Entries
 pub mod Layers
 pub mod Scopes
 pub mod Wrapped
+pub use Rattle.machine_steps.specs.Asked
+pub use Rattle.machine_steps.specs.Attributes
 pub use Rattle.machine_steps.specs.Below
+pub use Rattle.machine_steps.specs.Building
 pub use Rattle.machine_steps.specs.Callable
 pub use Rattle.machine_steps.specs.Convert
+pub use Rattle.machine_steps.specs.Elements
 pub use Rattle.machine_steps.specs.HostSays
 pub use Rattle.machine_steps.specs.Lawful
 pub use Rattle.machine_steps.specs.Machine
 pub use Rattle.machine_steps.specs.Made
 pub use Rattle.machine_steps.specs.Names
+pub use Rattle.machine_steps.specs.Parts
 pub use Rattle.machine_steps.specs.Progress
 pub use Rattle.machine_steps.specs.Reading
+pub use Rattle.machine_steps.specs.Reads
+pub use Rattle.machine_steps.specs.Receivers
 pub use Rattle.machine_steps.specs.Seen
 pub use Rattle.machine_steps.specs.Setting
 pub use Rattle.machine_steps.specs.Slots
@@ -22,3 +29,5 @@ pub use Rattle.meta_nested.specs.Cells
 pub use Rattle.meta_nested.specs.Dispatch
 pub use Rattle.meta_nested.specs.Nodes
 pub use Rattle.meta_nested.specs.declared.nested.NestedMeta
+pub use Rattle.machine_steps.specs.declared.asked.Asked as Held
+pub use Rattle.meta_nested.specs.declared.call.Call

@@ -2,7 +2,6 @@
 
 ghost use Rattle.meta_nested.specs.Cells.{AnswersCell, cell_at};
 ghost use Rattle.machine_read.specs.Scopes.{cells_of, under};
-ghost use Rattle.machine_steps.specs.Convert.{declared_cells};
 
 use crate::declared::Declared;
 use crate::layer::{Layer, layer_of};
@@ -11,7 +10,7 @@ use crate::wrapped::wrapper_cell;
 use error_core::{Fail, Result};
 use machine_leaf::{Reader, leaf_cell, unit_cell};
 use machine_rows::Row;
-use machine_steps::Host;
+use machine_steps::{Asked, Host};
 use machine_value::Value;
 use meta_nested::Call;
 use std::alloc::Global;
@@ -74,26 +73,9 @@ pub(crate) fn row_cell<H: Host, D: Declared>(
             };
             wrapper_cell(scope.alloc, wrapper, &inside, call)
         }
-        Layer::Declared(number) => declared_cell(&*scope, room - 1, number, call),
+        Layer::Declared(number) => scope
+            .declared
+            .read(scope.alloc, room - 1, number, Asked::Cell(call)),
         Layer::Host(ty) => scope.setting.host_cell(scope.alloc, ty, call),
-    }
-}
-
-/// What a declaration answers to a call itself: it reads a list.
-fn declared_cell<H, D: Declared>(
-    scope: &Scope<'_, H, D>,
-    room: usize,
-    number: usize,
-    call: Call<'_>,
-) -> Result<Option<Value>>
-    requires { D.reads_within scope.now.declared.now room }
-    ensures { AnswersCell (λ it. it) result (cell_at (declared_cells (D.earlier scope.now.declared.now) number) call.entry) }
-{
-    match call {
-        Call::List(items) => {
-            let value = scope.declared.list(scope.alloc, room, number, items)?;
-            Ok(Some(value))
-        }
-        _ => Ok(None),
     }
 }

@@ -16,7 +16,8 @@ mod wrapped;
 pub use declared::Declared;
 pub use machine_leaf::{Callable, Reader};
 pub use machine_steps::{
-    Arg, Host, HostItem, Place, RefusingHost, Said, Use, named_type, what_fits_a_type,
+    Arg, Asked, Element, Host, HostItem, Place, RefusingHost, Said, Use, named_type,
+    what_fits_a_type,
 };
 pub use meta_nested::{Call, NestedMeta, items_of};
 pub use scope::Scope;

@@ -124,7 +124,8 @@ impl<H: Host, D: Declared> Scope<'_, H, D> {
         item: &NestedMeta,
     ) -> Result<Value>
         requires { D.reads_within self.now.declared.now room }
-        ensures { Answers (λ it. it) result (under H.says D.earlier self.now spec.read_at (option_copied with.entry) (option_copied transform.entry) ty.now item.now) }
+        ensures { Answers (λ it. it) result
+            (under H.says D.earlier self.now spec.read_at (option_copied with.entry) (option_copied transform.entry) ty.now item.now) }
     {
         let read = self.read_with(room, with, self.converted(transform, ty), item);
         spanned(self.transformed(transform, ty, read), item.spanned())

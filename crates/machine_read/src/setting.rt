@@ -6,10 +6,11 @@ ghost use Rattle.error_core.specs.ErrorView.{leaves};
 ghost use Rattle.law_spans.specs.Erased.{erased_type};
 ghost use Rattle.machine_leaf.specs.Defaults.{row_default};
 ghost use Rattle.machine_steps.specs.Seen.{seen_arg, seen_item};
-ghost use Rattle.machine_read.specs.Scopes.{made_of_ident, setting_in};
+ghost use Rattle.machine_read.specs.Scopes.{setting_in};
 ghost use Rattle.machine_steps.specs.Convert as convert;
 ghost use Rattle.machine_steps.specs.Convert.{declared_default, default_said};
 ghost use Rattle.machine_steps.specs.Setting as spec;
+ghost use Rattle.machine_steps.specs.Statements.{made_of_ident};
 ghost use Rattle.meta_nested.specs.Cells.{AnswersCell, cell_at};
 
 use crate::values::{inherit, spanned_value};
@@ -24,7 +25,7 @@ use machine_value::Value;
 use meta_nested::Call;
 use node_expr::Type;
 use std::alloc::Global;
-use tok_types::{Ident, Span};
+use tok_types::Span;
 
 /// What a declaration is read under: the host, and the declarations of the program.
 #[derive(Clone, Copy)]
@@ -73,15 +74,14 @@ impl<H: Host> Setting<'_, H> {
     }
 
     /// What the host makes of the identifier that a type is read from.
-    pub fn from_ident(&self, alloc: Global, ty: &Type, ident: &Ident) -> Result<Value>
-        ensures { Answers (λ it. it) result (made_of_ident (setting_in H.says self.now) ty.now ident.now) }
+    pub fn from_ident(&self, alloc: Global, ty: &Type, ident: Arg<'_>) -> Result<Value>
+        ensures { Answers (λ it. it) result (made_of_ident (setting_in H.says self.now) ty.now (seen_arg ident.entry)) }
     {
         let place = Place {
             at: Use::FromIdent,
             ty: ty.try_clone(alloc)?,
         };
-        let arg = Arg::Ident(ident);
-        let said = self.host.answer(alloc, self.decls, None, &place, arg)?;
+        let said = self.host.answer(alloc, self.decls, None, &place, ident)?;
         said_outcome(alloc, said)
     }
 

@@ -1,4 +1,5 @@
 pub mod Building
+pub mod Declared
 pub mod Errors
 pub mod Faulty
 pub mod Held

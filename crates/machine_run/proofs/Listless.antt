@@ -8,7 +8,7 @@ use Rattle.error_fault.specs.declared.kind.FaultKind.TheVariants.{Custom}
 use Rattle.error_fault.specs.Outcome.{Outcome, Value, faults_of, refused}
 use Rattle.machine_read.specs.NestedMeta.{NestedMeta}
 use Rattle.machine_read.specs.Progress.{Progress}
-use Rattle.machine_read.specs.Statements.{on_items, refuse}
+use Rattle.machine_read.specs.Attributes.{on_items, refuse}
 
 not_both : {B : Type 0} (faults : List Fault) (fault : Fault) → faults ≡ [] → faults ≡ fault ∷ [] → B
 not_both faults fault none one = cc

@@ -11,7 +11,7 @@ use Rattle.node_core.specs.declared.attr.Meta.{Meta}
 use Rattle.node_core.specs.declared.attr.Meta.TheVariants as meta
 use Rattle.machine_read.specs.Progress.{Progress}
 use Rattle.machine_read.specs.State.{State}
-use Rattle.machine_read.specs.Statements.{on_items, on_meta}
+use Rattle.machine_read.specs.Attributes.{on_items, on_meta}
 use Rattle.machine_run.specs.declared.progress.Progress.{Progress as Come}
 use Rattle.machine_run.specs.Seen.{progress_of}
 

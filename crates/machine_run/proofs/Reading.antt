@@ -1,10 +1,12 @@
 -- Reads from the items that were kept, and runs of functions.
 use Rattle.std.proofs.Common.{◌≡◌, List, Option, Some, Result, IfOk, ap, ap₂, option_map, ◌∙◌}
-use Rattle.std.specs.Prelude.{Bool, ℕ, option_and_then}
+use Rattle.std.specs.Prelude.{Bool, ℕ, option_and_then, slice_get}
 use Rattle.std.specs.Result.{OnOk}
 use Rattle.std.proofs.lemmas.Result.{on_ok_weaker}
 use Rattle.base_core.specs.declared.text.Text.{Text}
+use Rattle.tok_types.specs.Ident.{ident_text}
 use Rattle.node_expr.specs.declared.ty.«Type».{«Type» as Type'}
+use Rattle.node_core.specs.declared.derive.DeriveInput.{DeriveInput}
 use Rattle.error_core.specs.Answers.{Answers}
 use Rattle.error_core.specs.ErrorView.{ErrorView}
 use Rattle.error_core.specs.declared.fail.Fail.{Fail}
@@ -16,8 +18,11 @@ use Rattle.codegen_program.specs.declared.program.«Unit».{«Unit» as Unit'}
 use Rattle.codegen_program.specs.declared.stmt.Stmt.{Stmt}
 use Rattle.machine_read.specs.Setting.{Setting}
 use Rattle.machine_read.specs.Convert.{Earlier, list}
-use Rattle.machine_read.specs.Machine.{run_func, stmts_named, unit_type}
-use Rattle.machine_read.specs.Progress.{Given, outcome}
+use Rattle.machine_read.specs.Machine.{run_func, stmts_named}
+use Rattle.machine_read.specs.Asked.{Asked}
+use Rattle.machine_read.specs.Progress.{outcome}
+use Rattle.machine_read.specs.Reads.{Before}
+use Rattle.machine_read.specs.Receivers.{Receiver, receiver_of, unit_type}
 use Rattle.machine_read.specs.Slots.{read_flat, read_slot, slot_type}
 use Rattle.machine_read.specs.State.{Slot, State, put}
 use Rattle.machine_read.specs.Statements.{run}
@@ -34,15 +39,25 @@ module _ (setting : Setting) (earlier : Earlier) where
       reads (list setting earlier type items) answers
       ∙ ap₂ (λ (type : Type') (items : List NestedMeta). read_slot type (with_siblings names (list setting earlier type items))) same all
 
-  -- the outcome of the statements of a function
-  pub ran : {E : Type 0} (result : Result (Option (Result Datum ErrorView)) E) (such : FuncName → Bool) (unit : Unit') (given : Given) (type : Type') (stmts : List Stmt)
-      → type ≡ unit_type unit → Some stmts ≡ stmts_named such unit.funcs
-      → IfOk result (λ it. option_map answered it ≡ outcome (run setting earlier type stmts given))
-      → IfOk result (λ it. option_map answered it ≡ run_func setting earlier such unit given)
-  ran result such unit given type stmts same named known =
-      ok_same result (option_map answered) (outcome (run setting earlier type stmts given)) (run_func setting earlier such unit given)
-      (ap (λ (type : Type'). outcome (run setting earlier type stmts given)) same
-      ∙ ap (option_and_then (λ stmts. outcome (run setting earlier (unit_type unit) stmts given))) named) known
+module _ (setting : Setting) (before : Before) where
+  -- the outcome of statements of a unit
+  pub ran : {E : Type 0} (result : Result (Option (Result Datum ErrorView)) E) (unit : Unit') (asked : Asked) (stmts : List Stmt) (type : Type') (decl : Option DeriveInput)
+      → type ≡ unit_type unit → decl ≡ slice_get setting.decls unit.decl
+      → IfOk result (λ it. option_map answered it ≡ outcome (run setting before (record { type = type; name = ident_text unit.ident; derive = unit.derive; decl = decl }) stmts asked))
+      → IfOk result (λ it. option_map answered it ≡ outcome (run setting before (receiver_of setting unit) stmts asked))
+  ran result unit asked stmts type decl same found known =
+      let made : Type' → Option DeriveInput → Receiver = λ type decl. record { type = type; name = ident_text unit.ident; derive = unit.derive; decl = decl } in
+      ok_same result (option_map answered) (outcome (run setting before (made type decl) stmts asked)) (outcome (run setting before (receiver_of setting unit) stmts asked))
+      (ap₂ (λ type decl. outcome (run setting before (made type decl) stmts asked)) same found) known
+
+  -- and of the function that has them
+  pub named_ran : {E : Type 0} (result : Result (Option (Result Datum ErrorView)) E) (such : FuncName → Bool) (unit : Unit') (asked : Asked) (stmts : List Stmt)
+      → Some stmts ≡ stmts_named such unit.funcs
+      → IfOk result (λ it. option_map answered it ≡ outcome (run setting before (receiver_of setting unit) stmts asked))
+      → IfOk result (λ it. option_map answered it ≡ run_func setting before such unit asked)
+  named_ran result such unit asked stmts named known =
+      ok_same result (option_map answered) (outcome (run setting before (receiver_of setting unit) stmts asked)) (run_func setting before such unit asked)
+      (ap (option_and_then (λ stmts. outcome (run setting before (receiver_of setting unit) stmts asked))) named) known
 
 -- what is put in the state that a slot was taken out of is put in that before
 pub put_back : {E : Type 0} (result : Result (Unit {0}) E) (after taken old : State) (place : ℕ) (done change : Change)

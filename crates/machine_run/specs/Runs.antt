@@ -1,20 +1,39 @@
 -- What is done in a run.
-use Rattle.std.specs.Prelude.{List}
-use Rattle.node_expr.specs.declared.ty.«Type».{«Type» as Type'}
+use Rattle.std.specs.Prelude.{List, fold}
+use Rattle.base_core.specs.declared.text.Text.{Text}
+use Rattle.node_core.specs.declared.attr.Attribute.{Attribute}
+use Rattle.codegen_program.specs.declared.forward.Forward.{Forward}
 use Rattle.codegen_program.specs.declared.stmt.Stmt.{Stmt}
+use Rattle.machine_read.specs.Asked.{Items}
+use Rattle.machine_read.specs.Attributes.{on_attribute}
 use Rattle.machine_read.specs.NestedMeta.{NestedMeta}
 use Rattle.machine_read.specs.HostSays.{HostSays}
+use Rattle.machine_read.specs.Progress.{Progress}
+use Rattle.machine_read.specs.Reads.{Before}
+use Rattle.machine_read.specs.Receivers.{Receiver}
 use Rattle.machine_read.specs.Setting.{Setting}
-use Rattle.machine_read.specs.Convert.{Earlier}
-use Rattle.machine_read.specs.Progress.{Items, Progress}
-use Rattle.machine_read.specs.Scopes.{under}
+use Rattle.machine_read.specs.Scopes.{setting_in}
 use Rattle.machine_read.specs.Statements.{run_from}
+use Rattle.machine_run.specs.Seen.{receiver_of}
 use Rattle.machine_run.specs.declared.run.Run.{Run}
 
--- what is done under the scope of a run and at the type that it reads
-abbrev pub in_run : {H D A : Type 0} → (H → HostSays) → (D → Earlier) → Run H D → (Setting → Earlier → Type' → A) → A
-in_run says earlier run done = under says earlier run.scope done run.ty.now
+-- the setting of a run
+abbrev pub run_setting : {H D : Type 0} → (H → HostSays) → Run H D → Setting
+run_setting says run = setting_in says run.scope.setting
+
+-- what is made of a receiver by the host alone
+abbrev pub making : {H D A : Type 0} → (H → HostSays) → Run H D → (Setting → Receiver → A) → A
+making says run make = make (run_setting says run) (receiver_of run.receiver)
+
+-- what is done under the scope of a run and for the receiver that it makes
+abbrev pub in_run : {H D A : Type 0} → (H → HostSays) → (D → Before) → Run H D → (Setting → Before → Receiver → A) → A
+in_run says before run done = done (run_setting says run) (before run.scope.declared.now) (receiver_of run.receiver)
 
 -- what statements do on the items of a list
-abbrev pub on_list : {H D : Type 0} → (H → HostSays) → (D → Earlier) → Run H D → List Stmt → List NestedMeta → Progress → Progress
-on_list says earlier run stmts list = in_run says earlier run run_from stmts (Items list)
+abbrev pub on_list : {H D : Type 0} → (H → HostSays) → (D → Before) → Run H D → List Stmt → List NestedMeta → Progress → Progress
+on_list says before run stmts list = in_run says before run run_from stmts (Items list)
+
+-- what statements do on the items of attributes of these names, where others may be kept
+abbrev pub on_attributes : {H D : Type 0} → (H → HostSays) → (D → Before) → Run H D → List Stmt → List Text → Forward → List Attribute → Progress → Progress
+on_attributes says before run stmts names forward attributes progress =
+    fold (on_attribute (on_list says before run stmts) names forward) progress attributes

@@ -1,6 +1,8 @@
 -- What contracts see of a run: its slots, its state, what it is run on, and how far it has come.
 use Rattle.std.specs.Prelude.{◌≡◌, Bool, List, map, Option, Result, Ok, Err}
+use Rattle.std.specs.Option.{option_copied}
 use denote.Ref.{Bor}
+use Rattle.tok_types.specs.Ident.{ident_text}
 use Rattle.node_expr.specs.declared.ty.«Type».{«Type» as Type'}
 use Rattle.error_core.specs.ErrorView.{ErrorView}
 use Rattle.error_core.specs.Answers.{refusal}
@@ -10,12 +12,12 @@ use Rattle.machine_value.specs.declared.value.Value.{Value as Datum}
 use Rattle.machine_run.specs.declared.slot.Slot.{Slot as Held}
 use Rattle.machine_run.specs.declared.slot.Slot.TheVariants as held
 use Rattle.machine_run.specs.declared.state.State.{State as Stands}
-use Rattle.machine_run.specs.declared.given.Given.{Given as On}
-use Rattle.machine_run.specs.declared.given.Given.TheVariants as on
+use Rattle.machine_run.specs.declared.receiver.Receiver.{Receiver as Makes}
 use Rattle.machine_run.specs.declared.progress.Progress.{Progress as Come}
 use Rattle.machine_run.specs.declared.progress.Progress.TheVariants as come
 use Rattle.machine_read.specs.State.{Slot, One, Several, State}
-use Rattle.machine_read.specs.Progress.{Given, Items, Input, Progress, Going, Built, Ended, Stuck}
+use Rattle.machine_read.specs.Progress.{Progress, Going, Built, Ended, Stuck, no_aside}
+use Rattle.machine_read.specs.Receivers.{Receiver}
 
 abbrev pub slot_of : Held → Slot
 slot_of (held.One ty seen value) = One ty.now seen value
@@ -39,9 +41,9 @@ change_of it = (slot_of it.0, it.1)
 abbrev pub StateSeen : Type 0
 StateSeen = State
 
-abbrev pub given_of : On → Given
-given_of (on.Items items) = Items items.now
-given_of (on.Input input) = Input input.now
+-- what a function makes
+abbrev pub receiver_of : Makes → Receiver
+receiver_of it = record { type = it.ty.now; name = ident_text it.ident.now; derive = it.derive; decl = option_copied it.decl }
 
 -- the outcome that an answer is
 abbrev pub answered : Result Datum ErrorView → Outcome Datum
@@ -56,9 +58,10 @@ ending (Faults fault more) = Ended fault more
 abbrev pub ended : ErrorView → Progress
 ended error = ending (refusal error)
 
--- how far the run has come whose state this is
+-- How far the run has come whose state this is. Nothing stands beside the state yet: no statement that keeps or stores a part
+-- of the element has been run.
 abbrev pub progress_of : State → Come → Progress
-progress_of state come.Going = Going state
+progress_of state come.Going = Going state no_aside
 progress_of state (come.Built answer) = Built (answered answer)
 progress_of state (come.Ended error) = ended error
 progress_of state come.Stuck = Stuck

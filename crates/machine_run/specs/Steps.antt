@@ -1,20 +1,36 @@
 -- How contracts say what a step of a run does.
-use Rattle.std.specs.Prelude.{◌≡◌, ℕ, List, Option, Result, IfOk, OnOk, option_map}
+use Rattle.std.specs.Prelude.{◌≡◌, ℕ, List, map, Option, Result, IfOk, OnOk, option_map}
 use Rattle.std.specs.declared.alloc.AllocError.{AllocError}
+use Rattle.tok_types.specs.Ident.{ident_text}
 use Rattle.tok_types.specs.declared.ident.Ident.{Ident}
+use Rattle.node_core.specs.declared.style.Style.{Style}
 use Rattle.error_core.specs.Answers.{Answers, Fails}
 use Rattle.error_core.specs.ErrorView.{ErrorView}
 use Rattle.error_core.specs.declared.fail.Fail.{Fail}
 use Rattle.error_fault.specs.declared.fault.Fault.{Fault}
-use Rattle.error_fault.specs.Outcome.{Outcome}
+use Rattle.error_fault.specs.Outcome.{Outcome, on_value}
 use Rattle.machine_value.specs.declared.value.Value.{Value as Datum}
+use Rattle.machine_value.specs.declared.value.Value.TheVariants as value
+use Rattle.machine_value.specs.Members.{labelled}
+use Rattle.node_core.specs.Meta.{path_of_meta}
+use Rattle.node_core.specs.declared.attr.Attribute.{Attribute}
+use Rattle.codegen_program.specs.declared.callable.Callable.{Callable}
+use Rattle.codegen_program.specs.declared.forward.Forward.{Forward}
+use Rattle.codegen_program.specs.declared.init.DefaultSource.{DefaultSource}
 use Rattle.codegen_program.specs.declared.init.Init.{Init}
+use Rattle.codegen_program.specs.declared.shape.ShapeSpec.{ShapeSpec}
 use Rattle.machine_read.specs.Setting.{Setting}
 use Rattle.machine_read.specs.Progress.{Progress, Going, building, built_or_stuck, going, on_outcome}
 use Rattle.machine_read.specs.NestedMeta.{NestedMeta}
 use Rattle.machine_read.specs.Slots.{init_value, init_values}
 use Rattle.machine_read.specs.State.{Slot, State, put, slot_at}
-use Rattle.machine_read.specs.Statements.{built_struct, on_items}
+use Rattle.machine_read.specs.Asked.{Asked}
+use Rattle.machine_read.specs.Attributes.{keep, on_items, passes}
+use Rattle.machine_read.specs.Elements.{Element}
+use Rattle.machine_read.specs.Parts.{body_step, shape_step}
+use Rattle.machine_read.specs.Reads.{Before}
+use Rattle.machine_read.specs.Receivers.{Receiver}
+use Rattle.machine_read.specs.Statements.{moving, source_value}
 use Rattle.machine_run.specs.declared.progress.Progress.{Progress as Come}
 use Rattle.machine_run.specs.declared.slot.Slot.{Slot as Held}
 use Rattle.machine_run.specs.declared.state.State.{State as Stands}
@@ -26,7 +42,7 @@ Goes step old before new result = IfOk result (λ it. progress_of (state_of new)
 
 -- a run that goes on goes on from the next state
 abbrev pub Moves : (State → State) → Stands → Come → Stands → Result Come AllocError → Type 0
-Moves next old before new result = Goes (going (λ state. Going (next state))) old before new result
+Moves next old before new result = Goes (moving next) old before new result
 
 -- the state behind the step is the next one
 abbrev pub Becomes : (State → State) → Stands → Stands → Result (Unit {0}) AllocError → Type 0
@@ -59,15 +75,38 @@ IsOutcome result outcome = IfOk result (λ it. option_map answered it ≡ outcom
 abbrev pub change_at : ℕ → (Slot → Change) → State → State
 change_at place change state = put place (change (slot_at state.slots place)) state
 
+-- the default of the receiver
+abbrev pub default_of : Setting → Receiver → Asked → DefaultSource → Outcome Datum
+default_of setting receiver asked source = source_value setting receiver.type asked source
+
 -- goes on with the default of the receiver, and else ends with its faults
 abbrev pub with_default : Outcome Datum → Progress → Progress
-with_default default = going (λ state. on_outcome default (λ whole. Going (record state { whole = whole })))
+with_default default = going (λ state aside. on_outcome default (λ whole. Going (record state { whole = whole }) aside))
 
 -- the value of a member, by its slot
 abbrev pub member_value : Setting → State → Init → Option (Outcome Datum)
 member_value setting state init = init_value setting state.whole init.fallback (slot_at state.slots init.slot)
 
 -- the struct of the values of its members, or what a default of one refuses
-abbrev pub struct_built : Setting → Ident → List Init → State → Progress
-struct_built setting name inits state =
-    built_or_stuck (option_map (built_struct name inits) (init_values setting state.whole state.slots inits))
+abbrev pub struct_built : Setting → Style → Ident → List Init → State → Progress
+struct_built setting style name inits state =
+    built_or_stuck (option_map (on_value (λ values. value.Struct (ident_text name) style (labelled (map (λ init. init.member) inits) values)))
+    (init_values setting state.whole state.slots inits))
+
+-- ---- parts of the element, whatever it is
+
+-- the attribute is kept where it passes
+abbrev pub Keeps : Forward → Attribute → Come → Result Come AllocError → Type 0
+Keeps forward attribute before result =
+    (state : State) → IfOk result (λ it. progress_of state it ≡ keep (passes forward (path_of_meta attribute.meta)) attribute (progress_of state before))
+
+-- the shape is looked at
+abbrev pub ChecksShape : ShapeSpec → Come → Result Come AllocError → Type 0
+ChecksShape spec before result =
+    (element : Element) (state : State) → IfOk result (λ it. progress_of state it ≡ shape_step spec element (progress_of state before))
+
+-- the body is read into the field
+abbrev pub ReadsBody : Option Ident → Option Callable → Come → Result Come AllocError → Type 0
+ReadsBody ident with old result =
+    (setting : Setting) (before : Before) (receiver : Receiver) (element : Element) (state : State)
+    → IfOk result (λ it. progress_of state it ≡ body_step setting before receiver element ident with (progress_of state old))

@@ -3,17 +3,19 @@
 ghost use Rattle.std.specs.Prelude.{Some};
 ghost use Rattle.std.specs.Option.{option_copied};
 ghost use Rattle.error_core.specs.Answers.{Answers};
-ghost use Rattle.machine_read.specs.Scopes.{setting_in, under};
+ghost use Rattle.machine_read.specs.Asked.{asked_of};
+ghost use Rattle.machine_read.specs.Building.{build_step};
+ghost use Rattle.machine_read.specs.Elements.{element_of};
+ghost use Rattle.machine_read.specs.Scopes.{under};
 ghost use Rattle.machine_read.specs.Progress.{going};
 ghost use Rattle.machine_read.specs.Reading.{transformed};
 ghost use Rattle.machine_read.specs.Slots as slots;
 ghost use Rattle.machine_read.specs.Statements as spec;
-ghost use Rattle.machine_run.specs.Runs.{in_run};
-ghost use Rattle.machine_run.specs.Seen.{given_of, slot_of, state_of};
-ghost use Rattle.machine_run.specs.Steps.{Builds, Comes, Goes, IsOutcome, member_value, struct_built, with_default};
+ghost use Rattle.machine_run.specs.Runs.{making, run_setting};
+ghost use Rattle.machine_run.specs.Seen.{slot_of, state_of};
+ghost use Rattle.machine_run.specs.Steps.{Builds, Comes, Goes, IsOutcome, default_of, member_value, struct_built, with_default};
 
 use crate::faults::{again, known};
-use crate::given::Given;
 use crate::members::{member, push_member, struct_of};
 use crate::progress::Progress;
 use crate::run::Run;
@@ -22,8 +24,9 @@ use crate::state::State;
 use base_core::{Items, Mem, TryClone};
 use codegen_program::{DefaultSource, Fallback, Forwarded, Init, PostfixTransform};
 use error_core::{Error, Result};
-use machine_read::{Arg, Declared, Host, Use};
+use machine_read::{Arg, Asked, Declared, Element, Host, Use};
 use machine_value::Value;
+use node_core::Style;
 use node_expr::Type;
 use std::alloc::AllocError;
 use std::result;
@@ -34,16 +37,16 @@ impl<'p, H: Host, D: Declared> Run<'p, H, D> {
     #[tactic(auto, using(crate::proofs::Stopped::goes_over, crate::proofs::Stopped::goes_on))]
     pub(crate) fn set_default(
         &self,
-        given: Given<'_>,
+        asked: Asked<'_>,
         from: &DefaultSource,
         state: &mut State<'p>,
         progress: Progress,
     ) -> Mem<Progress>
-        ensures { Goes (with_default (in_run H.says D.earlier self.now spec.source_value (given_of given.entry) from.now)) state.old progress state.new result }
+        ensures { Goes (with_default (making H.says self.now default_of (asked_of asked.entry) from.now)) state.old progress state.new result }
     {
         match progress.over() {
             Some(over) => Ok(over),
-            None => match known(self.source_value(given, from))? {
+            None => match known(self.source_value(asked, from))? {
                 Ok(whole) => {
                     state.whole = whole;
                     Ok(Progress::Going)
@@ -54,37 +57,65 @@ impl<'p, H: Host, D: Declared> Run<'p, H, D> {
     }
 
     /// The default of the receiver.
-    fn source_value(&self, given: Given<'_>, from: &DefaultSource) -> Result<Value>
-        ensures { Answers (λ it. it) result (in_run H.says D.earlier self.now spec.source_value (given_of given.entry) from.now) }
+    fn source_value(&self, asked: Asked<'_>, from: &DefaultSource) -> Result<Value>
+        ensures { Answers (λ it. it) result (making H.says self.now default_of (asked_of asked.entry) from.now) }
     {
         let alloc = self.scope.alloc;
         let setting = &self.scope.setting;
         match from {
             DefaultSource::Explicit(callable) => {
-                setting.ask(alloc, callable, Use::Default, self.ty, Arg::Nothing)
+                setting.ask(
+                    alloc,
+                    callable,
+                    Use::Default,
+                    self.receiver.ty,
+                    Arg::Nothing,
+                )
             }
-            DefaultSource::Trait => Ok(setting.default(alloc, self.ty)?),
-            DefaultSource::FromIdent => match given {
-                Given::Input(input) => setting.from_ident(alloc, self.ty, &input.ident),
-                Given::Items(_) => Ok(setting.default(alloc, self.ty)?),
+            DefaultSource::Trait => Ok(setting.default(alloc, self.receiver.ty)?),
+            DefaultSource::FromIdent => match asked {
+                Asked::Element(element) => self.from_ident(element),
+                Asked::Cell(_) => Ok(setting.default(alloc, self.receiver.ty)?),
             },
+        }
+    }
+
+    /// What the identifier of an element makes; without one it is the default of the type.
+    fn from_ident(&self, element: Element<'_>) -> Result<Value>
+        ensures { Answers (λ it. it) result (spec.from_ident (run_setting H.says self.now) self.now.receiver.ty.now (element_of element.entry)) }
+    {
+        let alloc = self.scope.alloc;
+        let setting = &self.scope.setting;
+        let ty = self.receiver.ty;
+        match element {
+            Element::Nested(_) | Element::Attributes(_) => Ok(setting.default(alloc, ty)?),
+            Element::Input(it) => setting.from_ident(alloc, ty, Arg::Ident(&it.ident)),
+            Element::Variant(it) => setting.from_ident(alloc, ty, Arg::Ident(&it.ident)),
+            Element::TypeParam(it) => setting.from_ident(alloc, ty, Arg::Ident(&it.ident)),
+            Element::Field(it) => {
+                setting.from_ident(alloc, ty, Arg::OptionalIdent(it.ident.as_ref()))
+            }
         }
     }
 
     /// Builds the receiver. No unit builds a variant yet, or takes parts of the element.
     pub(crate) fn build_form(
         &self,
+        asked: Asked<'_>,
         name: &Ident,
-        variant: Option<&Ident>,
-        forwarded: &[Forwarded],
+        variant: &Option<Ident>,
+        parts: &[Forwarded],
         inits: &[Init],
         state: &mut State<'p>,
         progress: Progress,
     ) -> Mem<Progress>
-        ensures { Goes (spec.build_step (setting_in H.says self.now.scope.setting) name.now (option_copied variant.entry) forwarded.now inits.now) state.old progress state.new result }
+        ensures { Goes (making H.says self.now build_step (asked_of asked.entry) name.now variant.now parts.now inits.now) state.old progress state.new result }
     {
-        match (variant, forwarded) {
-            (None, []) => self.build(name, inits, state, progress),
+        match (variant, parts) {
+            (None, []) => {
+                let style = self.receiver.built_style(asked);
+                self.build(style, name, inits, state, progress)
+            }
             _ => Err(AllocError),
         }
     }
@@ -93,22 +124,23 @@ impl<'p, H: Host, D: Declared> Run<'p, H, D> {
     #[tactic(auto, using(crate::proofs::Stopped::goes_over, crate::proofs::Stopped::goes_on))]
     fn build(
         &self,
+        style: Style,
         name: &Ident,
         inits: &[Init],
         state: &mut State<'p>,
         progress: Progress,
     ) -> Mem<Progress>
-        ensures { Goes (going (struct_built (setting_in H.says self.now.scope.setting) name.now inits.now)) state.old progress state.new result }
+        ensures { Goes (going (λ it aside. struct_built (run_setting H.says self.now) style name.now inits.now it)) state.old progress state.new result }
     {
         match progress.over() {
             Some(over) => Ok(over),
-            None => self.built(name, inits, state),
+            None => self.built(style, name, inits, state),
         }
     }
 
     /// What is built of the values of the members.
-    fn built(&self, name: &Ident, inits: &[Init], state: &State<'p>) -> Mem<Progress>
-        ensures { Comes (struct_built (setting_in H.says self.now.scope.setting) name.now inits.now (state_of state.now)) result }
+    fn built(&self, style: Style, name: &Ident, inits: &[Init], state: &State<'p>) -> Mem<Progress>
+        ensures { Comes (struct_built (run_setting H.says self.now) style name.now inits.now (state_of state.now)) result }
     {
         let alloc = self.scope.alloc;
         let mut members = Items::new(alloc);
@@ -119,7 +151,7 @@ impl<'p, H: Host, D: Declared> Run<'p, H, D> {
                 Some(Ok(value)) => push_member(alloc, &mut members, &init.member, value)?,
             }
         }
-        let value = struct_of(alloc, name, members)?;
+        let value = struct_of(alloc, name, style, members)?;
         Ok(Progress::Built(Ok(value)))
     }
 
@@ -129,7 +161,7 @@ impl<'p, H: Host, D: Declared> Run<'p, H, D> {
         init: &Init,
         state: &State<'p>,
     ) -> Mem<Option<result::Result<Value, Error>>>
-        ensures { IsOutcome result (member_value (setting_in H.says self.now.scope.setting) (state_of state.now) init.now) }
+        ensures { IsOutcome result (member_value (run_setting H.says self.now) (state_of state.now) init.now) }
     {
         match state.slots.get(init.slot as usize) {
             Some(slot) => self.slot_value(slot, &state.whole, init.fallback.as_ref()),
@@ -148,7 +180,7 @@ impl<'p, H: Host, D: Declared> Run<'p, H, D> {
         whole: &Value,
         fallback: Option<&Fallback>,
     ) -> Mem<Option<result::Result<Value, Error>>>
-        ensures { IsOutcome result (slots.init_value (setting_in H.says self.now.scope.setting) whole.now (option_copied fallback.entry) (slot_of slot.now)) }
+        ensures { IsOutcome result (slots.init_value (run_setting H.says self.now) whole.now (option_copied fallback.entry) (slot_of slot.now)) }
     {
         let alloc = self.scope.alloc;
         match slot {
@@ -168,7 +200,7 @@ impl<'p, H: Host, D: Declared> Run<'p, H, D> {
 
     /// What stands for a list without a value: it is empty, where nothing does.
     fn empty_list(&self, ty: &Type, whole: &Value, fallback: Option<&Fallback>) -> Result<Value>
-        ensures { Answers (λ it. it) result (slots.empty_list (setting_in H.says self.now.scope.setting) ty.now whole.now (option_copied fallback.entry)) }
+        ensures { Answers (λ it. it) result (slots.empty_list (run_setting H.says self.now) ty.now whole.now (option_copied fallback.entry)) }
     {
         match fallback {
             Some(fallback) => self.fallback_value(ty, whole, fallback),
@@ -178,7 +210,7 @@ impl<'p, H: Host, D: Declared> Run<'p, H, D> {
 
     /// What stands for the value of a slot that has none.
     fn fallback_value(&self, ty: &Type, whole: &Value, fallback: &Fallback) -> Result<Value>
-        ensures { Answers (λ it. it) result (slots.fallback_value (setting_in H.says self.now.scope.setting) ty.now whole.now fallback.now) }
+        ensures { Answers (λ it. it) result (slots.fallback_value (run_setting H.says self.now) ty.now whole.now fallback.now) }
     {
         let alloc = self.scope.alloc;
         match fallback {
@@ -194,11 +226,13 @@ impl<'p, H: Host, D: Declared> Run<'p, H, D> {
 
     /// What a transform makes of what was built.
     pub(crate) fn transform(&self, post: &PostfixTransform, progress: Progress) -> Mem<Progress>
-        ensures { Builds (under H.says D.earlier self.now.scope transformed (Some post.now) self.now.ty.now) progress result }
+        ensures { Builds (under H.says D.earlier self.now.scope transformed (Some post.now) self.now.receiver.ty.now) progress result }
     {
         match progress.built() {
             Ok(answer) => {
-                let answer = self.scope.transformed(Some(post), self.ty, again(answer));
+                let answer = self
+                    .scope
+                    .transformed(Some(post), self.receiver.ty, again(answer));
                 Ok(Progress::Built(known(answer)?))
             }
             Err(over) => Ok(over),

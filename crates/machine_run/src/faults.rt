@@ -63,7 +63,7 @@ fn error_among(alloc: Global, faults: Items<Fault>) -> Mem<Error>
 }
 
 /// The answer, where it is no want of memory.
-pub(crate) fn known(answer: error_core::Result<Value>) -> Mem<Result<Value, Error>>
+pub fn known(answer: error_core::Result<Value>) -> Mem<Result<Value, Error>>
     ensures { (outcome : Outcome Datum) → Answers (λ it. it) answer outcome → IfOk result (λ it. answered it ≡ outcome) }
 {
     match answer {

@@ -2,8 +2,10 @@
 
 ghost use Rattle.std.specs.Prelude.{◌≡◌, []};
 ghost use Rattle.std.specs.Option.{option_copied};
-ghost use Rattle.machine_read.specs.Progress.{Going, going, unless_faults};
-ghost use Rattle.machine_read.specs.Statements.{placed, refuse as refused, with_slot};
+ghost use Rattle.machine_read.specs.Attributes.{refuse as refused};
+ghost use Rattle.machine_read.specs.Made.{named_type};
+ghost use Rattle.machine_read.specs.Progress.{going, unless_faults};
+ghost use Rattle.machine_read.specs.Statements.{moving, placed, with_slot};
 ghost use Rattle.machine_run.specs.Seen.{progress_of, slot_of, state_of};
 ghost use Rattle.machine_run.specs.Steps.{Goes, Moves, Refuses};
 
@@ -14,13 +16,14 @@ use crate::state::State;
 use base_core::{Items, Mem, Text};
 use error_core::Fail;
 use error_fault::Fault;
+use node_expr::Type;
 use std::alloc::Global;
 use std::mem;
 
 /// No fault has been met yet.
 #[tactic(auto, using(crate::proofs::Stopped::goes_over, crate::proofs::Stopped::goes_on))]
 pub(crate) fn declare_errors(state: &mut State<'_>, progress: Progress) -> Progress
-    ensures { progress_of (state_of state.new) result ≡ going (λ state. Going (record state { faults = [] })) (progress_of (state_of state.old) progress) }
+    ensures { progress_of (state_of state.new) result ≡ moving (λ state. record state { faults = [] }) (progress_of (state_of state.old) progress) }
 {
     match progress.over() {
         Some(over) => over,
@@ -34,7 +37,7 @@ pub(crate) fn declare_errors(state: &mut State<'_>, progress: Progress) -> Progr
 /// No item is kept yet.
 #[tactic(auto, using(crate::proofs::Stopped::goes_over, crate::proofs::Stopped::goes_on))]
 pub(crate) fn declare_buffer(state: &mut State<'_>, progress: Progress) -> Progress
-    ensures { progress_of (state_of state.new) result ≡ going (λ state. Going (record state { kept = [] })) (progress_of (state_of state.old) progress) }
+    ensures { progress_of (state_of state.new) result ≡ moving (λ state. record state { kept = [] }) (progress_of (state_of state.old) progress) }
 {
     match progress.over() {
         Some(over) => over,
@@ -45,19 +48,23 @@ pub(crate) fn declare_buffer(state: &mut State<'_>, progress: Progress) -> Progr
     }
 }
 
-/// A slot of the next number.
+/// The slot of a number.
 #[tactic(auto, using(crate::proofs::Stopped::goes_over, crate::proofs::Stopped::goes_on))]
 pub(crate) fn declare<'p>(
+    alloc: Global,
+    number: usize,
     slot: Slot<'p>,
+    nameless: &'p Type,
     state: &mut State<'p>,
     progress: Progress,
 ) -> Mem<Progress>
-    ensures { Moves (with_slot (slot_of slot.entry)) state.old progress state.new result }
+    requires { nameless.now ≡ named_type [] }
+    ensures { Moves (with_slot number (slot_of slot.entry)) state.old progress state.new result }
 {
     match progress.over() {
         Some(over) => Ok(over),
         None => {
-            state.slots.push(slot)?;
+            state.declare(alloc, number, slot, nameless)?;
             Ok(Progress::Going)
         }
     }
@@ -98,7 +105,7 @@ pub(crate) fn check_errors(
     state: &mut State<'_>,
     progress: Progress,
 ) -> Mem<Progress>
-    ensures { Goes (going (λ state. unless_faults (placed (option_copied location.entry) state.faults) state)) state.old progress state.new result }
+    ensures { Goes (going (λ it aside. unless_faults (placed (option_copied location.entry) it.faults) it aside)) state.old progress state.new result }
 {
     match progress.over() {
         Some(over) => Ok(over),

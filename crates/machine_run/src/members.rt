@@ -48,12 +48,16 @@ pub(crate) fn push_member(
     members.push((name, value))
 }
 
-/// The struct of this name with these members.
-pub(crate) fn struct_of(alloc: Global, name: &Ident, fields: Items<(Text, Value)>) -> Mem<Value>
-    ensures { IfOk result (λ it. it ≡ spec.struct_of (ident_text name.now) fields) }
+/// The struct of this name with these members, written in this style.
+pub(crate) fn struct_of(
+    alloc: Global,
+    name: &Ident,
+    style: Style,
+    fields: Items<(Text, Value)>,
+) -> Mem<Value>
+    ensures { IfOk result (λ it. it ≡ Value.Struct (ident_text name.now) style fields) }
 {
     let name = name.to_text(alloc)?;
-    let style = Style::Struct;
     Ok(Value::Struct {
         name,
         style,

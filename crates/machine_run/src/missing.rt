@@ -31,7 +31,8 @@ impl<'p, H: Host, D: Declared> Run<'p, H, D> {
         progress: Progress,
     ) -> Mem<Progress>
         requires { D.reads_within self.now.scope.declared.now self.now.room }
-        ensures { Moves (λ it. change_at place (under H.says D.earlier self.now.scope spec.read_flat names.now it.kept) it) state.old progress state.new result }
+        ensures { Moves (λ it. change_at place (under H.says D.earlier self.now.scope spec.read_flat names.now it.kept) it)
+            state.old progress state.new result }
     {
         match progress.over() {
             Some(over) => Ok(over),

@@ -1,21 +1,23 @@
 //! A run of the statements of a function.
 
-ghost use Rattle.std.specs.Prelude.{◌≡◌, [], fold};
+ghost use Rattle.std.specs.Prelude.{◌≡◌, []};
 ghost use Rattle.meta_entries.specs.Attributes.{attribute_items};
+ghost use Rattle.machine_read.specs.Asked.{asked_of};
+ghost use Rattle.machine_read.specs.Attributes as attributes;
 ghost use Rattle.machine_read.specs.Made.{named_type};
 ghost use Rattle.machine_read.specs.Statements as spec;
-ghost use Rattle.machine_run.specs.Seen.{given_of};
-ghost use Rattle.machine_run.specs.Steps.{Goes};
+ghost use Rattle.machine_run.specs.Seen.{slot_of};
+ghost use Rattle.machine_run.specs.Steps.{Goes, Moves};
 
 use crate::flat::{check_errors, declare, declare_buffer, declare_errors, refuse_list};
-use crate::given::Given;
-use crate::parts::{check_shape, read_body};
+use crate::parts::{check_shape, keep, read_body};
 use crate::progress::Progress;
+use crate::receiver::Receiver;
 use crate::slot::Slot;
 use crate::state::State;
 use base_core::{Items, Mem, Text};
-use codegen_program::Stmt;
-use machine_read::{Declared, Host, NestedMeta, Scope, Setting};
+use codegen_program::{Forward, Stmt};
+use machine_read::{Asked, Call, Declared, Host, NestedMeta, Scope, Setting};
 use meta_entries::{attribute_items, is_named};
 use node_core::{Attribute, Meta};
 use node_expr::Type;
@@ -26,33 +28,32 @@ pub struct Run<'p, H, D> {
     pub scope: Scope<'p, H, D>,
     /// How many levels deep types are read; what is deeper is want of memory.
     pub room: usize,
-    /// The type that is read.
-    pub ty: &'p Type,
+    pub receiver: Receiver<'p>,
     /// The type of a slot that is not there.
     pub nameless: &'p Type,
     ghost is_nameless: { nameless.now ≡ named_type [] },
 }
 
 impl<'p, H: Host, D: Declared> Run<'p, H, D> {
-    ghost use Rattle.machine_run.specs.Runs.{in_run, on_list};
+    ghost use Rattle.machine_run.specs.Runs.{in_run, on_attributes, on_list};
 
     /// Runs the statements one after another. Statements in statements stand no deeper than `nesting` levels; what is
     /// deeper is want of memory.
     #[cycle(stmts)]
     pub fn run_from(
         &self,
-        given: Given<'_>,
+        asked: Asked<'_>,
         stmts: &'p [Stmt],
         nesting: usize,
         state: &mut State<'p>,
         progress: Progress,
     ) -> Mem<Progress>
         requires { D.reads_within self.now.scope.declared.now self.now.room }
-        ensures { Goes (in_run H.says D.earlier self.now spec.run_from stmts.now (given_of given.entry)) state.old progress state.new result }
+        ensures { Goes (in_run H.says D.earlier self.now spec.run_from stmts.now (asked_of asked.entry)) state.old progress state.new result }
     {
         let mut progress = progress;
         for stmt in stmts {
-            progress = self.act(given, stmt, nesting, state, progress)?;
+            progress = self.act(asked, stmt, nesting, state, progress)?;
         }
         Ok(progress)
     }
@@ -61,36 +62,40 @@ impl<'p, H: Host, D: Declared> Run<'p, H, D> {
     #[cycle(stmts)]
     fn act(
         &self,
-        given: Given<'_>,
+        asked: Asked<'_>,
         stmt: &'p Stmt,
         nesting: usize,
         state: &mut State<'p>,
         progress: Progress,
     ) -> Mem<Progress>
         requires { D.reads_within self.now.scope.declared.now self.now.room }
-        ensures { Goes (in_run H.says D.earlier self.now spec.does stmt.now (given_of given.entry)) state.old progress state.new result }
+        ensures { Goes (in_run H.says D.earlier self.now spec.does stmt.now (asked_of asked.entry)) state.old progress state.new result }
     {
         match stmt {
             Stmt::DeclareErrors => Ok(declare_errors(state, progress)),
-            Stmt::DeclareOne { ty, .. } => declare(Slot::One(ty, false, None), state, progress),
-            Stmt::DeclareMany { ty, .. } => {
-                declare(
-                    Slot::Several(ty, Items::new(self.scope.alloc)),
-                    state,
-                    progress,
-                )
+            Stmt::DeclareOne { slot, ty, .. } => {
+                self.declare(*slot as usize, Slot::One(ty, false, None), state, progress)
+            }
+            Stmt::DeclareMany { slot, ty, .. } => {
+                let values = Items::new(self.scope.alloc);
+                self.declare(*slot as usize, Slot::Several(ty, values), state, progress)
             }
             Stmt::DeclareBuffer => Ok(declare_buffer(state, progress)),
-            Stmt::ForAttributes { names, items, .. } => self.for_attributes(
-                given.attributes(),
+            Stmt::ForAttributes {
+                names,
+                items,
+                forward,
+            } => self.for_attributes(
+                asked.attributes(),
                 names.as_slice(),
+                forward,
                 items.as_slice(),
                 nesting,
                 state,
                 progress,
             ),
             Stmt::ForItems { arms, rest } => {
-                self.for_items(given.items(), arms, rest, state, progress)
+                self.for_items(asked.items(), arms, rest, state, progress)
             }
             Stmt::ReadFlatten { slot, names } => {
                 self.read_flatten(*slot as usize, names, state, progress)
@@ -101,15 +106,16 @@ impl<'p, H: Host, D: Declared> Run<'p, H, D> {
             Stmt::CheckErrors { location } => {
                 check_errors(self.scope.alloc, location.as_ref(), state, progress)
             }
-            Stmt::SetDefault { from } => self.set_default(given, from, state, progress),
+            Stmt::SetDefault { from } => self.set_default(asked, from, state, progress),
             Stmt::Build {
                 name,
                 variant,
                 forwarded,
                 inits,
             } => self.build_form(
+                asked,
                 name,
-                variant.as_ref(),
+                variant,
                 forwarded.as_slice(),
                 inits.as_slice(),
                 state,
@@ -117,7 +123,7 @@ impl<'p, H: Host, D: Declared> Run<'p, H, D> {
             ),
             Stmt::Transform { post } => self.transform(post, progress),
             Stmt::CheckShape { shapes } => check_shape(shapes, progress),
-            Stmt::ReadBody { ident, .. } => read_body(ident.as_ref(), progress),
+            Stmt::ReadBody { ident, with } => read_body(ident.as_ref(), with.as_ref(), progress),
             // No unit has them yet.
             Stmt::DeclareForward { .. }
             | Stmt::ForwardDone { .. }
@@ -129,24 +135,47 @@ impl<'p, H: Host, D: Declared> Run<'p, H, D> {
         }
     }
 
-    /// Reads the items of each attribute of these names, and runs the statements on them.
+    /// Declares the slot of a number.
+    fn declare(
+        &self,
+        number: usize,
+        slot: Slot<'p>,
+        state: &mut State<'p>,
+        progress: Progress,
+    ) -> Mem<Progress>
+        ensures { Moves (spec.with_slot number (slot_of slot.entry)) state.old progress state.new result }
+    {
+        declare(
+            self.scope.alloc,
+            number,
+            slot,
+            self.nameless,
+            state,
+            progress,
+        )
+    }
+
+    /// Reads the items of each attribute of these names, and runs the statements on them; others are kept where they pass.
     #[cycle(stmts)]
     fn for_attributes(
         &self,
         attributes: &[Attribute],
         names: &[Text],
+        forward: &Forward,
         stmts: &'p [Stmt],
         nesting: usize,
         state: &mut State<'p>,
         progress: Progress,
     ) -> Mem<Progress>
         requires { D.reads_within self.now.scope.declared.now self.now.room }
-        ensures { Goes (λ it. fold (spec.on_attribute (on_list H.says D.earlier self.now stmts.now) names.now) it attributes.now) state.old progress state.new result }
+        ensures { Goes (on_attributes H.says D.earlier self.now stmts.now names.now forward.now attributes.now) state.old progress state.new result }
     {
         let mut progress = progress;
         for attribute in attributes {
             if is_named(self.scope.alloc, names, attribute.meta.path())? {
                 progress = self.on_meta(&attribute.meta, stmts, nesting, state, progress)?;
+            } else {
+                progress = keep(forward, attribute, progress)?;
             }
         }
         Ok(progress)
@@ -163,7 +192,7 @@ impl<'p, H: Host, D: Declared> Run<'p, H, D> {
         progress: Progress,
     ) -> Mem<Progress>
         requires { D.reads_within self.now.scope.declared.now self.now.room }
-        ensures { Goes (spec.on_meta (on_list H.says D.earlier self.now stmts.now) meta.now) state.old progress state.new result }
+        ensures { Goes (attributes.on_meta (on_list H.says D.earlier self.now stmts.now) meta.now) state.old progress state.new result }
     {
         match meta {
             Meta::Path(_) => Ok(progress),
@@ -182,7 +211,7 @@ impl<'p, H: Host, D: Declared> Run<'p, H, D> {
         progress: Progress,
     ) -> Mem<Progress>
         requires { D.reads_within self.now.scope.declared.now self.now.room }
-        ensures { Goes (spec.on_items (on_list H.says D.earlier self.now stmts.now) (attribute_items meta.now)) state.old progress state.new result }
+        ensures { Goes (attributes.on_items (on_list H.says D.earlier self.now stmts.now) (attribute_items meta.now)) state.old progress state.new result }
     {
         match attribute_items(self.scope.alloc, meta) {
             Ok(items) => self.inside(items.as_slice(), stmts, nesting, state, progress),
@@ -206,7 +235,13 @@ impl<'p, H: Host, D: Declared> Run<'p, H, D> {
         if nesting == 0 {
             return Err(AllocError);
         }
-        self.run_from(Given::Items(items), stmts, nesting - 1, state, progress)
+        self.run_from(
+            Asked::Cell(Call::List(items)),
+            stmts,
+            nesting - 1,
+            state,
+            progress,
+        )
     }
 }
 
@@ -215,7 +250,7 @@ impl<H, D> Drop for Run<'_, H, D> {
         let Self {
             scope,
             room: _,
-            ty: _,
+            receiver: _,
             nameless: _,
         } = self;
         let Scope {

@@ -3,7 +3,8 @@
 ghost use Rattle.std.specs.Prelude.{◌≡◌, [], OnOk, map, slice_set};
 ghost use Rattle.machine_read.specs.Made.{named_type};
 ghost use Rattle.machine_read.specs.Progress.{start};
-ghost use Rattle.machine_read.specs.State.{put, slot_at};
+ghost use Rattle.machine_read.specs.State.{declared, put, slot_at};
+ghost use Rattle.machine_read.specs.Statements.{with_slot};
 ghost use Rattle.machine_run.specs.Seen.{Change, slot_of, state_of};
 
 use crate::slot::Slot;
@@ -50,6 +51,20 @@ impl<'p> State<'p> {
         empty
     }
 
+    /// Declares the slot of a number.
+    pub(crate) fn declare(
+        &mut self,
+        alloc: Global,
+        number: usize,
+        slot: Slot<'p>,
+        nameless: &'p Type,
+    ) -> Mem<()>
+        requires { nameless.now ≡ named_type [] }
+        ensures { OnOk result (state_of self.new ≡ with_slot number (slot_of slot.entry) (state_of self.old)) }
+    {
+        declare_at(alloc, &mut self.slots, number, slot, nameless)
+    }
+
     /// Puts a slot back, and faults behind those before.
     #[tactic(auto, using(crate::proofs::Held::put_is))]
     pub(crate) fn put(&mut self, place: usize, slot: Slot<'p>, faults: Items<Fault>) -> Mem<()>
@@ -58,6 +73,28 @@ impl<'p> State<'p> {
         set_at(&mut self.slots, place, slot);
         self.faults.append(faults)
     }
+}
+
+/// Declares the slot of a number. Programs that options give number their slots one after another, so that each stands behind all
+/// before it; a program by hand may skip numbers, and what is skipped takes memory as slots do.
+fn declare_at<'p>(
+    alloc: Global,
+    slots: &mut Items<Slot<'p>>,
+    number: usize,
+    slot: Slot<'p>,
+    nameless: &'p Type,
+) -> Mem<()>
+    requires { nameless.now ≡ named_type [] }
+    ensures { OnOk result (map slot_of slots.new ≡ declared number (slot_of slot.entry) (map slot_of slots.old)) }
+{
+    if number < slots.len() {
+        slots.set(number, slot);
+        return Ok(());
+    }
+    for _at in slots.len()..number {
+        slots.push(Slot::Several(nameless, Items::new(alloc)))?;
+    }
+    slots.push(slot)
 }
 
 /// Puts a slot in the place of another; nothing stands past the last.

@@ -16,15 +16,8 @@ use Rattle.machine_rows.specs.Rows.{element_of}
 use Rattle.machine_host.specs.Decls.{decl_names}
 use Rattle.machine_value.specs.Members.{no_value}
 use Rattle.machine_value.specs.declared.value.Value.{Value as Datum}
+pub use Rattle.machine_steps.specs.Reads.{Earlier}
 use Rattle.machine_steps.specs.Setting.{Setting, outcome_of, row}
-
--- what the declarations of lower numbers read from a list of items
-abbrev pub Earlier : Type 0
-Earlier = ℕ → List NestedMeta → Outcome Datum
-
--- a declaration reads a list
-abbrev pub declared_cells : Earlier → ℕ → Cells Datum
-declared_cells earlier number = record no_cells { list = λ items. Some (earlier number items) }
 
 module _ (setting : Setting) where
   -- a type of the host reads what the host says
@@ -61,7 +54,7 @@ module _ (setting : Setting) where
   module _ (earlier : Earlier) where
     -- the cells of a type
     abbrev pub cells : Type' → Cells Datum
-    cells type = row_cells (declared_cells earlier) host_cells (row setting type)
+    cells type = row_cells earlier host_cells (row setting type)
 
     -- an item: a meta and a bad value by their calls, a literal by its own
     abbrev pub convert : Type' → NestedMeta → Outcome Datum

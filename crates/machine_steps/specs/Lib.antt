@@ -1,4 +1,7 @@
 pub mod Names
+pub mod Elements
+pub mod Asked
+pub mod Reads
 pub mod Setting
 pub mod Convert
 pub mod Reading
@@ -6,10 +9,19 @@ pub mod Below
 pub mod State
 pub mod Progress
 pub mod Slots
+pub mod Receivers
+pub mod Outer
+pub mod Attributes
+pub mod Shapes
+pub mod Parts
+pub mod Building
+pub mod Variants
+pub mod Calls
 pub mod Statements
 pub mod Machine
 pub use Rattle.machine_cells.specs.Defaults
 pub use Rattle.machine_host.specs.Callable
+pub use Rattle.machine_host.specs.Cells
 pub use Rattle.machine_host.specs.Decls
 pub use Rattle.machine_host.specs.Dispatch
 pub use Rattle.machine_host.specs.HostSays

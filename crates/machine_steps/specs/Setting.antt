@@ -1,5 +1,5 @@
 -- What a declaration is read under: the host, and the declarations of the text.
-use Rattle.std.specs.Prelude.{List, Some}
+use Rattle.std.specs.Prelude.{List, Option, Some}
 use Rattle.node_core.specs.declared.derive.DeriveInput.{DeriveInput}
 use Rattle.node_expr.specs.declared.path.Path.{Path}
 use Rattle.node_expr.specs.declared.ty.«Type».{«Type» as Type'}
@@ -41,7 +41,11 @@ module _ (setting : Setting) where
   abbrev pub row : Type' → Row
   row type = row_of (decl_names setting.decls) type
 
+  -- what the host answers where it is asked for a type, by a callable or by none
+  abbrev pub answer : Option Callable → Use → Type' → SeenArg → Said
+  answer call use_at type arg =
+      setting.host.answer (erased_decls setting.decls) call (erased_place (record { at = use_at; ty = type })) arg
+
   -- what a callable answers where it is asked for a type
   abbrev pub ask : Callable → Use → Type' → SeenArg → Outcome Datum
-  ask callable use_at type arg =
-      outcome_of (setting.host.answer (erased_decls setting.decls) (Some (without_places callable)) (erased_place (record { at = use_at; ty = type })) arg)
+  ask callable use_at type arg = outcome_of (answer (Some (without_places callable)) use_at type arg)

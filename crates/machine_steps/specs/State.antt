@@ -1,5 +1,5 @@
 -- The state of a run, and what items make of it.
-use Rattle.std.specs.Prelude.{ℕ, Bool, true, false, cond, List, [], ◌∷◌, ◌++◌, length, Option, Some, None, slice_set, slice_index_or, codes}
+use Rattle.std.specs.Prelude.{ℕ, zero, suc, Bool, true, false, cond, List, [], ◌∷◌, ◌++◌, length, Option, Some, None, slice_set, slice_index_or, codes}
 use Rattle.std.specs.Str.{bytes_eq}
 use Rattle.base_core.specs.declared.text.Text.{Text}
 use Rattle.machine_host.specs.NestedMeta.{NestedMeta}
@@ -45,8 +45,19 @@ with_faults faults state = record state { faults = state.faults ++ faults }
 abbrev pub put : ℕ → Slot × List Fault → State → State
 put place change state = record state { slots = slice_set state.slots place change.0; faults = state.faults ++ change.1 }
 
+-- what stands at a number that has no slot
+abbrev pub nowhere : Slot
+nowhere = Several (named_type []) []
+
 abbrev pub slot_at : List Slot → ℕ → Slot
-slot_at slots place = slice_index_or slots place (Several (named_type []) [])
+slot_at slots place = slice_index_or slots place nowhere
+
+-- the slot of this number; below it stands nothing yet where no slot is
+abbrev pub declared : ℕ → Slot → List Slot → List Slot
+declared zero slot [] = slot ∷ []
+declared zero slot (first ∷ more) = slot ∷ more
+declared (suc number) slot [] = nowhere ∷ declared number slot []
+declared (suc number) slot (first ∷ more) = first ∷ declared number slot more
 
 -- what an unseen slot becomes, and the faults that this adds
 abbrev pub filled : Type' → Text → Outcome Datum → Slot × List Fault

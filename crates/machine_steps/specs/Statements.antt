@@ -1,130 +1,105 @@
 -- What each statement does.
-use Rattle.std.specs.Prelude.{◌≡◌, false, List, [], ◌∷◌, ◌++◌, fold, map, Option, Some, None, option_map, if◌then◌else◌}
+use Rattle.std.specs.Prelude.{◌≡◌, ℕ, false, List, [], ◌++◌, fold, map, Option, Some, None}
 use Rattle.base_core.specs.declared.text.Text.{Text}
-use Rattle.tok_types.specs.Ident.{ident_text}
-use Rattle.tok_types.specs.declared.ident.Ident.{Ident}
 use Rattle.node_expr.specs.declared.ty.«Type».{«Type» as Type'}
-use Rattle.node_core.specs.Meta.{path_of_meta}
-use Rattle.node_core.specs.declared.attr.Attribute.{Attribute}
-use Rattle.node_core.specs.declared.attr.Meta.{Meta}
-use Rattle.node_core.specs.declared.attr.Meta.TheVariants as meta
 use Rattle.machine_host.specs.NestedMeta.{NestedMeta}
 use Rattle.error_fault.specs.declared.fault.Fault.{Fault}
 use Rattle.error_fault.specs.Faults.{at}
-use Rattle.error_fault.specs.Outcome.{Outcome, Value, Faults, on_value}
-use Rattle.meta_entries.specs.Attributes.{attribute_items, is_named}
-use Rattle.machine_host.specs.HostSays.{erased_decls, erased_place}
-use Rattle.machine_host.specs.Seen.{NothingSeen, IdentSeen}
+use Rattle.error_fault.specs.Outcome.{Outcome, Value}
+use Rattle.machine_host.specs.Seen.{SeenArg, NothingSeen}
 use Rattle.machine_host.specs.declared.place.Use.TheVariants as use_at
 use Rattle.machine_value.specs.declared.value.Value.{Value as Datum}
-use Rattle.machine_value.specs.Members.{struct_of, labelled}
-use Rattle.codegen_program.specs.declared.forwarded.Forwarded.{Forwarded}
 use Rattle.codegen_program.specs.declared.init.DefaultSource.{DefaultSource}
 use Rattle.codegen_program.specs.declared.init.DefaultSource.TheVariants as sources
-use Rattle.codegen_program.specs.declared.init.Init.{Init}
-use Rattle.codegen_program.specs.declared.shape.ShapeSpec.{ShapeSpec}
-use Rattle.codegen_program.specs.declared.shape.ShapeSpec.TheVariants as shapes
 use Rattle.codegen_program.specs.declared.stmt.Stmt.{Stmt, fold-Stmt}
 use Rattle.codegen_program.specs.declared.stmt.Stmt.TheOpen.{Stmt-F}
-use Rattle.machine_steps.specs.Setting.{Setting, ask, outcome_of}
-use Rattle.machine_steps.specs.Convert.{Earlier, default}
+use Rattle.machine_steps.specs.Asked.{Asked, Items, attributes_asked, element_asked, items_asked, text_asked}
+use Rattle.machine_steps.specs.Attributes.{on_attribute}
+use Rattle.machine_steps.specs.Building.{build_step, ident_seen}
+use Rattle.machine_steps.specs.Calls.{call, delegate}
+use Rattle.machine_steps.specs.Convert.{default}
+use Rattle.machine_steps.specs.Elements.{Element, OnNested, OnAttributes}
+use Rattle.machine_steps.specs.Parts.{body_step, forward_done, generics_read, shape_step}
+use Rattle.machine_steps.specs.Progress.{Progress, Going, Built, building, going, no_aside, on_outcome, start, unless_faults}
 use Rattle.machine_steps.specs.Reading.{transformed}
-use Rattle.machine_steps.specs.State.{Slot, One, Several, State, put, slot_at, step, with_faults}
-use Rattle.machine_steps.specs.Progress.{Given, Items, Input, items_given, attributes_given, Progress, Going, Stuck, start, going, building, unless_faults, on_outcome, built_or_stuck}
-use Rattle.machine_steps.specs.Slots.{read_flat, check_missing, init_values}
+use Rattle.machine_steps.specs.Reads.{Before, metas}
+use Rattle.machine_steps.specs.Receivers.{Receiver}
+use Rattle.machine_steps.specs.Setting.{Setting, answer, ask, outcome_of}
+use Rattle.machine_steps.specs.Slots.{read_flat, check_missing}
+use Rattle.machine_steps.specs.State.{Slot, One, Several, State, declared, put, slot_at, step}
+use Rattle.machine_steps.specs.Variants.{unit_names, variants}
 
 -- what a statement makes of the progress of a run
 abbrev pub Doing : Type 0
-Doing = Given → Progress → Progress
+Doing = Asked → Progress → Progress
 
 -- one after another
 abbrev pub all_do : List Doing → Doing
-all_do doings given progress = fold (λ progress doing. doing given progress) progress doings
+all_do doings asked progress = fold (λ progress doing. doing asked progress) progress doings
 
--- the slot of the next number
-abbrev pub with_slot : Slot → State → State
-with_slot slot state = record state { slots = state.slots ++ slot ∷ [] }
+-- what statements make of the items of a list, from the start
+abbrev pub inside : List Doing → List NestedMeta → Progress
+inside doings items = all_do doings (Items items) (Going start no_aside)
 
--- more faults
-abbrev pub refuse : List Fault → Progress → Progress
-refuse faults = going (λ state. Going (with_faults faults state))
+-- the state alone goes on
+abbrev pub moving : (State → State) → Progress → Progress
+moving next = going (λ state aside. Going (next state) aside)
+
+-- the slot of a number
+abbrev pub with_slot : ℕ → Slot → State → State
+with_slot number slot state = record state { slots = declared number slot state.slots }
 
 -- the faults, located where a name is given
 abbrev pub placed : Option Text → List Fault → List Fault
 placed None faults = faults
 placed (Some name) faults = at faults name
 
--- the items of a list, or what is wrong with it
-abbrev pub on_items : (List NestedMeta → Progress → Progress) → Outcome (List NestedMeta) → Progress → Progress
-on_items read (Value items) progress = read items progress
-on_items read (Faults fault more) progress = refuse (fault ∷ more) progress
+module _ (setting : Setting) (type : Type') where
+  -- what an identifier makes, which no callable is asked for
+  abbrev pub made_of_ident : SeenArg → Outcome Datum
+  made_of_ident seen = outcome_of (answer setting None use_at.FromIdent type seen)
 
--- an attribute that is read: a word gives nothing
-abbrev pub on_meta : (List NestedMeta → Progress → Progress) → Meta → Progress → Progress
-on_meta read (meta.Path path) progress = progress
-on_meta read it progress = on_items read (attribute_items it) progress
-
--- an attribute, where its name is one of these
-abbrev pub on_attribute : (List NestedMeta → Progress → Progress) → List Text → Progress → Attribute → Progress
-on_attribute read names progress attribute =
-    if is_named names (path_of_meta attribute.meta) then on_meta read attribute.meta progress else progress
-
--- the struct of these values
-abbrev pub built_struct : Ident → List Init → Outcome (List Datum) → Outcome Datum
-built_struct name inits values =
-    on_value (λ values. struct_of (ident_text name) (labelled (map (λ init. init.member) inits) values)) values
-
--- builds the receiver from its slots; no unit builds a variant yet, or takes parts of the element
-abbrev pub build_step : Setting → Ident → Option Ident → List Forwarded → List Init → Progress → Progress
-build_step setting name None [] inits =
-    going (λ state. built_or_stuck (option_map (built_struct name inits) (init_values setting state.whole state.slots inits)))
-build_step setting name None (part ∷ parts) inits = λ progress. Stuck
-build_step setting name (Some variant) forwarded inits = λ progress. Stuck
-
--- looks at the shape of the element; no unit asks for one yet
-abbrev pub shape_step : ShapeSpec → Progress → Progress
-shape_step shapes.Any progress = progress
-shape_step _ progress = Stuck
-
--- reads the body into a field; no unit has such a field yet
-abbrev pub body_step : Option Ident → Progress → Progress
-body_step None progress = progress
-body_step (Some ident) progress = Stuck
-
-module _ (setting : Setting) (earlier : Earlier) (type : Type') where
-  -- what the identifier of an item makes
-  abbrev pub from_ident : Given → Outcome Datum
-  from_ident (Items items) = Value (default setting type)
-  from_ident (Input input) =
-      outcome_of (setting.host.answer (erased_decls setting.decls) None (erased_place (record { at = use_at.FromIdent; ty = type })) (IdentSeen input.ident))
+  -- what the identifier of an element makes; without one it is the default of the type
+  abbrev pub from_ident : Element → Outcome Datum
+  from_ident (OnNested it) = Value (default setting type)
+  from_ident (OnAttributes attrs) = Value (default setting type)
+  from_ident it = made_of_ident (ident_seen it)
 
   -- the default of the receiver, which is this type
-  abbrev pub source_value : Given → DefaultSource → Outcome Datum
-  source_value given sources.Trait = Value (default setting type)
-  source_value given (sources.Explicit callable) = ask setting callable use_at.Default type NothingSeen
-  source_value given sources.FromIdent = from_ident given
+  abbrev pub source_value : Asked → DefaultSource → Outcome Datum
+  source_value asked sources.Trait = Value (default setting type)
+  source_value asked (sources.Explicit callable) = ask setting callable use_at.Default type NothingSeen
+  source_value asked sources.FromIdent = from_ident (element_asked asked)
 
-  -- What a statement does, from what the statements in it do. Those of forms that no unit has yet are stuck.
+module _ (setting : Setting) (before : Before) (receiver : Receiver) where
+  -- what a statement does, from what the statements in it do
   abbrev pub stmt_step : Stmt-F Doing → Doing
-  stmt_step Stmt-F.DeclareErrors given = going (λ state. Going (record state { faults = [] }))
-  stmt_step (Stmt-F.DeclareOne number ident ty) given = going (λ state. Going (with_slot (One ty false None) state))
-  stmt_step (Stmt-F.DeclareMany number ident ty) given = going (λ state. Going (with_slot (Several ty []) state))
-  stmt_step Stmt-F.DeclareBuffer given = going (λ state. Going (record state { kept = [] }))
-  stmt_step (Stmt-F.ForAttributes names items forward) given =
-      λ progress. fold (on_attribute (λ list. all_do items (Items list)) names) progress (attributes_given given)
-  stmt_step (Stmt-F.ForItems arms rest) given = going (λ state. Going (fold (step setting earlier arms rest) state (items_given given)))
-  stmt_step (Stmt-F.ReadFlatten number names) given =
-      going (λ state. Going (put number (read_flat setting earlier names state.kept (slot_at state.slots number)) state))
-  stmt_step (Stmt-F.CheckMissing number ty name) given =
-      going (λ state. Going (put number (check_missing setting earlier ty name (slot_at state.slots number)) state))
-  stmt_step (Stmt-F.CheckErrors location) given = going (λ state. unless_faults (placed location state.faults) state)
-  stmt_step (Stmt-F.SetDefault source) given =
-      going (λ state. on_outcome (source_value given source) (λ whole. Going (record state { whole = whole })))
-  stmt_step (Stmt-F.Build name variant forwarded inits) given = build_step setting name variant forwarded inits
-  stmt_step (Stmt-F.Transform post) given = building (transformed setting earlier (Some post) type)
-  stmt_step (Stmt-F.CheckShape shapes) given = shape_step shapes
-  stmt_step (Stmt-F.ReadBody ident with) given = body_step ident
-  stmt_step _ given = λ progress. Stuck
+  stmt_step Stmt-F.DeclareErrors asked = moving (λ state. record state { faults = [] })
+  stmt_step (Stmt-F.DeclareOne number ident ty) asked = moving (with_slot number (One ty false None))
+  stmt_step (Stmt-F.DeclareMany number ident ty) asked = moving (with_slot number (Several ty []))
+  stmt_step Stmt-F.DeclareBuffer asked = moving (λ state. record state { kept = [] })
+  stmt_step (Stmt-F.DeclareForward ident) asked = going (λ state aside. Going state (record aside { kept = [] }))
+  stmt_step (Stmt-F.ForAttributes names items forward) asked =
+      λ progress. fold (on_attribute (λ list. all_do items (Items list)) names forward) progress (attributes_asked asked)
+  stmt_step (Stmt-F.ForwardDone ident with) asked = going (forward_done setting before receiver (element_asked asked) ident with)
+  stmt_step (Stmt-F.ForItems arms rest) asked = moving (λ state. fold (step setting (metas before) arms rest) state (items_asked asked))
+  stmt_step (Stmt-F.ReadFlatten number names) asked =
+      moving (λ state. put number (read_flat setting (metas before) names state.kept (slot_at state.slots number)) state)
+  stmt_step (Stmt-F.CheckMissing number ty name) asked =
+      moving (λ state. put number (check_missing setting (metas before) ty name (slot_at state.slots number)) state)
+  stmt_step (Stmt-F.CheckErrors location) asked = going (λ state aside. unless_faults (placed location state.faults) state aside)
+  stmt_step (Stmt-F.SetDefault source) asked =
+      going (λ state aside. on_outcome (source_value setting receiver.type asked source) (λ whole. Going (record state { whole = whole }) aside))
+  stmt_step (Stmt-F.Build name variant forwarded inits) asked = build_step setting receiver asked name variant forwarded inits
+  stmt_step (Stmt-F.Transform post) asked = building (transformed setting (metas before) (Some post) receiver.type)
+  stmt_step (Stmt-F.CheckShape shapes) asked = shape_step shapes (element_asked asked)
+  stmt_step (Stmt-F.ReadBody ident with) asked = body_step setting before receiver (element_asked asked) ident with
+  stmt_step (Stmt-F.ReadGenerics ident with) asked = going (generics_read setting before receiver (element_asked asked) ident with)
+  stmt_step (Stmt-F.Delegate name member ty) asked = going (λ state aside. Built (delegate setting before name member ty asked))
+  stmt_step (Stmt-F.Variants arms names) asked = going (λ state aside. variants setting (metas before) receiver.name inside names arms (items_asked asked))
+  stmt_step (Stmt-F.UnitNames arms names) asked =
+      going (λ state aside. Built (unit_names setting (metas before) receiver.name names arms (text_asked asked)))
+  stmt_step (Stmt-F.Call callable at) asked = going (λ state aside. call setting receiver callable at asked)
 
   abbrev pub does : Stmt → Doing
   does = fold-Stmt Doing stmt_step
@@ -134,11 +109,11 @@ module _ (setting : Setting) (earlier : Earlier) (type : Type') where
   run_from stmts = all_do (map does stmts)
 
   -- a function of these statements, from the start
-  abbrev pub run : List Stmt → Given → Progress
-  run stmts given = run_from stmts given (Going start)
+  abbrev pub run : List Stmt → Asked → Progress
+  run stmts asked = run_from stmts asked (Going start no_aside)
 
 -- statements behind others go on from where those came to
 abbrev pub RunInOrder : Type 0
 RunInOrder =
-    (setting : Setting) (earlier : Earlier) (type : Type') (first second : List Stmt) (given : Given) (progress : Progress)
-    → run_from setting earlier type (first ++ second) given progress ≡ run_from setting earlier type second given (run_from setting earlier type first given progress)
+    (setting : Setting) (before : Before) (receiver : Receiver) (first second : List Stmt) (asked : Asked) (progress : Progress)
+    → run_from setting before receiver (first ++ second) asked progress ≡ run_from setting before receiver second asked (run_from setting before receiver first asked progress)

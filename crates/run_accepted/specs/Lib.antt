@@ -7,6 +7,7 @@ pub mod Steps
 pub mod Unbuilt
 pub mod Accepted
 pub use Rattle.machine_fit.specs.Machine
+pub use Rattle.machine_fit.specs.Receivers
 pub use Rattle.machine_fit.specs.Setting
 pub use Rattle.machine_fit.specs.Unfitness
 pub use Rattle.machine_forms.specs.Places

@@ -1,5 +1,6 @@
 -- The receiver of accepted declarations, and what it makes of an item.
 use Rattle.std.proofs.Common.{◌≡◌, ◌∙◌, ◌<◌, ◌+◌, ◌-◌, ◌==◌, ◌&&◌, ◌||◌, ℕ, Bool, true, false, cond, nat_lt, List, [], ◌∷◌, length, position, slice_get, Option, Some, None, option_and_then, option_map, refl, sym, ap, subst₂, arith}
+use Rattle.std.specs.Prelude.{if◌then◌else◌}
 use Rattle.std.specs.List.{AllZip, find, list_any, position_or_len}
 use Rattle.std.proofs.lemmas.Bool.{and_parts, cond-true}
 use Rattle.std.proofs.lemmas.Bool.Decides.{Decides-eqb, Decides-ltb, nat_tests}
@@ -11,10 +12,11 @@ use Rattle.codegen_program.specs.declared.program.Derive.{Derive}
 use Rattle.codegen_program.specs.declared.program.Derive.TheVariants as derive
 use Rattle.codegen_program.specs.declared.program.Program.{Program}
 use Rattle.codegen_program.specs.declared.program.«Unit».{«Unit» as Unit'}
-use Rattle.codegen_program.specs.Traits.{is_input}
+use Rattle.codegen_program.specs.Traits.{is_input, same_derive}
 use Rattle.law_options.specs.Units.{is_of, is_receiver as is_received}
 use Rattle.law_options.specs.Unfitness.{refusals}
 use Rattle.machine_execute.specs.Elements.{OnInput, machine_on, unit_on}
+use Rattle.machine_execute.specs.Machine.{machine}
 use Rattle.law_options.specs.HostSays.{HostSays}
 use Rattle.law_options.specs.Values.{Rules}
 use Rattle.run_accepted.specs.Attributes.{without_attributes}
@@ -87,6 +89,15 @@ made_of rules decls units place unit zip at reads =
       subst₂ P (sym same) (derive_is rules it.number it.decl it.derive unit made reads) made,
     )
 
+-- what reads items of a text is of that derive
+input_same : (it : Derive) → is_input it ≡ true → same_derive it derive.FromDeriveInput ≡ true
+input_same derive.FromDeriveInput reads = refl
+input_same derive.FromMeta reads = absurd cc
+input_same derive.FromAttributes reads = absurd cc
+input_same derive.FromField reads = absurd cc
+input_same derive.FromTypeParam reads = absurd cc
+input_same derive.FromVariant reads = absurd cc
+
 pub accepted_is_meant : AcceptedIsMeant
 accepted_is_meant host rules decls program built is =
     let (number, unit, first, at, passes) = first_receiver host program is.fits in
@@ -100,7 +111,8 @@ accepted_is_meant host rules decls program built is =
     let means : (subject : DeriveInput) → machine_on host program number (OnInput subject) ≡ Some (meaning subject) =
     λ subject.
     ap (option_and_then (λ unit. unit_on host program unit (OnInput subject))) at
-    ∙ program_is_meant host rules decls program unit.decl last unit subject is.sound.compiled (at_place IsBuilt decls (length decls - 1) last built is_end) made
+    ∙ ap (λ b. if b then machine host program unit subject else None) (input_same unit.derive parts.1)
+    ∙ program_is_meant host rules decls program unit.decl last unit subject is.sound.compiled stands (at_place IsBuilt decls (length decls - 1) last built is_end) made
     ∙ ap (λ number. Some (text_meaning host rules decls number last subject)) end in (
       record { number = number; receiver = first; outcomes = λ subject. (meaning subject, means subject) },
       λ subject.

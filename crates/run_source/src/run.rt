@@ -8,7 +8,7 @@ use crate::units::receiver;
 use base_core::{Items, Mem};
 use codegen_program::Program;
 use law_options::Host;
-use machine_execute::{Element, Outcome, execute};
+use machine_execute::{Element, Outcome, Prepared};
 use node_core::DeriveInput;
 use std::alloc::Global;
 
@@ -23,7 +23,7 @@ pub fn run_program<H: Host>(
     ensures { IfOk result (λ outcomes. map Some outcomes ≡ map (spec.outcome (H.says host.now) program.now) subjects.now) }
 {
     match receiver(program)? {
-        Some(unit) => outcomes_by(alloc, program, unit, subjects, host),
+        Some(unit) => outcomes_by(alloc, &Prepared::of(program), unit, subjects, host),
         None => unreachable!(),
     }
 }
@@ -31,7 +31,7 @@ pub fn run_program<H: Host>(
 /// What the unit of this number makes of each item, in order.
 fn outcomes_by<H: Host>(
     alloc: Global,
-    program: &Program,
+    program: &Prepared<'_>,
     unit: u32,
     subjects: &[DeriveInput],
     host: &H,
@@ -41,7 +41,7 @@ fn outcomes_by<H: Host>(
 {
     let mut outcomes = Items::new(alloc);
     for subject in subjects {
-        let outcome = execute(alloc, program, unit, Element::Input(subject), host)?;
+        let outcome = program.execute(alloc, unit, Element::Input(subject), host)?;
         outcomes.push(outcome)?;
     }
     Ok(outcomes)

@@ -2,10 +2,11 @@
 //! counts 0, 1, 2.
 
 use crate::hosts::answer_of;
+use crate::outer_types::outer_text;
 use crate::programs::{arm_at, by_hand, come_of, named_twice, outcome, program_of};
 use crate::sources::{derives, repeated, without};
 use crate::statements::of_last;
-use crate::types::{declared, deeper, element, of_host, row_of_table, row_text};
+use crate::types::{beside, deeper, element, of_host, row_of_table, row_text};
 use machine_host::RefusingHost;
 use machine_std::StdHost;
 use node_core::{Span, Text};
@@ -32,7 +33,9 @@ fn told(alloc: Global, kind: &str, argument: &str) -> Tested<Text> {
         "row of the table" => row_of_table(alloc, argument),
         "row" => row_text(alloc, &[], argument),
         "row of the host" => of_host(alloc, argument),
-        "row beside declarations" => declared(alloc, argument),
+        "row beside declarations" => row_text(alloc, beside(alloc)?.as_slice(), argument),
+        "outer row" => outer_text(alloc, &[], argument),
+        "outer row beside declarations" => outer_text(alloc, beside(alloc)?.as_slice(), argument),
         "row in an option" => deeper(alloc, argument),
         "element" => element(alloc, argument),
         "derives" => derives(alloc, argument),

@@ -109,13 +109,13 @@ fn ident(alloc: Global, text: &str) -> Tested<Ident> {
     }
 }
 
-/// The row of a type beside declarations of these names.
-pub fn declared(alloc: Global, text: &str) -> Tested<Text> {
+/// The names of some declarations.
+pub fn beside(alloc: Global) -> Tested<Items<Ident>> {
     let mut decls = Items::new(alloc);
     for name in ["Thing", "String", "Option", "r#Ident", "Meta", "Thing"] {
         decls.push(ident(alloc, name)?)?;
     }
-    row_text(alloc, decls.as_slice(), text)
+    Ok(decls)
 }
 
 /// The row of an `Option` of a type, which no text has around the deepest.

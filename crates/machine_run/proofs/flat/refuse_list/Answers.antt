@@ -1,4 +1,4 @@
-use Rattle.machine_read.specs.Statements.{on_items, refuse}
+use Rattle.machine_read.specs.Attributes.{on_items, refuse}
 use Rattle.machine_run.specs.Seen.{progress_of, state_of}
 use Rattle.machine_run.proofs.Listless.{listless}
 use Rattle.machine_run.proofs.Steps.{ok_same}

@@ -1,18 +1,23 @@
-use Rattle.std.proofs.Common.{◌≡◌, List, [], Result, Ok, ap, fold, rules, ◌∙◌}
+use Rattle.std.proofs.Common.{◌≡◌, false, List, [], None, Result, Ok, ap, fold, rules, ◌∙◌}
 use Rattle.std.specs.declared.alloc.AllocError.{AllocError}
 use Rattle.base_core.specs.declared.text.Text.{Text}
 use Rattle.node_core.specs.declared.attr.Attribute.{Attribute}
 use Rattle.codegen_program.specs.declared.stmt.Stmt.{Stmt}
 use Rattle.machine_read.proofs.Statements as steps
 use Rattle.machine_read.specs.NestedMeta.{NestedMeta}
-use Rattle.machine_read.specs.Progress.{Progress, Going, attributes_given, going, items_given, unless_faults}
+use Rattle.machine_read.specs.Asked.{asked_of, attributes_asked, element_asked, items_asked}
+use Rattle.machine_read.specs.Attributes.{on_attribute}
+use Rattle.machine_read.specs.Building.{build_step}
+use Rattle.machine_read.specs.Parts.{body_step}
+use Rattle.machine_read.specs.Progress.{Aside, Progress, going, unless_faults}
+use Rattle.machine_read.specs.Reads.{metas}
 use Rattle.machine_read.specs.Scopes.{setting_in}
 use Rattle.machine_read.specs.Slots.{read_flat}
-use Rattle.machine_read.specs.State.{Several, State, step}
+use Rattle.machine_read.specs.State.{One, Several, State, step}
 use Rattle.machine_read.specs.Statements as spec
 use Rattle.machine_run.specs.Runs.{on_list}
-use Rattle.machine_run.specs.Seen.{given_of, progress_of, state_of}
-use Rattle.machine_run.specs.Steps.{Goes, Moves, change_at, struct_built}
+use Rattle.machine_run.specs.Seen.{progress_of, receiver_of, state_of}
+use Rattle.machine_run.specs.Steps.{Goes, Moves, change_at}
 use Rattle.machine_run.specs.declared.progress.Progress.{Progress as Come}
 use Rattle.machine_run.proofs.Metas.{itemed, unlisted}
 use Rattle.machine_run.proofs.Steps.{acted, ok_same}
@@ -21,146 +26,150 @@ use Rattle.machine_run.proofs.run.Run.+stmts.Goals as goal
 pub act-returns-in-DeclareErrors : goal.act-returns-in-DeclareErrors
 act-returns-in-DeclareErrors g t c =
     let setting = setting_in g.H.Host.says c.args.self.now.scope.setting in
-    let earlier = g.D.Declared.earlier c.args.self.now.scope.declared.now in
+    let before = g.D.Declared.earlier c.args.self.now.scope.declared.now in
     let result : Result Come AllocError = Ok c.declare_errors.result in
-    let act = acted g.H.Host.says g.D.Declared.earlier c.args.self.now (given_of c.args.given) c.args.state.now c.args.progress c.args.stmt.now in
+    let act = acted g.H.Host.says g.D.Declared.earlier c.args.self.now (asked_of c.args.asked) c.args.state.now c.args.progress c.args.stmt.now in
     act _ _ c.declare_errors.new.state result c.in-DeclareErrors.is
-    (steps.declare_errors setting earlier c.args.self.now.ty.now) c.declare_errors.ensures
+    (steps.declare_errors setting before (receiver_of c.args.self.now.receiver)) c.declare_errors.ensures
 
 pub act-returns-in-DeclareOne : goal.act-returns-in-DeclareOne
 act-returns-in-DeclareOne g t c =
     let setting = setting_in g.H.Host.says c.args.self.now.scope.setting in
-    let earlier = g.D.Declared.earlier c.args.self.now.scope.declared.now in
-    let act = acted g.H.Host.says g.D.Declared.earlier c.args.self.now (given_of c.args.given) c.args.state.now c.args.progress c.args.stmt.now in
+    let before = g.D.Declared.earlier c.args.self.now.scope.declared.now in
+    let act = acted g.H.Host.says g.D.Declared.earlier c.args.self.now (asked_of c.args.asked) c.args.state.now c.args.progress c.args.stmt.now in
+    let next = spec.with_slot c.in-DeclareOne.slot (One c.in-DeclareOne.ty false None) in
+    let known : Moves next c.args.state.now c.args.progress c.declare.new.state c.declare.result = search rules in
     act _ _ c.declare.new.state c.declare.result c.in-DeclareOne.is
-    (steps.declare_one setting earlier c.args.self.now.ty.now _ _ _) c.declare.ensures
+    (steps.declare_one setting before (receiver_of c.args.self.now.receiver) _ _ _) known
 
 pub act-returns-in-DeclareMany : goal.act-returns-in-DeclareMany
 act-returns-in-DeclareMany g t c =
     let setting = setting_in g.H.Host.says c.args.self.now.scope.setting in
-    let earlier = g.D.Declared.earlier c.args.self.now.scope.declared.now in
+    let before = g.D.Declared.earlier c.args.self.now.scope.declared.now in
     let call = c.declare-in-DeclareMany in
-    let next = spec.with_slot (Several c.in-DeclareMany.ty []) in
+    let next = spec.with_slot c.in-DeclareMany.slot (Several c.in-DeclareMany.ty []) in
     let known : Moves next c.args.state.now c.args.progress call.new.state call.result = search rules in
-    let act = acted g.H.Host.says g.D.Declared.earlier c.args.self.now (given_of c.args.given) c.args.state.now c.args.progress c.args.stmt.now in
+    let act = acted g.H.Host.says g.D.Declared.earlier c.args.self.now (asked_of c.args.asked) c.args.state.now c.args.progress c.args.stmt.now in
     act _ _ call.new.state call.result c.in-DeclareMany.is
-    (steps.declare_many setting earlier c.args.self.now.ty.now _ _ _) known
+    (steps.declare_many setting before (receiver_of c.args.self.now.receiver) _ _ _) known
 
 pub act-returns-in-DeclareBuffer : goal.act-returns-in-DeclareBuffer
 act-returns-in-DeclareBuffer g t c =
     let setting = setting_in g.H.Host.says c.args.self.now.scope.setting in
-    let earlier = g.D.Declared.earlier c.args.self.now.scope.declared.now in
+    let before = g.D.Declared.earlier c.args.self.now.scope.declared.now in
     let result : Result Come AllocError = Ok c.declare_buffer.result in
-    let act = acted g.H.Host.says g.D.Declared.earlier c.args.self.now (given_of c.args.given) c.args.state.now c.args.progress c.args.stmt.now in
+    let act = acted g.H.Host.says g.D.Declared.earlier c.args.self.now (asked_of c.args.asked) c.args.state.now c.args.progress c.args.stmt.now in
     act _ _ c.declare_buffer.new.state result c.in-DeclareBuffer.is
-    (steps.declare_buffer setting earlier c.args.self.now.ty.now) c.declare_buffer.ensures
+    (steps.declare_buffer setting before (receiver_of c.args.self.now.receiver)) c.declare_buffer.ensures
 
 pub act-returns-in-ForAttributes : goal.act-returns-in-ForAttributes
 act-returns-in-ForAttributes g t c =
     let setting = setting_in g.H.Host.says c.args.self.now.scope.setting in
-    let earlier = g.D.Declared.earlier c.args.self.now.scope.declared.now in
-    let before = progress_of (state_of c.args.state.now) c.args.progress in
+    let before = g.D.Declared.earlier c.args.self.now.scope.declared.now in
+    let progress = progress_of (state_of c.args.state.now) c.args.progress in
     let names = c.in-ForAttributes.names in
     let stmts = c.in-ForAttributes.items in
     let read : List Text → List Stmt → List Attribute → Progress =
     λ names stmts attributes.
-    fold (spec.on_attribute (on_list g.H.Host.says g.D.Declared.earlier c.args.self.now stmts) names) before attributes in
+    fold (on_attribute (on_list g.H.Host.says g.D.Declared.earlier c.args.self.now stmts) names c.in-ForAttributes.forward) progress attributes in
     let items = c.as_slice-in-ForAttributes.result.now in
-    let all : read c.as_slice.result.now items c.attributes.result.now ≡ read names stmts (attributes_given (given_of c.args.given)) =
+    let all : read c.as_slice.result.now items c.attributes.result.now ≡ read names stmts (attributes_asked (asked_of c.args.asked)) =
     ap (λ names. read names items c.attributes.result.now) c.as_slice.ensures
     ∙ ap (λ stmts. read names stmts c.attributes.result.now) c.as_slice-in-ForAttributes.ensures
     ∙ ap (read names stmts) c.attributes.ensures in
-    let act = acted g.H.Host.says g.D.Declared.earlier c.args.self.now (given_of c.args.given) c.args.state.now c.args.progress c.args.stmt.now in
+    let act = acted g.H.Host.says g.D.Declared.earlier c.args.self.now (asked_of c.args.asked) c.args.state.now c.args.progress c.args.stmt.now in
     act _ _ c.for_attributes.new.state c.for_attributes.result c.in-ForAttributes.is
-    (steps.for_attributes setting earlier c.args.self.now.ty.now _ _ _)
+    (steps.for_attributes setting before (receiver_of c.args.self.now.receiver) _ _ _)
     (ok_same c.for_attributes.result (progress_of (state_of c.for_attributes.new.state)) _ _ all c.for_attributes.ensures)
 
 pub act-returns-in-ForItems : goal.act-returns-in-ForItems
 act-returns-in-ForItems g t c =
     let setting = setting_in g.H.Host.says c.args.self.now.scope.setting in
-    let earlier = g.D.Declared.earlier c.args.self.now.scope.declared.now in
-    let before = progress_of (state_of c.args.state.now) c.args.progress in
+    let before = g.D.Declared.earlier c.args.self.now.scope.declared.now in
+    let progress = progress_of (state_of c.args.state.now) c.args.progress in
     let taken : List NestedMeta → Progress =
-    λ items. going (λ state. Going (fold (step setting earlier c.in-ForItems.arms c.in-ForItems.rest) state items)) before in
-    let all : taken c.items.result.now ≡ taken (items_given (given_of c.args.given)) = ap taken c.items.ensures in
-    let act = acted g.H.Host.says g.D.Declared.earlier c.args.self.now (given_of c.args.given) c.args.state.now c.args.progress c.args.stmt.now in
+    λ items. spec.moving (λ state. fold (step setting (metas before) c.in-ForItems.arms c.in-ForItems.rest) state items) progress in
+    let all : taken c.items.result.now ≡ taken (items_asked (asked_of c.args.asked)) = ap taken c.items.ensures in
+    let act = acted g.H.Host.says g.D.Declared.earlier c.args.self.now (asked_of c.args.asked) c.args.state.now c.args.progress c.args.stmt.now in
     act _ _ c.for_items.new.state c.for_items.result c.in-ForItems.is
-    (steps.for_items setting earlier c.args.self.now.ty.now _ _)
+    (steps.for_items setting before (receiver_of c.args.self.now.receiver) _ _)
     (ok_same c.for_items.result (progress_of (state_of c.for_items.new.state)) _ _ all c.for_items.ensures)
 
 pub act-returns-in-ReadFlatten : goal.act-returns-in-ReadFlatten
 act-returns-in-ReadFlatten g t c =
     let setting = setting_in g.H.Host.says c.args.self.now.scope.setting in
-    let earlier = g.D.Declared.earlier c.args.self.now.scope.declared.now in
+    let before = g.D.Declared.earlier c.args.self.now.scope.declared.now in
     let next : State → State =
-    λ it. change_at c.in-ReadFlatten.slot (read_flat setting earlier c.in-ReadFlatten.names it.kept) it in
+    λ it. change_at c.in-ReadFlatten.slot (read_flat setting (metas before) c.in-ReadFlatten.names it.kept) it in
     let known : Moves next c.args.state.now c.args.progress c.read_flatten.new.state c.read_flatten.result = search rules in
-    let act = acted g.H.Host.says g.D.Declared.earlier c.args.self.now (given_of c.args.given) c.args.state.now c.args.progress c.args.stmt.now in
+    let act = acted g.H.Host.says g.D.Declared.earlier c.args.self.now (asked_of c.args.asked) c.args.state.now c.args.progress c.args.stmt.now in
     act _ _ c.read_flatten.new.state c.read_flatten.result c.in-ReadFlatten.is
-    (steps.read_flatten setting earlier c.args.self.now.ty.now _ _) known
+    (steps.read_flatten setting before (receiver_of c.args.self.now.receiver) _ _) known
 
 pub act-returns-in-CheckMissing : goal.act-returns-in-CheckMissing
 act-returns-in-CheckMissing g t c =
     let setting = setting_in g.H.Host.says c.args.self.now.scope.setting in
-    let earlier = g.D.Declared.earlier c.args.self.now.scope.declared.now in
-    let act = acted g.H.Host.says g.D.Declared.earlier c.args.self.now (given_of c.args.given) c.args.state.now c.args.progress c.args.stmt.now in
+    let before = g.D.Declared.earlier c.args.self.now.scope.declared.now in
+    let act = acted g.H.Host.says g.D.Declared.earlier c.args.self.now (asked_of c.args.asked) c.args.state.now c.args.progress c.args.stmt.now in
     act _ _ c.check_missing.new.state c.check_missing.result c.in-CheckMissing.is
-    (steps.check_missing setting earlier c.args.self.now.ty.now _ _ _) c.check_missing.ensures
+    (steps.check_missing setting before (receiver_of c.args.self.now.receiver) _ _ _) c.check_missing.ensures
 
 pub act-returns-in-CheckErrors : goal.act-returns-in-CheckErrors
 act-returns-in-CheckErrors g t c =
     let setting = setting_in g.H.Host.says c.args.self.now.scope.setting in
-    let earlier = g.D.Declared.earlier c.args.self.now.scope.declared.now in
-    let located : State → Progress = λ state. unless_faults (spec.placed c.in-CheckErrors.location state.faults) state in
+    let before = g.D.Declared.earlier c.args.self.now.scope.declared.now in
+    let located : State → Aside → Progress = λ state aside. unless_faults (spec.placed c.in-CheckErrors.location state.faults) state aside in
     let known : Goes (going located) c.args.state.now c.args.progress c.check_errors.new.state c.check_errors.result =
     search rules in
-    let act = acted g.H.Host.says g.D.Declared.earlier c.args.self.now (given_of c.args.given) c.args.state.now c.args.progress c.args.stmt.now in
+    let act = acted g.H.Host.says g.D.Declared.earlier c.args.self.now (asked_of c.args.asked) c.args.state.now c.args.progress c.args.stmt.now in
     act _ _ c.check_errors.new.state c.check_errors.result c.in-CheckErrors.is
-    (steps.check_errors setting earlier c.args.self.now.ty.now _) known
+    (steps.check_errors setting before (receiver_of c.args.self.now.receiver) _) known
 
 pub act-returns-in-SetDefault : goal.act-returns-in-SetDefault
 act-returns-in-SetDefault g t c =
     let setting = setting_in g.H.Host.says c.args.self.now.scope.setting in
-    let earlier = g.D.Declared.earlier c.args.self.now.scope.declared.now in
-    let act = acted g.H.Host.says g.D.Declared.earlier c.args.self.now (given_of c.args.given) c.args.state.now c.args.progress c.args.stmt.now in
+    let before = g.D.Declared.earlier c.args.self.now.scope.declared.now in
+    let act = acted g.H.Host.says g.D.Declared.earlier c.args.self.now (asked_of c.args.asked) c.args.state.now c.args.progress c.args.stmt.now in
     act _ _ c.set_default.new.state c.set_default.result c.in-SetDefault.is
-    (steps.set_default setting earlier c.args.self.now.ty.now _) c.set_default.ensures
+    (steps.set_default setting before (receiver_of c.args.self.now.receiver) _) c.set_default.ensures
 
 pub act-returns-in-Build : goal.act-returns-in-Build
 act-returns-in-Build g t c =
     let setting = setting_in g.H.Host.says c.args.self.now.scope.setting in
-    let earlier = g.D.Declared.earlier c.args.self.now.scope.declared.now in
-    let built = spec.build_step setting c.in-Build.name c.in-Build.variant c.in-Build.forwarded c.in-Build.inits in
+    let before = g.D.Declared.earlier c.args.self.now.scope.declared.now in
+    let built = build_step setting (receiver_of c.args.self.now.receiver) (asked_of c.args.asked) c.in-Build.name c.in-Build.variant c.in-Build.forwarded c.in-Build.inits in
     let known : Goes built c.args.state.now c.args.progress c.build_form.new.state c.build_form.result = search rules in
-    let act = acted g.H.Host.says g.D.Declared.earlier c.args.self.now (given_of c.args.given) c.args.state.now c.args.progress c.args.stmt.now in
+    let act = acted g.H.Host.says g.D.Declared.earlier c.args.self.now (asked_of c.args.asked) c.args.state.now c.args.progress c.args.stmt.now in
     act _ _ c.build_form.new.state c.build_form.result c.in-Build.is
-    (steps.build setting earlier c.args.self.now.ty.now _ _ _ _) known
+    (steps.build setting before (receiver_of c.args.self.now.receiver) _ _ _ _) known
 
 pub act-returns-in-Transform : goal.act-returns-in-Transform
 act-returns-in-Transform g t c =
     let setting = setting_in g.H.Host.says c.args.self.now.scope.setting in
-    let earlier = g.D.Declared.earlier c.args.self.now.scope.declared.now in
-    let act = acted g.H.Host.says g.D.Declared.earlier c.args.self.now (given_of c.args.given) c.args.state.now c.args.progress c.args.stmt.now in
+    let before = g.D.Declared.earlier c.args.self.now.scope.declared.now in
+    let act = acted g.H.Host.says g.D.Declared.earlier c.args.self.now (asked_of c.args.asked) c.args.state.now c.args.progress c.args.stmt.now in
     let state = state_of c.args.state.now in
     act _ _ c.args.state.now c.transform.result c.in-Transform.is
-    (steps.transform setting earlier c.args.self.now.ty.now _) (c.transform.ensures state state)
+    (steps.transform setting before (receiver_of c.args.self.now.receiver) _) (c.transform.ensures state state)
 
 pub act-returns-in-CheckShape : goal.act-returns-in-CheckShape
 act-returns-in-CheckShape g t c =
     let setting = setting_in g.H.Host.says c.args.self.now.scope.setting in
-    let earlier = g.D.Declared.earlier c.args.self.now.scope.declared.now in
-    let act = acted g.H.Host.says g.D.Declared.earlier c.args.self.now (given_of c.args.given) c.args.state.now c.args.progress c.args.stmt.now in
+    let before = g.D.Declared.earlier c.args.self.now.scope.declared.now in
+    let act = acted g.H.Host.says g.D.Declared.earlier c.args.self.now (asked_of c.args.asked) c.args.state.now c.args.progress c.args.stmt.now in
     act _ _ c.args.state.now c.check_shape.result c.in-CheckShape.is
-    (steps.check_shape setting earlier c.args.self.now.ty.now _) (c.check_shape.ensures (state_of c.args.state.now))
+    (steps.check_shape setting before (receiver_of c.args.self.now.receiver) _) (c.check_shape.ensures (element_asked (asked_of c.args.asked)) (state_of c.args.state.now))
 
 pub act-returns-in-ReadBody : goal.act-returns-in-ReadBody
 act-returns-in-ReadBody g t c =
     let setting = setting_in g.H.Host.says c.args.self.now.scope.setting in
-    let earlier = g.D.Declared.earlier c.args.self.now.scope.declared.now in
-    let known : Goes (spec.body_step c.in-ReadBody.ident) c.args.state.now c.args.progress c.args.state.now c.read_body.result = search rules in
-    let act = acted g.H.Host.says g.D.Declared.earlier c.args.self.now (given_of c.args.given) c.args.state.now c.args.progress c.args.stmt.now in
+    let before = g.D.Declared.earlier c.args.self.now.scope.declared.now in
+    let receiver = receiver_of c.args.self.now.receiver in
+    let body = body_step setting before receiver (element_asked (asked_of c.args.asked)) c.in-ReadBody.ident c.in-ReadBody.with in
+    let known : Goes body c.args.state.now c.args.progress c.args.state.now c.read_body.result = search rules in
+    let act = acted g.H.Host.says g.D.Declared.earlier c.args.self.now (asked_of c.args.asked) c.args.state.now c.args.progress c.args.stmt.now in
     act _ _ c.args.state.now c.read_body.result c.in-ReadBody.is
-    (steps.read_body setting earlier c.args.self.now.ty.now _ _) known
+    (steps.read_body setting before (receiver_of c.args.self.now.receiver) _ _) known
 
 pub on_meta-returns-in_default : goal.on_meta-returns-in_default
 on_meta-returns-in_default g t c =

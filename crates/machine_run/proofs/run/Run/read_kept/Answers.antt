@@ -1,4 +1,5 @@
 use Rattle.std.proofs.Common.{◌≡◌, ap, map, rules, ◌∙◌}
+use Rattle.machine_read.specs.Reads.{metas}
 use Rattle.machine_read.specs.Scopes.{setting_in}
 use Rattle.machine_read.specs.Slots.{read_flat, slot_type}
 use Rattle.machine_read.specs.State.{State, slot_at}
@@ -9,7 +10,7 @@ use Rattle.machine_run.proofs.run.Run.read_kept.Goals as goal
 pub returns : goal.returns
 returns g c =
     let setting = setting_in g.H.Host.says c.args.self.now.scope.setting in
-    let earlier = g.D.Declared.earlier c.args.self.now.scope.declared.now in
+    let earlier = metas (g.D.Declared.earlier c.args.self.now.scope.declared.now) in
     let old = state_of c.args.state.now in
     let slot = slot_at (map slot_of c.args.state.now.slots) c.args.place in
     let change = read_flat setting earlier c.args.names.now c.args.state.now.kept slot in
