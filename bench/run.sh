@@ -184,9 +184,17 @@ growing() {
         echo 'struct S;'
         ;;
     declarations)
-        seq -f '#[derive(FromMeta)] struct D%.0f { a: u8, b: String, c: bool, d: Option<char>, e: Vec<String> }' "$2"
+        seq -f '#[derive(FromMeta)] struct D%.0f { a: u8, b: String, c: bool, d: Option<char>, #[darling(multiple)] e: Vec<String> }' "$2"
         echo '#[derive(FromDeriveInput)] #[darling(attributes(my))] struct Outer { a: u8 }'
         printf '%%%%\n#[my(a = 1)] struct S;\n'
+        ;;
+    readings)
+        seq -f '#[derive(FromMeta)] struct D%.0f { a: u8 }' "$2"
+        echo '#[derive(FromDeriveInput)] #[darling(attributes(my))] struct Outer {'
+        seq "$2" | awk '{ printf "f%d: D%d,\n", $1, $1 }'
+        printf '}\n%%%%\n#[my('
+        seq -f 'f%.0f(a = 1),' "$2"
+        echo ')] struct S;'
         ;;
     defaults)
         echo '#[derive(FromMeta)] struct D0 { a: u8 }'
@@ -201,7 +209,7 @@ growing() {
 growth() {
     printf '| %-12s | %6s | %8s | %8s | %6s | %8s |\n' workload things seconds twice growth memory
     printf '|---|---|---|---|---|---|\n'
-    for workload in ${*:-unknown lists declarations defaults}; do
+    for workload in ${*:-unknown lists declarations readings defaults}; do
         for count in 5000 10000; do
             growing "$workload" "$count" >"$kept/input"
             /usr/bin/time -o "$kept/time" -f '%U %S %M' "$tool" run <"$kept/input" >"$kept/said" || true
@@ -211,7 +219,7 @@ growth() {
             NR == 1 { first = $1 + $2 }
             NR == 2 {
                 printf "| %-12s | %6d | %6.2f s | %6.2f s | %6.1f | %5.0f MB |\n", workload, 5000, first, $1 + $2,
-                    first > 0 ? ($1 + $2) / first : 0, $3 / 1024
+                    (first > 0 ? ($1 + $2) / first : 0), $3 / 1024
             }' "$kept/time.5000" "$kept/time.10000"
     done
 }
