@@ -1,4 +1,7 @@
 pub mod Types
+pub use Rattle.machine_execute.specs.Asked
+pub use Rattle.machine_execute.specs.Attributes
+pub use Rattle.machine_execute.specs.Building
 pub use Rattle.machine_execute.specs.Elements
 pub use Rattle.machine_execute.specs.Outcome
 pub use Rattle.machine_fit.specs.Answer
@@ -15,6 +18,8 @@ pub use Rattle.machine_fit.specs.MachineFormsNames as Names
 pub use Rattle.machine_fit.specs.Places
 pub use Rattle.machine_execute.specs.Progress
 pub use Rattle.machine_execute.specs.Reading
+pub use Rattle.machine_execute.specs.Reads
+pub use Rattle.machine_execute.specs.Receivers
 pub use Rattle.machine_fit.specs.Refusals
 pub use Rattle.machine_execute.specs.Setting
 pub use Rattle.machine_execute.specs.State
@@ -26,6 +31,11 @@ pub use Rattle.machine_host.specs as host
 pub use Rattle.machine_host.proofs.Fitting as FittingLemmas
 pub use Rattle.machine_host.proofs.Values as ValueLemmas
 pub use Rattle.machine_rows.specs as rows
+pub use Rattle.machine_steps.specs.Calls
+pub use Rattle.machine_steps.specs.Outer
+pub use Rattle.machine_steps.specs.Parts
+pub use Rattle.machine_steps.specs.Shapes
+pub use Rattle.machine_steps.specs.Variants
 pub use Rattle.machine_std.specs.Functions as StdFunctions
 pub use Rattle.machine_std.specs.StdLaws
 pub use Rattle.machine_std.specs.StdSays
