@@ -1,5 +1,5 @@
--- The unit that a plain struct compiles to.
-use Rattle.std.specs.Prelude.{◌≡◌, ℕ, Bool, false, ◌&&◌, List, [], ◌∷◌, ◌++◌, Option, Some, None, option_and_then, map, codes, if◌then◌else◌}
+-- The units that declarations compile to, by the form of the declaration.
+use Rattle.std.specs.Prelude.{◌≡◌, ℕ, Bool, false, ◌&&◌, List, [], ◌∷◌, ◌++◌, Option, Some, None, length, option_and_then, map, codes, if◌then◌else◌}
 use Rattle.std.specs.Option.{option_copied}
 use Rattle.std.specs.Str.{bytes_eq}
 use Rattle.base_core.specs.declared.text.Text.{Text}
@@ -8,16 +8,20 @@ use Rattle.tok_types.specs.declared.ident.Ident.{Ident}
 use Rattle.node_expr.specs.PathIdent.{segments_ident}
 use Rattle.node_expr.specs.declared.path.Path.{Path, out-Path}
 use Rattle.node_make.specs.PathText.{path_text}
+use Rattle.node_core.specs.declared.style.Style.{Style}
 use Rattle.node_core.specs.declared.style.Style.TheVariants as style
 use Rattle.body_core.specs.declared.ast.data.«Data».{«Data»}
 use Rattle.body_core.specs.declared.ast.data.«Data».TheVariants as body
+use Rattle.body_core.specs.declared.ast.fields.Fields.{Fields}
 use Rattle.codegen_program.specs.declared.arm.PostfixTransform.{PostfixTransform}
+use Rattle.codegen_program.specs.declared.callable.Callable.{Callable}
 use Rattle.codegen_program.specs.declared.forward.Forward.TheVariants as forward
 use Rattle.codegen_program.specs.declared.init.DefaultSource.{DefaultSource}
 use Rattle.codegen_program.specs.declared.init.DefaultSource.TheVariants as sources
 use Rattle.codegen_program.specs.declared.program.Derive.{Derive}
 use Rattle.codegen_program.specs.declared.program.Derive.TheVariants as derives
 use Rattle.codegen_program.specs.declared.program.Func.{Func}
+use Rattle.codegen_program.specs.declared.program.FuncName.{FuncName}
 use Rattle.codegen_program.specs.declared.program.FuncName.TheVariants as func
 use Rattle.codegen_program.specs.declared.program.«Unit».{«Unit» as Unit'}
 use Rattle.codegen_program.specs.declared.shape.ShapeSpec.TheVariants as shapes
@@ -30,6 +34,7 @@ use Rattle.codegen_core.specs.declared.trait_impl.TraitImpl.{TraitImpl}
 use Rattle.codegen_core.specs.declared.variant.Variant.{Variant}
 use Rattle.codegen_core.specs.Defaults.{source}
 use Rattle.codegen_core.specs.Fields.{core_loop, declarations, flattens, checks, inits}
+use Rattle.codegen_core.specs.Variants.{member_name, slots_in, transparent_field, unit_arms, variant_arms, variant_names}
 
 -- the fields of a body; an enum has none of its own
 abbrev pub struct_fields : «Data» Variant Field → List Field
@@ -130,10 +135,78 @@ unit_with decl derive base parse_impl funcs =
       funcs = funcs;
     }
 
+-- ---- `FromMeta`
+
+-- the number of slots of a body
+abbrev pub slot_count : «Data» Variant Field → ℕ
+slot_count (body.Enum variants) = slots_in variants
+slot_count (body.Struct it) = length it.fields
+
+-- the function that answers what the callable gives, where there is one
+abbrev pub call_func : FuncName → Option Callable → List Func
+call_func name None = []
+call_func name (Some callable) = record { name = name; stmts = stmt.Call callable name ∷ [] } ∷ []
+
+abbrev pub call_funcs : FromMetaImpl → List Func
+call_funcs it =
+    call_func func.FromWord it.from_word
+    ++ call_func func.FromNone (option_copied it.from_none)
+    ++ call_func func.FromExpr (option_copied it.from_expr)
+
+-- a struct that is read as this one field is
+abbrev pub whole_funcs : TraitImpl → Style → Field → List Func
+whole_funcs base style field =
+    record { name = func.FromMeta; stmts = stmt.Delegate base.ident.now (member_name style field) field.ty.now ∷ [] } ∷ []
+
+-- a unit struct: a word is the struct
+abbrev pub unit_funcs : TraitImpl → List Func
+unit_funcs base = record { name = func.FromWord; stmts = build base ∷ [] } ∷ []
+
+-- a struct that is read field by field
+abbrev pub list_funcs : FromMetaImpl → List Func
+list_funcs it = call_funcs it ++ record { name = func.FromList; stmts = list_stmts it.base } ∷ []
+
+-- no tuple of several members, or of none, has a program
+abbrev pub own_funcs : Style → FromMetaImpl → List Func
+own_funcs style.Tuple it = list_funcs it
+own_funcs style.Struct it = list_funcs it
+own_funcs style.Unit it = unit_funcs it.base
+
+abbrev pub funcs_by : Option Field → Style → FromMetaImpl → List Func
+funcs_by (Some field) style it = whole_funcs it.base style field
+funcs_by None style it = own_funcs style it
+
+abbrev pub struct_funcs : FromMetaImpl → Fields Field → List Func
+struct_funcs it fields = funcs_by (transparent_field it.base.transparent fields.style fields.fields) fields.style it
+
+-- an enum: from a list, from a string, and what callables answer
+abbrev pub enum_funcs : FromMetaImpl → List Variant → List Func
+enum_funcs it variants =
+    record { name = func.FromList; stmts = stmt.Variants (variant_arms 0 variants) (variant_names variants) ∷ [] }
+    ∷ (record { name = func.FromString; stmts = stmt.UnitNames (unit_arms variants) (variant_names variants) ∷ [] } ∷ call_funcs it)
+
+abbrev pub funcs_in : FromMetaImpl → «Data» Variant Field → List Func
+funcs_in it (body.Enum variants) = enum_funcs it variants
+funcs_in it (body.Struct fields) = struct_funcs it fields
+
+abbrev pub meta_funcs : FromMetaImpl → List Func
+meta_funcs it = funcs_in it it.base.body
+
 -- the unit of `FromMeta`
 abbrev pub compiled_meta : FromMetaImpl → ℕ → Unit'
-compiled_meta it decl =
+compiled_meta it decl = unit_with decl derives.FromMeta it.base it.derive_syn_parse (meta_funcs it)
+
+-- the unit of a struct that is read field by field, and of which no callable is asked
+abbrev pub compiled_list : FromMetaImpl → ℕ → Unit'
+compiled_list it decl =
     unit_with decl derives.FromMeta it.base it.derive_syn_parse (record { name = func.FromList; stmts = list_stmts it.base } ∷ [])
+
+-- a struct that is read field by field, and of which no callable is asked
+pub record IsListed (it : FromMetaImpl) : Type 0 where
+  pub plain : IsPlain it.base
+  pub word : it.from_word ≡ None
+  pub none : option_copied it.from_none ≡ None
+  pub expr : option_copied it.from_expr ≡ None
 
 -- the unit of `FromDeriveInput`
 abbrev pub compiled_derive_input : FromDeriveInputImpl → ℕ → Unit'

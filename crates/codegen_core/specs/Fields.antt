@@ -1,4 +1,4 @@
--- What the fields of a plain struct compile to: each has a slot, and the slots are numbered from 0.
+-- What the fields of a struct or of a variant compile to: each has a slot, and the slots are numbered in order.
 use Rattle.std.specs.Prelude.{ℕ, ◌+◌, Bool, ◌||◌, List, [], ◌∷◌, ◌++◌, Option, Some, None, option_map, if◌then◌else◌}
 use Rattle.std.specs.List.{filter_map, list_any}
 use Rattle.std.specs.Option.{option_copied}
@@ -37,9 +37,12 @@ slot_declaration slot field =
 abbrev pub declaration : ℕ → Field → List Stmt
 declaration slot field = slot_declaration slot field ∷ (if field.flatten then stmt.DeclareBuffer ∷ [] else [])
 
--- what declares the slots of all fields
+-- what declares the slots of all fields, where this is the first slot
+abbrev pub declarations_from : ℕ → List Field → List Stmt
+declarations_from slot fields = at_slots declaration slot fields
+
 abbrev pub declarations : List Field → List Stmt
-declarations fields = at_slots declaration 0 fields
+declarations fields = declarations_from 0 fields
 
 -- the arm for items of this name
 abbrev pub named_arm : ℕ → Field → Option Text → List Arm
@@ -57,18 +60,24 @@ named_arm slot field (Some name) =
 abbrev pub arm : ℕ → Field → List Arm
 arm slot field = named_arm slot field (name_of field)
 
--- the arms of all fields
+-- the arms of all fields, where this is the first slot
+abbrev pub arms_from : ℕ → List Field → List Arm
+arms_from slot fields = at_slots arm slot fields
+
 abbrev pub arms : List Field → List Arm
-arms fields = at_slots arm 0 fields
+arms fields = arms_from 0 fields
 
 -- what an item does that no arm is for
 abbrev pub rest : Bool → List Field → Rest
 rest allow_unknown_fields fields =
     if list_any (λ field. field.flatten) fields then rests.Buffer else (if allow_unknown_fields then rests.Ignore else rests.Unknown (names fields))
 
--- goes over the items of one attribute or list
+-- goes over the items of one attribute or list, where this is the first slot
+abbrev pub core_loop_from : ℕ → Bool → List Field → Stmt
+core_loop_from slot allow_unknown_fields fields = stmt.ForItems (arms_from slot fields) (rest allow_unknown_fields fields)
+
 abbrev pub core_loop : Bool → List Field → Stmt
-core_loop allow_unknown_fields fields = stmt.ForItems (arms fields) (rest allow_unknown_fields fields)
+core_loop allow_unknown_fields fields = core_loop_from 0 allow_unknown_fields fields
 
 -- a flattened field is read from the items that were kept
 abbrev pub flatten : List Text → ℕ → Field → List Stmt
@@ -87,9 +96,12 @@ check_without (Some it) slot field = []
 abbrev pub check : ℕ → Field → List Stmt
 check slot field = if field.multiple then [] else check_without field.default_expression slot field
 
--- the look at all slots that have to be written
+-- the look at all slots that have to be written, where this is the first slot
+abbrev pub checks_from : ℕ → List Field → List Stmt
+checks_from slot fields = at_slots check slot fields
+
 abbrev pub checks : List Field → List Stmt
-checks fields = at_slots check 0 fields
+checks fields = checks_from 0 fields
 
 -- what the field falls back to
 abbrev pub fallback_of : Field → Option Fallback
@@ -100,6 +112,9 @@ abbrev pub init : ℕ → Field → Init
 init slot field =
     record { member = ident_text field.ident.now; slot = slot; many = field.multiple; fallback = fallback_of field }
 
--- the members that all fields become
+-- the members that all fields become, where this is the first slot
+abbrev pub inits_from : ℕ → List Field → List Init
+inits_from slot fields = at_slots (λ slot field. init slot field ∷ []) slot fields
+
 abbrev pub inits : List Field → List Init
-inits fields = at_slots (λ slot field. init slot field ∷ []) 0 fields
+inits fields = inits_from 0 fields

@@ -1,3 +1,5 @@
 pub mod Defaults
 pub mod Fields
+pub mod Variants
+pub mod Forms
 pub mod Compiled

@@ -1,6 +1,6 @@
-//! The fields of a receiver, one by one: each has a slot, and the slots are numbered from 0.
+//! The fields of a struct or of a variant, one by one: each has a slot, and the slots are numbered in order.
 
-ghost use Rattle.std.specs.Prelude.{◌≡◌, ◌++◌, ◌<◌, ◌^◌, length, IfOk, OnOk};
+ghost use Rattle.std.specs.Prelude.{◌≡◌, ◌++◌, ◌+◌, ◌<◌, ◌^◌, length, IfOk, OnOk};
 ghost use Rattle.std.specs.List.{list_any};
 ghost use Rattle.codegen_core.specs.Fields as spec;
 
@@ -14,6 +14,8 @@ use std::alloc::Global;
 pub struct FieldsGen<'f, 'a> {
     pub fields: &'f [Field<'a>],
     pub allow_unknown_fields: bool,
+    /// The slot of the first field.
+    pub(crate) first_slot: u32,
 }
 
 impl<'f, 'a> FieldsGen<'f, 'a> {
@@ -21,20 +23,22 @@ impl<'f, 'a> FieldsGen<'f, 'a> {
     pub fn new(fields: &'f Fields<Field<'a>>, allow_unknown_fields: bool) -> FieldsGen<'f, 'a>
         ensures fields { result.fields.now ≡ fields.now.fields }
         ensures allow { result.allow_unknown_fields ≡ allow_unknown_fields }
+        ensures first { result.first_slot ≡ 0 }
     {
         FieldsGen {
             fields: fields.fields.as_slice(),
             allow_unknown_fields,
+            first_slot: 0,
         }
     }
 
     /// Adds what declares the slots.
     pub(crate) fn push_declarations(&self, alloc: Global, stmts: &mut Items<Stmt>) -> Mem<()>
-        requires { length self.now.fields.now < 2 ^ 32 }
-        ensures { OnOk result (stmts.new ≡ stmts.old ++ spec.declarations self.now.fields.now) }
+        requires { self.now.first_slot + length self.now.fields.now < 2 ^ 32 }
+        ensures { OnOk result (stmts.new ≡ stmts.old ++ spec.declarations_from self.now.first_slot self.now.fields.now) }
     {
         let fields = self.fields;
-        let mut slot = 0;
+        let mut slot = self.first_slot;
         for field in fields {
             field.push_declaration(alloc, slot, stmts)?;
             slot += 1;
@@ -44,8 +48,8 @@ impl<'f, 'a> FieldsGen<'f, 'a> {
 
     /// The loop over the items.
     pub(crate) fn core_loop(&self, alloc: Global) -> Mem<Stmt>
-        requires { length self.now.fields.now < 2 ^ 32 }
-        ensures { IfOk result (λ it. it ≡ spec.core_loop self.now.allow_unknown_fields self.now.fields.now) }
+        requires { self.now.first_slot + length self.now.fields.now < 2 ^ 32 }
+        ensures { IfOk result (λ it. it ≡ spec.core_loop_from self.now.first_slot self.now.allow_unknown_fields self.now.fields.now) }
     {
         let arms = Arms::new(alloc, self.arms(alloc)?)?;
         let rest = self.rest(alloc)?;
@@ -54,12 +58,12 @@ impl<'f, 'a> FieldsGen<'f, 'a> {
 
     /// The arms of the fields that have a name.
     fn arms(&self, alloc: Global) -> Mem<Items<Arm>>
-        requires { length self.now.fields.now < 2 ^ 32 }
-        ensures { IfOk result (λ it. it ≡ spec.arms self.now.fields.now) }
+        requires { self.now.first_slot + length self.now.fields.now < 2 ^ 32 }
+        ensures { IfOk result (λ it. it ≡ spec.arms_from self.now.first_slot self.now.fields.now) }
     {
         let fields = self.fields;
         let mut arms = Items::new(alloc);
-        let mut slot = 0;
+        let mut slot = self.first_slot;
         for field in fields {
             field.push_arm(alloc, slot, &mut arms)?;
             slot += 1;
@@ -80,7 +84,7 @@ impl<'f, 'a> FieldsGen<'f, 'a> {
         Ok(Rest::Unknown(alternatives(alloc, self.fields)?))
     }
 
-    /// Adds the reading of the items that were kept for a flattened field.
+    /// Adds the reading of the items that were kept for a flattened field, whose slots are numbered from 0.
     pub(crate) fn push_flattens(&self, alloc: Global, stmts: &mut Items<Stmt>) -> Mem<()>
         requires { length self.now.fields.now < 2 ^ 32 }
         ensures { OnOk result (stmts.new ≡ stmts.old ++ spec.flattens self.now.fields.now) }
@@ -97,11 +101,11 @@ impl<'f, 'a> FieldsGen<'f, 'a> {
 
     /// Adds the look at each slot that has to be written.
     pub(crate) fn push_checks(&self, alloc: Global, stmts: &mut Items<Stmt>) -> Mem<()>
-        requires { length self.now.fields.now < 2 ^ 32 }
-        ensures { OnOk result (stmts.new ≡ stmts.old ++ spec.checks self.now.fields.now) }
+        requires { self.now.first_slot + length self.now.fields.now < 2 ^ 32 }
+        ensures { OnOk result (stmts.new ≡ stmts.old ++ spec.checks_from self.now.first_slot self.now.fields.now) }
     {
         let fields = self.fields;
-        let mut slot = 0;
+        let mut slot = self.first_slot;
         for field in fields {
             field.push_check(alloc, slot, stmts)?;
             slot += 1;
@@ -111,12 +115,12 @@ impl<'f, 'a> FieldsGen<'f, 'a> {
 
     /// The members that the fields become.
     pub(crate) fn initializers(&self, alloc: Global) -> Mem<Items<Init>>
-        requires { length self.now.fields.now < 2 ^ 32 }
-        ensures { IfOk result (λ it. it ≡ spec.inits self.now.fields.now) }
+        requires { self.now.first_slot + length self.now.fields.now < 2 ^ 32 }
+        ensures { IfOk result (λ it. it ≡ spec.inits_from self.now.first_slot self.now.fields.now) }
     {
         let fields = self.fields;
         let mut inits = Items::new(alloc);
-        let mut slot = 0;
+        let mut slot = self.first_slot;
         for field in fields {
             let init = field.to_init(alloc, slot)?;
             inits.push(init)?;
@@ -158,6 +162,7 @@ impl<'f, 'a> Drop for FieldsGen<'f, 'a> {
         let Self {
             fields: _,
             allow_unknown_fields: _,
+            first_slot: _,
         } = self;
     }
 }

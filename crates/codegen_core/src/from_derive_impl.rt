@@ -5,7 +5,7 @@ ghost use Rattle.codegen_core.specs.Compiled as spec;
 
 use crate::trait_impl::TraitImpl;
 use base_core::{Items, Mem};
-use codegen_program::{Derive, Forward, FuncName, ShapeSpec, Stmt, Unit};
+use codegen_program::{Derive, Forward, Func, FuncName, ShapeSpec, Stmt, Unit};
 use std::alloc::Global;
 use util_core::PathList;
 
@@ -25,15 +25,11 @@ impl<'a> FromDeriveInputImpl<'a> {
         requires few { length (spec.fields_of self.now.base) < 2 ^ 32 }
         ensures { IfOk result (λ unit. unit ≡ spec.compiled_derive_input self.now decl) }
     {
+        let name = FuncName::FromDeriveInput;
         let stmts = self.input_stmts(alloc)?;
-        self.base.unit_with(
-            alloc,
-            decl,
-            Derive::FromDeriveInput,
-            FuncName::FromDeriveInput,
-            false,
-            stmts,
-        )
+        let funcs = Items::of(alloc, Func { name, stmts })?;
+        self.base
+            .unit_with(alloc, decl, Derive::FromDeriveInput, false, funcs)
     }
 
     fn input_stmts(&self, alloc: Global) -> Mem<Items<Stmt>>

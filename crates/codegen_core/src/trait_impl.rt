@@ -1,6 +1,6 @@
 //! What all derives of a receiver share.
 
-ghost use Rattle.std.specs.Prelude.{◌≡◌, ◌++◌, ◌<◌, ◌^◌, ◌∷◌, [], length, IfOk, OnOk};
+ghost use Rattle.std.specs.Prelude.{◌≡◌, ◌++◌, ◌<◌, ◌^◌, ◌∷◌, ◌↔◌, [], length, IfOk, IsTrue, OnOk};
 ghost use Rattle.std.specs.Option.{option_copied};
 ghost use Rattle.codegen_core.specs.Compiled as spec;
 
@@ -8,9 +8,10 @@ use crate::default_expression::DefaultExpression;
 use crate::field::{Field, clone_of};
 use crate::fields::FieldsGen;
 use crate::variant::Variant;
+use crate::variants::have_few_slots;
 use base_core::{Items, Mem, TryClone};
 use body_core::ast::Data;
-use codegen_program::{DefaultSource, Derive, Func, FuncName, PostfixTransform, Stmt, Unit};
+use codegen_program::{DefaultSource, Derive, Func, PostfixTransform, Stmt, Unit};
 use node_core::Generics;
 use node_expr::{Path, PathArguments};
 use std::alloc::Global;
@@ -34,10 +35,12 @@ impl<'a> TraitImpl<'a> {
     pub(crate) fn fields_gen(&self) -> FieldsGen<'_, 'a>
         ensures fields { result.fields.now ≡ spec.fields_of self.now }
         ensures allow { result.allow_unknown_fields ≡ self.now.allow_unknown_fields }
+        ensures first { result.first_slot ≡ 0 }
     {
         FieldsGen {
             fields: self.plain_fields(),
             allow_unknown_fields: self.allow_unknown_fields,
+            first_slot: 0,
         }
     }
 
@@ -48,6 +51,16 @@ impl<'a> TraitImpl<'a> {
         match &self.body {
             Data::Struct(fields) => fields.fields.as_slice(),
             Data::Enum(_) => &[],
+        }
+    }
+
+    /// Whether a `u32` counts the slots of a unit of `FromMeta`.
+    pub fn has_few_slots(&self) -> bool
+        ensures { IsTrue result ↔ (spec.slot_count self.now.body < 2 ^ 32) }
+    {
+        match &self.body {
+            Data::Struct(fields) => u32::try_from(fields.fields.len()).is_ok(),
+            Data::Enum(variants) => have_few_slots(variants.as_slice()),
         }
     }
 
@@ -92,7 +105,8 @@ impl<'a> TraitImpl<'a> {
         }
     }
 
-    fn push_build(&self, alloc: Global, stmts: &mut Items<Stmt>) -> Mem<()>
+    /// Adds what builds the receiver from its slots.
+    pub(crate) fn push_build(&self, alloc: Global, stmts: &mut Items<Stmt>) -> Mem<()>
         requires { length (spec.fields_of self.now) < 2 ^ 32 }
         ensures { OnOk result (stmts.new ≡ stmts.old ++ spec.build self.now ∷ []) }
     {
@@ -116,19 +130,17 @@ impl<'a> TraitImpl<'a> {
         }
     }
 
-    /// The unit whose one function is this.
+    /// The unit of these functions.
     pub(crate) fn unit_with(
         &self,
         alloc: Global,
         decl: u32,
         derive: Derive,
-        name: FuncName,
         parse_impl: bool,
-        stmts: Items<Stmt>,
+        funcs: Items<Func>,
     ) -> Mem<Unit>
-        ensures { IfOk result (λ it. it ≡ spec.unit_with decl derive self.now parse_impl (record { name = name; stmts = stmts } ∷ [])) }
+        ensures { IfOk result (λ it. it ≡ spec.unit_with decl derive self.now parse_impl funcs) }
     {
-        let funcs = Items::of(alloc, Func { name, stmts })?;
         let ident = self.ident.try_clone(alloc)?;
         let generics = self.generics.try_clone(alloc)?;
         let krate = self.other_krate(alloc)?;
