@@ -1,3 +1,1 @@
 pub mod StageLemmas
-pub mod ViewLemmas
-pub mod UnsetLemmas

@@ -8,25 +8,15 @@ use Rattle.options_rows.specs.DefaultExpression.{DefaultExpression}
 use Rattle.options_rows.specs.Rows.{first_of, last_of, Named, values}
 use Rattle.options_rows.specs.RowLaws.{first-more, last-more, values-append, first_of-append, first_of-some, last_of-append}
 use Rattle.options_rows.specs.Values.{Rules}
-use Rattle.options_core.specs.declared.container.Core.{Core}
 use Rattle.options_core.specs.declared.outer_from.OuterFrom.{OuterFrom}
 use Rattle.options_core.specs.declared.from_derive.FdiOptions.{FdiOptions}
 use Rattle.options_core.specs.declared.from_meta.FromMetaOptions.{FromMetaOptions}
-use Rattle.options_core.specs.declared.names.CoreName.{CoreName}
 use Rattle.options_core.specs.declared.names.OuterName.{OuterName}
 use Rattle.options_core.specs.declared.names.OuterName.TheVariants.{FromIdent}
 use Rattle.options_core.specs.declared.names.FdiName.{FdiName}
 use Rattle.options_core.specs.declared.names.MetaName.{MetaName}
-use Rattle.options_core.specs.ContainerOptions.{core_options, core_named, core_item, core_items, default, same_core, same_outer, from_ident_of, trait_at, outer_options, outer_named, outer_item, outer_items, fdi_options, fdi_named, of_core, of_outer, of_fdi, meta_core_item, meta_core_items, meta_options, meta_named, of_meta}
-
-core_options-more : (rules : Rules) (set : Core) (xs ys : List (Named CoreName))
-    → core_options rules (core_options rules set xs) ys ≡ core_options rules set (xs ++ ys)
-core_options-more rules set xs ys = simp (first-more, last-more) refl
-
-pub of_core-more : (rules : Rules) (set : Core) (first rest : List Meta)
-    → of_core rules (of_core rules set first) rest ≡ of_core rules set (first ++ rest)
-of_core-more rules set first rest =
-    core_options-more rules set (map core_named first) (map core_named rest) ∙ sym (ap (core_options rules set) (map-append core_named first rest))
+use Rattle.options_core.specs.ContainerOptions.{core_item, core_items, same_outer, from_ident_of, trait_at, outer_options, outer_named, outer_item, outer_items, fdi_options, fdi_named, of_outer, of_fdi, meta_core_item, meta_core_items, meta_options, meta_named, of_meta}
+use Rattle.options_members.specs.CoreOptions.{default, same_core}
 
 core_items-append : (xs ys : List (Named OuterName)) → core_items (xs ++ ys) ≡ core_items xs ++ core_items ys
 core_items-append [] ys = refl

@@ -1,83 +1,16 @@
 -- What is compiled from options, beside the options.
-use Rattle.std.specs.Prelude.{◌≡◌, false, Option, Some, None, is_some, unwrap_or}
-use Rattle.std.specs.List.{AllZip}
-use Rattle.std.specs.Option.{option_copied}
-use Rattle.tok_types.specs.declared.ident.Ident.{Ident}
-use Rattle.node_expr.specs.declared.ty.«Type».{«Type» as Type'}
-use Rattle.node_span.specs.Spanned.{type_span}
-use Rattle.body_core.specs.declared.ast.data.«Data».{«Data»}
+use Rattle.std.specs.Prelude.{◌≡◌, false, cond, List, [], ◌∷◌, Option, Some, None, unwrap_or}
+use Rattle.std.specs.Option.{option_copied, option_or}
 use Rattle.body_core.specs.declared.ast.data.«Data».TheVariants as body
-use Rattle.body_core.specs.Data.{place}
-use Rattle.codegen_core.specs.Defaults.{custom}
-use Rattle.codegen_core.specs.declared.default_expression.DefaultExpression.{DefaultExpression as Shown}
-use Rattle.codegen_core.specs.declared.default_expression.DefaultExpression.TheVariants as shown
-use Rattle.codegen_core.specs.declared.field.Field.{Field}
+use Rattle.codegen_word.specs.WordClosure.{word_closure}
 use Rattle.codegen_core.specs.declared.from_derive_impl.FromDeriveInputImpl.{FromDeriveInputImpl}
 use Rattle.codegen_core.specs.declared.from_meta_impl.FromMetaImpl.{FromMetaImpl}
-use Rattle.codegen_core.specs.declared.overrideable_callable.OverrideableCallable.{OverrideableCallable}
-use Rattle.codegen_core.specs.declared.overrideable_callable.OverrideableCallable.TheVariants as callables
-use Rattle.codegen_core.specs.declared.trait_impl.TraitImpl.{TraitImpl}
-use Rattle.codegen_core.specs.declared.variant.Variant.{Variant}
-use Rattle.options_rows.specs.DefaultExpression.{DefaultExpression}
-use Rattle.options_rows.specs.DefaultExpression.TheVariants as defaults
-use Rattle.options_rows.specs.Rows.{holds}
-use Rattle.options_core.specs.declared.container.Core.{Core}
+use Rattle.options_rows.specs.Callable.{Callable}
 use Rattle.options_core.specs.declared.from_derive.FdiOptions.{FdiOptions}
 use Rattle.options_core.specs.declared.from_meta.FromMetaOptions.{FromMetaOptions}
-use Rattle.options_core.specs.declared.input_field.InputField.{InputField}
-use Rattle.options_core.specs.Body.{Body}
-
--- the same default; what is inherited is the member of this name
-abbrev pub IsDefault : Ident → Shown → DefaultExpression → Type 0
-IsDefault ident (shown.Inherit name) defaults.Inherit = name.now ≡ ident
-IsDefault ident (shown.Explicit callable) (defaults.Explicit it) = callable.now ≡ it
-IsDefault ident (shown.Trait span) (defaults.Trait it) = span ≡ it
-IsDefault ident _ _ = ⊥
-
-abbrev pub AreDefaults : Ident → Option Shown → Option DefaultExpression → Type 0
-AreDefaults ident None None = Unit {0}
-AreDefaults ident (Some left) (Some it) = IsDefault ident left it
-AreDefaults ident _ _ = ⊥
-
--- what converts an item by its type stands where the type does
-abbrev pub StandsAt : Type' → OverrideableCallable → Type 0
-StandsAt ty (callables.Custom call) = Unit {0}
-StandsAt ty (callables.Default span) = span ≡ type_span ty
-
--- what is compiled from the options of a field
-pub record IsField (left : Field) (it : InputField) : Type 0 where
-  pub ident : left.ident.now ≡ it.ident
-  pub name : left.name_in_attr.now ≡ it.name
-  pub ty : left.ty.now ≡ it.ty
-  pub skip : left.skip ≡ holds (λ value. value.value) it.skip
-  pub flatten : left.flatten ≡ is_some it.flatten.0
-  pub multiple : left.multiple ≡ unwrap_or it.multiple false
-  pub with : custom left.with_callable ≡ it.with
-  pub at : StandsAt it.ty left.with_callable
-  pub transform : option_copied left.post_transform ≡ it.post_transform
-  pub default : AreDefaults it.ident left.default_expression it.default
-
--- a struct of these fields, written in the same way
-abbrev pub IsStruct : «Data» Variant Field → Body → Type 0
-IsStruct (body.Struct left) (body.Struct it) = (left.style ≡ it.style) × AllZip IsField left.fields it.fields
-IsStruct _ _ = ⊥
-
--- its members have no place
-abbrev pub IsUnplaced : «Data» Variant Field → Type 0
-IsUnplaced (body.Struct left) = place left ≡ None
-IsUnplaced (body.Enum variants) = Unit {0}
-
--- what is compiled from the options of a struct, whatever it derives
-pub record IsImpl (left : TraitImpl) (it : Core) : Type 0 where
-  pub ident : left.ident.now ≡ it.ident
-  pub generics : left.generics.now ≡ it.generics
-  pub members : IsStruct left.body it.body
-  pub unplaced : IsUnplaced left.body
-  pub default : AreDefaults it.ident left.default it.default
-  pub transform : option_copied left.post_transform ≡ it.post_transform
-  pub allow : left.allow_unknown_fields ≡ unwrap_or it.allow_unknown_fields false
-  pub transparent : left.transparent ≡ is_some it.transparent.0
-  pub krate : option_copied left.krate ≡ it.krate
+use Rattle.options_members.specs.declared.input_variant.InputVariant.{InputVariant}
+use Rattle.options_members.specs.Body.{Body}
+use Rattle.options_members.specs.Views.{IsImpl, has_word}
 
 -- the same under `FromDeriveInput`
 pub record IsInputImpl (left : FromDeriveInputImpl) (it : FdiOptions) : Type 0 where
@@ -85,15 +18,23 @@ pub record IsInputImpl (left : FromDeriveInputImpl) (it : FdiOptions) : Type 0 w
   pub names : left.attr_names.now ≡ it.base.attr_names
   pub ident : left.from_ident ≡ it.base.from_ident
 
+-- the closure of the first variant that a word stands for
+abbrev pub worded : List InputVariant → Option Callable
+worded [] = None
+worded (variant ∷ variants) = cond (has_word variant) (Some (word_closure variant.ident)) (worded variants)
+
+abbrev pub body_word : Body → Option Callable
+body_word (body.Struct it) = None
+body_word (body.Enum variants) = worded variants
+
+-- what a word alone is read by: what `from_word` names, else the closure of the variant whose word it is
+abbrev pub from_word_of : FromMetaOptions → Option Callable
+from_word_of it = option_or it.from_word (body_word it.base.body)
+
 -- the same under `FromMeta`
 pub record IsMetaImpl (left : FromMetaImpl) (it : FromMetaOptions) : Type 0 where
   pub base : IsImpl left.base it.base
-  pub word : option_copied left.from_word ≡ it.from_word
+  pub word : left.from_word ≡ from_word_of it
   pub none : option_copied left.from_none ≡ it.from_none
   pub expr : option_copied left.from_expr ≡ it.from_expr
   pub parse : left.derive_syn_parse ≡ unwrap_or it.derive_syn_parse false
-
--- the body is that of a struct
-abbrev pub HasFields : Body → Type 0
-HasFields (body.Struct it) = Unit {0}
-HasFields (body.Enum variants) = ⊥

@@ -6,7 +6,8 @@ ghost use Rattle.error_core.specs.Answers.{Answers};
 ghost use Rattle.options_rows.specs.Does.{Does};
 ghost use Rattle.node_core.specs.Bodies.{is_union};
 ghost use Rattle.options_rows.specs.Rows.{one};
-ghost use Rattle.options_core.specs.Body.{fdi_start};
+ghost use Rattle.options_members.specs.Body.{union_faults};
+ghost use Rattle.options_core.specs.Receivers.{fdi_start};
 ghost use Rattle.options_core.specs.ContainerOptions.{fdi_faults, fdi_options};
 ghost use Rattle.options_core.specs.Stages as spec;
 
@@ -52,7 +53,7 @@ impl FdiOptions {
     /// No option and no member yet. A union is refused.
     fn start(alloc: Global, di: &DeriveInput, table: &RenameTable) -> Result<FdiOptions>
         ensures { Answers (λ it. it) result
-            (settle (spec.union_faults (is_union di.now.body)) (Value (fdi_start table.now di.now))) }
+            (settle (union_faults (is_union di.now.body)) (Value (fdi_start table.now di.now))) }
     {
         Ok(FdiOptions {
             base: OuterFrom::start(alloc, di, table)?,
@@ -106,7 +107,7 @@ impl ParseAttribute for FdiOptions {
 }
 
 impl ParseData for FdiOptions {
-    ghost use Rattle.options_core.specs.Body.{fdi_checks};
+    ghost use Rattle.options_core.specs.Receivers.{fdi_checks};
     ghost use Rattle.options_core.specs.Stages.{fdi_own, no_variants};
 
     ghost of_field = { fdi_own };

@@ -7,17 +7,18 @@ ghost use Rattle.error_core.specs.ErrorView.{One, held};
 ghost use Rattle.options_rows.specs.Does.{Does};
 ghost use Rattle.node_core.specs.Bodies.{is_union};
 ghost use Rattle.options_rows.specs.Rows.{one};
-ghost use Rattle.options_core.specs.Body as body;
+ghost use Rattle.options_members.specs.Body as body;
+ghost use Rattle.options_core.specs.Receivers as checks;
 ghost use Rattle.options_core.specs.ContainerOptions.{meta_faults, meta_options};
 ghost use Rattle.options_core.specs.Stages as spec;
 
-use crate::container::Core;
-use crate::input_field::InputField;
+use crate::enum_checks::check_enum;
 use crate::names::MetaName;
 use base_core::{Mem, Text};
 use body_core::ast::{Data, Fields};
 use error_core::{Accumulator, Error, Result};
 use node_core::{DeriveInput, Field, Meta, Style, Variant};
+use options_members::{Checks, Core, InputField, validate};
 use options_rows::{Callable, Flag, ParseAttribute, ParseData, RenameTable, once_at_path};
 use std::alloc::Global;
 
@@ -54,7 +55,7 @@ impl FromMetaOptions {
     /// No option and no member yet. A union is refused.
     fn start(alloc: Global, di: &DeriveInput, table: &RenameTable) -> Result<FromMetaOptions>
         ensures { Answers (λ it. it) result
-            (settle (spec.union_faults (is_union di.now.body)) (Value (body.meta_start table.now di.now))) }
+            (settle (body.union_faults (is_union di.now.body)) (Value (checks.meta_start table.now di.now))) }
     {
         Ok(FromMetaOptions {
             base: Core::start(alloc, di, table)?,
@@ -85,24 +86,44 @@ impl FromMetaOptions {
         }
     }
 
-    /// The faults that are found before memory is wanting may stand behind the others.
-    fn push_checks(&self, alloc: Global, errors: &mut Accumulator) -> Mem<()>
-        ensures { OnOk result (held errors.new ≡ held errors.old ++ body.meta_checks self.now) }
+    /// What is called is of use.
+    fn check_calls(&self, alloc: Global, errors: &mut Accumulator) -> Mem<()>
+        ensures { OnOk result (held errors.new ≡ held errors.old ++ checks.call_faults self.now self.now.base.body) }
     {
-        self.base.push_checks(alloc, errors)?;
-        self.check_calls(alloc, errors)
+        match &self.base.body {
+            Data::Struct(it) => self.check_struct(alloc, it, errors),
+            Data::Enum(variants) => check_enum(alloc, self, variants.as_slice(), errors),
+        }
     }
 
-    /// What is called for a struct is of use.
-    fn check_calls(&self, alloc: Global, errors: &mut Accumulator) -> Mem<()>
-        ensures { OnOk result (held errors.new ≡ held errors.old ++ body.call_faults self.now self.now.base.body) }
+    fn check_struct(
+        &self,
+        alloc: Global,
+        fields: &Fields<InputField>,
+        errors: &mut Accumulator,
+    ) -> Mem<()>
+        ensures { OnOk result (held errors.new ≡ held errors.old ++ checks.struct_faults self.now fields.now) }
     {
-        let Data::Struct(it) = &self.base.body else {
-            return Ok(());
-        };
-        let delegated = is_delegated(it, &self.base.transparent);
-        check_word(alloc, is_unit(it.style), delegated, &self.from_word, errors)?;
+        let delegated = is_delegated(fields, &self.base.transparent);
+        check_word(
+            alloc,
+            is_unit(fields.style),
+            delegated,
+            &self.from_word,
+            errors,
+        )?;
         check_expr(alloc, delegated, &self.from_expr, errors)
+    }
+}
+
+impl Checks for FromMetaOptions {
+    ghost use Rattle.options_core.specs.Receivers.{meta_checks};
+
+    ghost wrong = { meta_checks };
+
+    fn push_checks(&self, alloc: Global, errors: &mut Accumulator) -> Mem<()> {
+        self.base.push_checks(alloc, errors)?;
+        self.check_calls(alloc, errors)
     }
 }
 
@@ -137,12 +158,12 @@ impl ParseAttribute for FromMetaOptions {
 }
 
 impl ParseData for FromMetaOptions {
-    ghost use Rattle.options_core.specs.Body.{meta_checks};
-    ghost use Rattle.options_core.specs.Stages.{meta_own, no_variants};
+    ghost use Rattle.options_core.specs.Receivers.{meta_checks};
+    ghost use Rattle.options_core.specs.Stages.{meta_own, meta_own_variant};
 
     ghost of_field = { meta_own };
 
-    ghost of_variant = { no_variants };
+    ghost of_variant = { meta_own_variant };
 
     ghost checks = { meta_checks };
 
@@ -157,22 +178,15 @@ impl ParseData for FromMetaOptions {
 
     fn own_variant(
         &mut self,
-        _alloc: Global,
-        _variant: &Variant,
-        _table: &RenameTable,
+        alloc: Global,
+        variant: &Variant,
+        table: &RenameTable,
     ) -> Result<Option<()>> {
-        Ok(None)
+        self.base.own_variant(alloc, variant, table)
     }
 
     fn validate_body(&self, alloc: Global, errors: &mut Accumulator) -> Mem<()> {
-        let mut found = Error::accumulator(alloc);
-        match self.push_checks(alloc, &mut found) {
-            Ok(()) => errors.extend(alloc, found.into_inner()),
-            Err(fail) => {
-                drop(found.into_inner());
-                Err(fail)
-            }
-        }
+        validate(self, alloc, errors)
     }
 }
 
@@ -204,7 +218,7 @@ fn check_word(
     from_word: &Option<Callable>,
     errors: &mut Accumulator,
 ) -> Mem<()>
-    ensures { OnOk result (held errors.new ≡ held errors.old ++ body.word_faults unit delegated from_word.now) }
+    ensures { OnOk result (held errors.new ≡ held errors.old ++ checks.word_faults unit delegated from_word.now) }
 {
     let Some(callable) = from_word else {
         return Ok(());
@@ -226,7 +240,7 @@ fn check_expr(
     from_expr: &Option<Callable>,
     errors: &mut Accumulator,
 ) -> Mem<()>
-    ensures { OnOk result (held errors.new ≡ held errors.old ++ body.expr_faults delegated from_expr.now) }
+    ensures { OnOk result (held errors.new ≡ held errors.old ++ checks.expr_faults delegated from_expr.now) }
 {
     let Some(callable) = from_expr else {
         return Ok(());
@@ -238,18 +252,18 @@ fn check_expr(
     Ok(())
 }
 
-#[tactic(auto, unfolding(crate::specs::Body::on_unit))]
+#[tactic(auto, unfolding(crate::specs::Receivers::on_unit))]
 fn on_unit(alloc: Global, callable: &Callable) -> Mem<Error>
-    ensures { IfOk result (λ error. error ≡ One (body.on_unit callable.now)) }
+    ensures { IfOk result (λ error. error ≡ One (checks.on_unit callable.now)) }
 {
     let text =
         "`from_word` cannot be used on unit structs because it conflicts with the generated impl";
     Ok(Error::custom(alloc, text)?.with_span(callable.as_ref()))
 }
 
-#[tactic(auto, unfolding(crate::specs::Body::on_transparent))]
+#[tactic(auto, unfolding(crate::specs::Receivers::on_transparent))]
 fn on_transparent(alloc: Global, word: &str, callable: &Callable) -> Mem<Error>
-    ensures { IfOk result (λ error. error ≡ One (body.on_transparent word.now callable.now)) }
+    ensures { IfOk result (λ error. error ≡ One (checks.on_transparent word.now callable.now)) }
 {
     let text = on_transparent_text(alloc, word)?;
     Ok(Error::custom(alloc, text.as_str())?.with_span(callable.as_ref()))

@@ -8,17 +8,17 @@ ghost use Rattle.options_rows.specs.PathLists.{common};
 ghost use Rattle.options_rows.specs.Does.{Does};
 ghost use Rattle.node_core.specs.Bodies.{is_union};
 ghost use Rattle.options_rows.specs.Rows.{one};
-ghost use Rattle.options_core.specs.Body as spec;
+ghost use Rattle.options_core.specs.Receivers as spec;
 ghost use Rattle.options_core.specs.ContainerOptions.{outer_faults, outer_options};
-ghost use Rattle.options_core.specs.Stages.{union_faults};
+ghost use Rattle.options_members.specs.Body.{union_faults};
 
-use crate::container::Core;
 use crate::names::OuterName;
 use base_core::{Mem, Text};
 use error_core::{Accumulator, Error, Result};
 use node_core::{DeriveInput, Field, Meta, Variant};
 use node_expr::Path;
 use node_span::Spanned;
+use options_members::{Checks, Core, validate};
 use options_rows::{
     DefaultExpression, ForwardAttrsFilter, ParseAttribute, ParseData, PathList, RenameTable, last,
     last_given,
@@ -75,11 +75,14 @@ impl OuterFrom {
             OuterName::Core(name) => self.container.apply(alloc, name, item, table),
         }
     }
+}
 
-    /// The faults that are found before memory is wanting may stand behind the others.
-    fn push_checks(&self, alloc: Global, errors: &mut Accumulator) -> Mem<()>
-        ensures { OnOk result (held errors.new ≡ held errors.old ++ spec.outer_checks self.now) }
-    {
+impl Checks for OuterFrom {
+    ghost use Rattle.options_core.specs.Receivers.{outer_checks};
+
+    ghost wrong = { outer_checks };
+
+    fn push_checks(&self, alloc: Global, errors: &mut Accumulator) -> Mem<()> {
         self.container.push_checks(alloc, errors)?;
         check_forwarded(alloc, &self.forward_attrs, &self.attr_names, errors)
     }
@@ -116,7 +119,7 @@ impl ParseAttribute for OuterFrom {
 
 impl ParseData for OuterFrom {
     ghost use Rattle.std.specs.Prelude.{Some, None};
-    ghost use Rattle.options_core.specs.Body.{outer_checks, outer_takes};
+    ghost use Rattle.options_core.specs.Receivers.{outer_checks, outer_takes};
 
     ghost of_field = { λ rules set field. Some (outer_takes rules set field) };
 
@@ -143,14 +146,7 @@ impl ParseData for OuterFrom {
     }
 
     fn validate_body(&self, alloc: Global, errors: &mut Accumulator) -> Mem<()> {
-        let mut found = Error::accumulator(alloc);
-        match self.push_checks(alloc, &mut found) {
-            Ok(()) => errors.extend(alloc, found.into_inner()),
-            Err(fail) => {
-                drop(found.into_inner());
-                Err(fail)
-            }
-        }
+        validate(self, alloc, errors)
     }
 }
 
@@ -186,7 +182,7 @@ fn push_not_forwarded(
     Ok(())
 }
 
-#[tactic(auto, unfolding(crate::specs::Body::not_forwarded))]
+#[tactic(auto, unfolding(crate::specs::Receivers::not_forwarded))]
 fn not_forwarded(alloc: Global, path: &Path) -> Mem<Error>
     ensures { IfOk result (λ error. error ≡ One (spec.not_forwarded path.now)) }
 {

@@ -1,7 +1,7 @@
 use Rattle.std.proofs.Common.{◌≡◌, ◌++◌, map}
 use Rattle.error_core.specs.ErrorView.{held}
-use Rattle.options_core.specs.Body.{not_forwarded}
 use Rattle.options_core.proofs.outer_from.push_not_forwarded.Given as goal
+use Rattle.options_core.specs.Receivers.{not_forwarded}
 
 abbrev pub invariant-loop-path : goal.invariant-loop-path
 invariant-loop-path l =

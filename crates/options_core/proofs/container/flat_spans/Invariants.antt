@@ -1,6 +1,0 @@
-use Rattle.std.proofs.Common.{◌≡◌, ◌++◌, drop}
-use Rattle.options_core.specs.Body.{flat_spans}
-use Rattle.options_core.proofs.container.flat_spans.Given as goal
-
-abbrev pub invariant-loop-field : goal.invariant-loop-field
-invariant-loop-field l = l.spans ++ flat_spans (drop l.field-index l.fields) ≡ flat_spans l.fields
