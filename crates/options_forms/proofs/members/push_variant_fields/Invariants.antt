@@ -1,0 +1,7 @@
+use Rattle.std.proofs.Common.{◌≡◌, ◌++◌, drop, flat_map}
+use Rattle.options_forms.proofs.members.push_variant_fields.Given as goal
+use Rattle.options_forms.specs.Forms.{variant_field_forms}
+
+abbrev pub invariant-loop-field : goal.invariant-loop-field
+invariant-loop-field l =
+    l.places ++ flat_map (variant_field_forms l.read) (drop l.field-index l.fields) ≡ l.initial.places ++ flat_map (variant_field_forms l.read) l.fields
