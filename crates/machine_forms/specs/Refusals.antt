@@ -2,7 +2,7 @@
 use Rattle.std.specs.Prelude.{Bool, cond, Option, Some, None, slice_get}
 use Rattle.tok_types.specs.declared.span.Span.{Span}
 use Rattle.machine_forms.specs.declared.refusals.Refusals.{Refusals}
-use Rattle.machine_forms.specs.declared.refusals.Unsupported.{Unsupported}
+use Rattle.codegen_core.specs.declared.form.Unsupported.{Unsupported}
 use Rattle.machine_forms.specs.declared.unfit.Unfit.{Unfit}
 use Rattle.machine_forms.specs.declared.unfit.Unfit.TheVariants as unfit
 use Rattle.machine_forms.specs.Places.{earliest, earliest_of}

@@ -1,6 +1,6 @@
 //! Forms that no run supports.
 
-ghost use Rattle.std.specs.Prelude.{◌≡◌, ◌++◌, ◌∷◌, [], IfOk, OnOk, flat_map, length, map};
+ghost use Rattle.std.specs.Prelude.{◌≡◌, ◌++◌, IfOk, OnOk, flat_map, length, map};
 ghost use Rattle.std.specs.Option.{option_copied};
 ghost use Rattle.std.specs.List.{list_any};
 ghost use Rattle.std.specs.Str.{bytes_eq};
@@ -9,16 +9,15 @@ ghost use Rattle.machine_forms.specs.Forms as spec;
 ghost use Rattle.machine_forms.specs.Units.{AreGroups};
 
 use crate::ask::Ask;
-use crate::refusals::Unsupported;
-use crate::unfit::Form;
 use crate::units::asks_of;
 use base_core::{Items, Mem};
+use codegen_core::{
+    Form, Unsupported, is_generic, push_form_if, push_generated_call, push_generated_path,
+};
 use codegen_program::{DefaultSource, Fallback, PostfixTransform, Program, Unit};
 use machine_steps::Callable;
-use node_core::{Data, DeriveInput, Field, Generics, Variant};
-use node_expr::{Expr, Path};
+use node_core::{Data, DeriveInput, Field, Variant};
 use std::alloc::Global;
-use tok_types::Ident;
 
 /// The names that generated code has for itself.
 const GENERATED: [&str; 26] = [
@@ -80,21 +79,22 @@ fn push_decl(
 ) -> Mem<()>
     ensures { OnOk result (places.new ≡ places.old ++ spec.unsupported_in (map (λ unit. unit.now) units.now) decl.now) }
 {
-    if is_generic(&decl.generics) {
-        places.push(Unsupported {
-            form: Form::Generics,
-            span: decl.ident.span,
-        })?;
-    }
-    push_members(places, &decl.body)?;
+    push_declared_forms(places, decl)?;
     let asks = asks_of(alloc, units)?;
     push_asks(places, asks.as_slice())
 }
 
-fn is_generic(generics: &Generics) -> bool
-    ensures { result ≡ spec.is_generic generics.now }
+/// Adds the forms that a declaration shows itself: parameters, and names that generated code has for itself.
+pub fn push_declared_forms(places: &mut Items<Unsupported>, decl: &DeriveInput) -> Mem<()>
+    ensures { OnOk result (places.new ≡ places.old ++ spec.declared_forms decl.now) }
 {
-    !generics.params.as_slice().is_empty() || generics.where_clause.is_some()
+    push_form_if(
+        is_generic(&decl.generics),
+        Form::Generics,
+        &decl.ident,
+        places,
+    )?;
+    push_members(places, &decl.body)
 }
 
 fn push_members(places: &mut Items<Unsupported>, body: &Data) -> Mem<()>
@@ -129,19 +129,12 @@ fn push_field(places: &mut Items<Unsupported>, field: &Field) -> Mem<()>
     ensures { OnOk result (places.new ≡ places.old ++ spec.generated_field field.now) }
 {
     match &field.ident {
-        Some(ident) if is_generated(ident.text.as_str()) => push_name(places, ident),
-        _ => Ok(()),
+        Some(ident) => {
+            let test = is_generated(ident.text.as_str());
+            push_form_if(test, Form::GeneratedName, ident, places)
+        }
+        None => Ok(()),
     }
-}
-
-/// Adds a name that generated code has for itself.
-fn push_name(places: &mut Items<Unsupported>, ident: &Ident) -> Mem<()>
-    ensures { OnOk result (places.new ≡ places.old ++ spec.named_at ident.now.span ∷ []) }
-{
-    places.push(Unsupported {
-        form: Form::GeneratedName,
-        span: ident.span,
-    })
 }
 
 fn is_generated(text: &str) -> bool
@@ -186,7 +179,7 @@ fn push_ask(places: &mut Items<Unsupported>, ask: Ask<'_>) -> Mem<()>
         }
         Ask::Whole(DefaultSource::Explicit(callable)) => push_call(places, Some(callable)),
         Ask::Member(init) => push_call(places, fallback_call(&init.fallback)),
-        Ask::Transform(post) => push_path(places, &post.function),
+        Ask::Transform(post) => push_generated_path(&post.function, places),
         _ => Ok(()),
     }
 }
@@ -202,21 +195,11 @@ pub fn fallback_call(fallback: &Option<Fallback>) -> Option<&Callable>
 }
 
 fn push_call(places: &mut Items<Unsupported>, callable: Option<&Callable>) -> Mem<()>
-    ensures { OnOk result (places.new ≡ places.old ++ spec.generated_call (option_copied callable.entry)) }
+    ensures { OnOk result (places.new ≡ places.old ++ spec.generated_callable (option_copied callable.entry)) }
 {
     match callable {
-        Some(callable) => push_called(places, &callable.call),
+        Some(callable) => push_generated_call(&callable.call, places),
         None => Ok(()),
-    }
-}
-
-/// Adds the start of a path that begins with `_darling`, where it is what is called.
-fn push_called(places: &mut Items<Unsupported>, call: &Expr) -> Mem<()>
-    ensures { OnOk result (places.new ≡ places.old ++ spec.generated_called call.now) }
-{
-    match call {
-        Expr::Path(it) if it.qself.is_none() => push_path(places, &it.path),
-        _ => Ok(()),
     }
 }
 
@@ -224,30 +207,7 @@ fn push_post(places: &mut Items<Unsupported>, post: Option<&PostfixTransform>) -
     ensures { OnOk result (places.new ≡ places.old ++ spec.generated_post (option_copied post.entry)) }
 {
     match post {
-        Some(post) => push_path(places, &post.function),
+        Some(post) => push_generated_path(&post.function, places),
         None => Ok(()),
-    }
-}
-
-/// Adds the start of a path that begins with `_darling`.
-fn push_path(places: &mut Items<Unsupported>, path: &Path) -> Mem<()>
-    ensures { OnOk result (places.new ≡ places.old ++ spec.generated_path path.now) }
-{
-    match first_ident(path) {
-        Some(ident) if is_text(ident.text.as_str(), "_darling") => push_name(places, ident),
-        _ => Ok(()),
-    }
-}
-
-/// The identifier that the path begins with. What is behind a leading `::` is none.
-fn first_ident(path: &Path) -> Option<&Ident>
-    ensures { option_copied result ≡ spec.first_ident path.now }
-{
-    if path.leading_colon {
-        return None;
-    }
-    match path.segments.first() {
-        Some(segment) => Some(&segment.ident),
-        None => None,
     }
 }

@@ -10,10 +10,11 @@ mod unfit;
 mod units;
 
 pub use ask::{Ask, Asked, push_unit};
-pub use forms::{fallback_call, unsupported_forms};
+pub use codegen_core::{Form, Unsupported};
+pub use forms::{fallback_call, push_declared_forms, unsupported_forms};
 pub use machine_steps::{Callable, Host, Place, Use, named_type};
 pub use names::{duplicate_names, repeated_names};
-pub use places::earliest;
-pub use refusals::{Refusals, Unsupported};
-pub use unfit::{Form, Unfit};
+pub use places::{earliest, earliest_form};
+pub use refusals::Refusals;
+pub use unfit::Unfit;
 pub use units::{asks_of, groups_of, is_receiver, item_flags};

@@ -3,6 +3,7 @@
 ghost use Rattle.std.specs.Prelude.{◌≡◌, Some};
 ghost use Rattle.machine_forms.specs.Places as spec;
 
+use codegen_core::Unsupported;
 use tok_types::Span;
 
 /// What stands at a place of a text.
@@ -23,12 +24,27 @@ impl Placed for Span {
     }
 }
 
+impl Placed for Unsupported {
+    ghost span_of = { λ it. it.span };
+
+    fn span(&self) -> Span {
+        self.span
+    }
+}
+
 /// The span that starts first; of several that start there, the one that is listed first. A span of no text starts before
 /// all others.
 pub fn earliest(spans: &[Span]) -> Option<Span>
     ensures { result ≡ spec.earliest spans.now }
 {
     earliest_of(spans)
+}
+
+/// The form that starts first; of several that start there, the one that is listed first.
+pub fn earliest_form(forms: &[Unsupported]) -> Option<Unsupported>
+    ensures { result ≡ spec.earliest_of (λ it. it.span) forms.now }
+{
+    earliest_of(forms)
 }
 
 /// The thing that starts first; of several that start there, the one that is listed first.

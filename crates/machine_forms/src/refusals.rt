@@ -3,17 +3,11 @@
 ghost use Rattle.std.specs.Prelude.{◌≡◌};
 ghost use Rattle.machine_forms.specs.Refusals as spec;
 
-use crate::places::{Placed, earliest, earliest_of};
-use crate::unfit::{Form, Unfit};
+use crate::places::{earliest, earliest_form};
+use crate::unfit::Unfit;
 use base_core::Items;
+use codegen_core::Unsupported;
 use tok_types::Span;
-
-/// A form that no run supports, and where it stands.
-#[derive(Clone, Copy, Debug, PartialEq, Eq)]
-pub struct Unsupported {
-    pub form: Form,
-    pub span: Span,
-}
 
 /// All that stands against running a program with a host: a row for each of [`Unfit`]'s answers, in their order. Places of a
 /// row stand in the order in which the program prints.
@@ -28,14 +22,6 @@ pub struct Refusals {
     pub unknown_callables: Items<Span>,
     /// Whether the last declaration derives `FromDeriveInput`.
     pub has_receiver: bool,
-}
-
-impl Placed for Unsupported {
-    ghost span_of = { λ it. it.span };
-
-    fn span(&self) -> Span {
-        self.span
-    }
 }
 
 impl Refusals {
@@ -58,7 +44,7 @@ impl Refusals {
     {
         first_row(
             earliest(self.duplicate_names.as_slice()),
-            earliest_of(self.unsupported.as_slice()),
+            earliest_form(self.unsupported.as_slice()),
             earliest(self.unknown_types.as_slice()),
             earliest(self.unknown_callables.as_slice()),
             self.has_receiver,

@@ -2,17 +2,9 @@
 
 ghost use Rattle.std.specs.Prelude.{◌≡◌};
 
+use codegen_core::Form;
 use std::alloc::{AllocError, AllocFailed};
 use tok_types::Span;
-
-/// A form that no run supports.
-#[derive(Clone, Copy, Debug, PartialEq, Eq)]
-pub enum Form {
-    /// A declaration with parameters or a `where` clause.
-    Generics,
-    /// A field of a name that generated code has for itself, or a path that begins with `_darling`.
-    GeneratedName,
-}
 
 /// Why a program can't be run with a host, and the first place that stands against it.
 #[derive(Debug, Drop, PartialEq, Eq, thiserror::Error)]

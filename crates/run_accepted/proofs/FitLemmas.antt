@@ -5,7 +5,7 @@ use Rattle.tok_types.specs.declared.span.Span.{Span}
 use Rattle.machine_forms.specs.Places.{earliest, earliest_of}
 use Rattle.machine_forms.specs.Refusals.{first, first_in_text, first_row}
 use Rattle.machine_forms.specs.declared.refusals.Refusals.{Refusals}
-use Rattle.machine_forms.specs.declared.refusals.Unsupported.{Unsupported}
+use Rattle.codegen_core.specs.declared.form.Unsupported.{Unsupported}
 use Rattle.run_accepted.proofs.PlaceLemmas.{none_first}
 
 -- where no row is first, none has a place

@@ -1,11 +1,13 @@
 -- The options of a declaration whose forms can all be run are those of a plain struct.
-use Rattle.std.proofs.Common.{◌≡◌, ◌∙◌, Bool, true, false, cond, List, [], ◌∷◌, ◌++◌, map, codes, None, refl, sym, ap, subst, inl, inr}
+use Rattle.std.proofs.Common.{◌≡◌, ◌∙◌, ℕ, Bool, true, false, cond, List, [], ◌∷◌, ◌++◌, map, codes, Option, Some, None, refl, sym, ap, subst, inl, inr}
 use Rattle.std.specs.Prelude.{◌||◌, ◌⊎◌, is_some}
 use Rattle.std.specs.List.{AllByRecursion}
+use Rattle.std.specs.Option.{option_copied, option_or}
 use Rattle.std.specs.Str.{bytes_eq}
 use Rattle.base_core.specs.declared.text.Text.{Text}
+use Rattle.tok_types.specs.declared.ident.Ident.{Ident}
 use Rattle.tok_types.specs.declared.span.Span.{Span}
-use Rattle.error_fault.specs.Outcome.{value_of}
+use Rattle.error_fault.specs.Outcome.{Outcome, value_of}
 use Rattle.node_core.specs.Meta.{path_of_meta}
 use Rattle.node_core.specs.declared.attr.Meta.{Meta}
 use Rattle.node_core.specs.declared.data.«Data».{«Data»}
@@ -13,23 +15,35 @@ use Rattle.node_core.specs.declared.data.«Data».TheVariants as node
 use Rattle.node_core.specs.declared.data.Fields.{Fields}
 use Rattle.node_core.specs.declared.data.Fields.TheVariants as fields
 use Rattle.node_core.specs.declared.derive.DeriveInput.{DeriveInput}
+use Rattle.node_core.specs.declared.style.Style.{Style}
 use Rattle.node_core.specs.declared.style.Style.TheVariants as style
 use Rattle.node_core.specs.Style.{style_of}
 use Rattle.options_rows.specs.Entries.{items, option_entries}
+use Rattle.options_rows.specs.Members.{body_fields}
 use Rattle.options_rows.specs.Rows.{OptionRow, first_of, list_of, name_in, values}
 use Rattle.options_rows.specs.Values.{Rules, present_of, word_of}
-use Rattle.options_core.specs.Body.{Body, start_body, with_fields}
-use Rattle.options_core.specs.Views.{HasFields, IsImpl, IsStruct}
-use Rattle.options_core.specs.declared.container.Core.{Core}
+use Rattle.options_core.specs.Body.{Body, core_with, start_body, with_fields}
+use Rattle.options_core.specs.MemberViews.{IsBody, IsImpl}
+use Rattle.options_core.specs.Views.{IsMetaImpl, body_word}
+use Rattle.options_core.specs.Core.{Core}
 use Rattle.body_core.specs.declared.ast.data.«Data».{«Data» as Data'}
 use Rattle.body_core.specs.declared.ast.data.«Data».TheVariants as container
-use Rattle.codegen_core.specs.Compiled.{HasNamedFields, IsPlain}
+use Rattle.codegen_program.specs.declared.callable.Callable.{Callable}
+use Rattle.codegen_program.specs.declared.program.Derive.TheVariants as derives
+use Rattle.codegen_program.specs.declared.program.Func.{Func}
+use Rattle.codegen_program.specs.declared.program.FuncName.TheVariants as func
+use Rattle.codegen_program.specs.declared.program.«Unit».{«Unit» as Unit'}
+use Rattle.codegen_core.specs.Compiled.{HasNamedFields, IsListed, IsPlain, call_func, compiled_list, compiled_meta, funcs_by, funcs_in, list_funcs, list_stmts, unit_with}
+use Rattle.codegen_core.specs.Variants.{transparent_field}
+use Rattle.codegen_core.specs.declared.from_meta_impl.FromMetaImpl.{FromMetaImpl}
 use Rattle.codegen_core.specs.declared.field.Field.{Field}
 use Rattle.codegen_core.specs.declared.trait_impl.TraitImpl.{TraitImpl}
 use Rattle.codegen_core.specs.declared.variant.Variant.{Variant}
-use Rattle.options_core.specs.ContainerOptions.{core_item, core_items, core_name_of, core_table, fdi_named, fdi_table, meta_core_item, meta_core_items, meta_named, meta_table, outer_item, outer_items, outer_table, same_core, transparent}
-use Rattle.options_core.specs.Stages.{fdi_reader, meta_reader, options_of}
-use Rattle.options_core.specs.declared.input_field.InputField.{InputField}
+use Rattle.options_core.specs.ContainerOptions.{core_item, core_items, fdi_named, fdi_table, from_expr, from_none, from_word, meta_core_item, meta_core_items, meta_name_of, meta_named, meta_table, outer_item, outer_items, outer_table, same_meta}
+use Rattle.options_core.specs.CoreOptions.{core_name_of, core_table, same_core, transparent}
+use Rattle.options_core.specs.declared.names.MetaName.{MetaName}
+use Rattle.options_core.specs.Stages.{container_options, core_with_body, fdi_reader, good_fields, meta_reader, options_of}
+use Rattle.options_core.specs.InputField.{InputField}
 use Rattle.run_accepted.specs.Unbuilt.{IsBuilt, are_named, has_named_fields, is_unbuilt_word}
 use Rattle.run_accepted.proofs.BuiltLemmas.{named, no_words}
 use Rattle.run_accepted.specs.Steps.{HasBraces, IsPlainCore}
@@ -115,24 +129,130 @@ meta_sets_none (item ∷ items) are =
     meta_table _ word (inr later, (inr later, (inr later, (inr later, tt))))
     (none_more word item _ are.0 later)
 
-pub meta_is_plain : (rules : Rules) (decl : DeriveInput) → IsBuilt decl → IsPlainCore (options_of (meta_reader rules decl) decl).base
-meta_is_plain rules decl built =
+-- ---- the options of `FromMeta`
+
+module _ (rules : Rules) where
+  -- a struct with braces keeps its fields
+  pub struct_core : (core : Core) (it : «Data») → has_named_fields it ≡ true → core_with_body rules core it ≡ core_with core (good_fields rules core (body_fields it))
+  struct_core core (node.Struct it) is = refl
+  struct_core core (node.Enum it) is = cc
+  struct_core core (node.Union it) is = cc
+
+  pub meta_core_is : (decl : DeriveInput) → IsBuilt decl
+      → (options_of (meta_reader rules decl) decl).base
+      ≡ core_with (container_options (meta_reader rules decl) decl).base
+      (good_fields rules (container_options (meta_reader rules decl) decl).base (body_fields decl.body))
+  meta_core_is decl built = struct_core (container_options (meta_reader rules decl) decl).base decl.body (named decl built)
+
+  meta_is_plain : (decl : DeriveInput) → IsBuilt decl → IsPlainCore (options_of (meta_reader rules decl) decl).base
+  meta_is_plain decl built =
+      subst IsPlainCore (sym (meta_core_is decl built))
+      (record {
+        braces = has_braces decl.body _ (named decl built);
+        alone = ap (first_of None) (meta_sets_none (items (option_entries decl.attrs)) (no_words decl built));
+      })
+
+-- ---- what is called
+
+none-rest : (a b : Bool) → (a || b) ≡ false → b ≡ false
+none-rest true b is = cc
+none-rest false b is = is
+
+-- a word that units have a part for is of no option that names a callable
+record CallsNothing (word : Text) : Type 0 where
+  word_option : same_meta from_word.name (meta_name_of word) ≡ false
+  none_option : same_meta from_none.name (meta_name_of word) ≡ false
+  expr_option : same_meta from_expr.name (meta_name_of word) ≡ false
+
+calls_nothing : (word : Text) → is_unbuilt_word word ≡ false → CallsNothing word
+calls_nothing word is =
+    let after_transparent = none-rest (bytes_eq word (codes "transparent")) _ is in
+    let after_supports = none-rest (bytes_eq word (codes "supports")) _ after_transparent in
+    let at_word = none-rest (bytes_eq word (codes "from_ident")) _ after_supports in
+    let at_none = none-rest (bytes_eq word (codes "from_word")) _ at_word in
+    let at_expr = none-rest (bytes_eq word (codes "from_none")) _ at_none in
     record {
-      braces = has_braces decl.body _ (named decl built);
-      alone = ap (first_of None) (meta_sets_none (items (option_entries decl.attrs)) (no_words decl built));
+      word_option =
+          name_is (λ name. same_meta from_word.name name ≡ false) meta_table _ word
+          (inl (none-behind (bytes_eq word (codes "from_word")) _ at_word), (inr refl, (inr refl, (inr refl, tt))))
+          refl;
+      none_option =
+          name_is (λ name. same_meta from_none.name name ≡ false) meta_table _ word
+          (inr refl, (inl (none-behind (bytes_eq word (codes "from_none")) _ at_none), (inr refl, (inr refl, tt))))
+          refl;
+      expr_option =
+          name_is (λ name. same_meta from_expr.name name ≡ false) meta_table _ word
+          (inr refl, (inr refl, (inl (none-behind (bytes_eq word (codes "from_expr")) _ at_expr), (inr refl, tt))))
+          refl;
     }
+
+module _ {A : Type 0} (name : MetaName) (read : Meta → Outcome A)
+    (other : (word : Text) → is_unbuilt_word word ≡ false → same_meta name (meta_name_of word) ≡ false) where
+  option_unset : (items : List Meta) → AreBuilt items → values (same_meta name) read (map meta_named items) ≡ []
+  option_unset [] are = refl
+  option_unset (item ∷ items) are =
+      ap (λ test. cond test (list_of (value_of (read item))) [] ++ values (same_meta name) read (map meta_named items)) (other (word_of (path_of_meta item)) are.0)
+      ∙ option_unset items are.1
+
+-- a struct has no word
+no_word : (it : «Data») (members : List InputField) → body_word (with_fields (start_body it) members) ≡ None
+no_word (node.Struct it) members = refl
+no_word (node.Enum it) members = refl
+no_word (node.Union it) members = refl
 
 -- what is compiled from such options
 
-pub has_fields : (it : Body) → HasBraces it → HasFields it
-has_fields (container.Struct it) is = tt
-has_fields (container.Enum variants) is = absurd is
+has_named : (ty : Ident) (left : Data' Variant Field) (it : Body) → IsBody ty left it → HasBraces it → HasNamedFields left
+has_named ty (container.Struct left) (container.Struct it) same is = same.0 ∙ is
+has_named ty (container.Struct left) (container.Enum variants) same is = absurd same
+has_named ty (container.Enum variants) (container.Struct it) same is = absurd same
+has_named ty (container.Enum variants) (container.Enum others) same is = absurd is
 
-has_named : (left : Data' Variant Field) (it : Body) → IsStruct left it → HasBraces it → HasNamedFields left
-has_named (container.Struct left) (container.Struct it) same is = same.0 ∙ is
-has_named (container.Struct left) (container.Enum variants) same is = absurd same
-has_named (container.Enum variants) (container.Struct it) same is = absurd same
-has_named (container.Enum variants) (container.Enum others) same is = absurd same
+left_is_plain : (left : TraitImpl) (core : Core) → IsImpl left core → IsPlainCore core → IsPlain left
+left_is_plain left core same plain = (has_named core.ident left.body core.body same.members plain.braces, same.transparent ∙ ap is_some plain.alone)
 
-pub left_is_plain : (left : TraitImpl) (core : Core) → IsImpl left core → IsPlainCore core → IsPlain left
-left_is_plain left core same plain = (has_named left.body core.body same.members plain.braces, same.transparent ∙ ap is_some plain.alone)
+-- ---- the unit of `FromMeta`
+
+pub meta_is_listed : (rules : Rules) (decl : DeriveInput) (left : FromMetaImpl) → IsBuilt decl → IsMetaImpl left (options_of (meta_reader rules decl) decl)
+    → IsListed left
+meta_is_listed rules decl left built is =
+    let its = items (option_entries decl.attrs) in
+    let are = no_words decl built in
+    let options = options_of (meta_reader rules decl) decl in
+    let unset : options.from_word ≡ None =
+    ap (first_of None) (option_unset from_word.name from_word.read (λ word not. (calls_nothing word not).word_option) its are) in
+    let worded : body_word options.base.body ≡ None =
+    ap (λ (core : Core). body_word core.body) (meta_core_is rules decl built) ∙ no_word decl.body _ in
+    record {
+      plain = left_is_plain left.base options.base is.base (meta_is_plain rules decl built);
+      word = is.word ∙ ap (λ set. option_or set (body_word options.base.body)) unset ∙ worded;
+      none = is.none ∙ ap (first_of None) (option_unset from_none.name from_none.read (λ word not. (calls_nothing word not).none_option) its are);
+      expr = is.expr ∙ ap (first_of None) (option_unset from_expr.name from_expr.read (λ word not. (calls_nothing word not).expr_option) its are);
+    }
+
+no_calls : (word absent expr : Option Callable) → word ≡ None → absent ≡ None → expr ≡ None
+    → call_func func.FromWord word ++ call_func func.FromNone absent ++ call_func func.FromExpr expr ≡ []
+no_calls None None None no_word no_absent no_expr = refl
+no_calls None None (Some it) no_word no_absent no_expr = cc
+no_calls None (Some it) expr no_word no_absent no_expr = cc
+no_calls (Some it) absent expr no_word no_absent no_expr = cc
+
+by_fields : (left : FromMetaImpl) (transparent : Bool) (it : Style) (fields : List Field) → it ≡ style.Struct → transparent ≡ false
+    → funcs_by (transparent_field transparent it fields) it left ≡ list_funcs left
+by_fields left false style.Struct fields is not = refl
+by_fields left true style.Struct fields is not = cc
+by_fields left transparent style.Tuple fields is not = cc
+by_fields left transparent style.Unit fields is not = cc
+
+listed_funcs : (left : FromMetaImpl) (it : Data' Variant Field) → HasNamedFields it → left.base.transparent ≡ false
+    → funcs_in left it ≡ list_funcs left
+listed_funcs left (container.Struct it) named not = by_fields left left.base.transparent it.style it.fields named not
+listed_funcs left (container.Enum variants) named not = absurd named
+
+-- it is read field by field, and no callable is asked
+pub listed_unit : (left : FromMetaImpl) (number : ℕ) → IsListed left → compiled_meta left number ≡ compiled_list left number
+listed_unit left number is =
+    let make : List Func → Unit' = unit_with number derives.FromMeta left.base left.derive_syn_parse in
+    ap make
+    (listed_funcs left left.base.body is.plain.0 is.plain.1
+    ∙ ap (λ calls. calls ++ record { name = func.FromList; stmts = list_stmts left.base } ∷ []) (no_calls left.from_word (option_copied left.from_none) (option_copied left.from_expr) is.word is.none is.expr))

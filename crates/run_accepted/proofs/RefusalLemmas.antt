@@ -6,7 +6,7 @@ use Rattle.codegen_program.specs.declared.program.Program.{Program}
 use Rattle.machine_host.specs.HostSays.{HostSays}
 use Rattle.machine_forms.specs.Places.{earliest, earliest_of}
 use Rattle.machine_forms.specs.Refusals.{first_row}
-use Rattle.machine_forms.specs.declared.refusals.Unsupported.{Unsupported}
+use Rattle.codegen_core.specs.declared.form.Unsupported.{Unsupported}
 use Rattle.machine_forms.specs.declared.unfit.Unfit.{Unfit}
 use Rattle.machine_forms.specs.declared.unfit.Unfit.TheVariants as unfit
 use Rattle.machine_fit.specs.Unfitness.{refusals}
@@ -33,7 +33,7 @@ module _ (host : HostSays) (rules : Rules) (decls : List DeriveInput) (program :
       let callable = earliest all.unknown_callables in
       absurd (no_name form type callable all.has_receiver span
       (ap (λ names. first_row (earliest names) form type callable all.has_receiver) (sym (no_duplicates rules decls program sound.single sound.compiled)) ∙ is))
-  unfit_refuses (unfit.Unsupported form span) sound is = inr (record { program = program; sound = sound; unfit = is })
+  unfit_refuses (unfit.Unsupported form span) sound is = inr (inr (record { program = program; sound = sound; unfit = is }))
   unfit_refuses (unfit.UnknownType span) sound is = inr (record { program = program; sound = sound; unfit = is })
   unfit_refuses (unfit.UnknownCallable span) sound is = inr (record { program = program; sound = sound; unfit = is })
   unfit_refuses unfit.NoReceiver sound is = inr (record { program = program; sound = sound; unfit = is })

@@ -10,7 +10,9 @@ use Rattle.machine_forms.specs.Refusals.{first_in_text}
 use Rattle.machine_forms.specs.declared.unfit.Unfit.{Unfit}
 use Rattle.machine_forms.specs.declared.unfit.Unfit.TheVariants as unfit
 use Rattle.machine_fit.specs.Unfitness.{refusals}
+use Rattle.codegen_core.specs.declared.form.Unsupported.{Unsupported}
 use Rattle.run_accepted.specs.Derives.{derives_of}
+use Rattle.run_accepted.specs.Forms.{first_form}
 use Rattle.run_accepted.specs.Repeated.{repeated_derives}
 use Rattle.run_accepted.specs.Compiled.{IsProgram}
 use Rattle.run_accepted.specs.Pairs.{pairs_from, rejected}
@@ -32,10 +34,11 @@ duplicate decls = earliest (flat_map derives_named_again decls ++ repeated_names
 abbrev pub unfitness : HostSays → Program → Option Unfit
 unfitness host program = first_in_text (refusals host program)
 
--- no name and no derive stands twice, no options have faults, and this is the program
+-- no name and no derive stands twice, no options have faults, no form is without a program, and this is the program
 pub record IsSound (rules : Rules) (decls : List DeriveInput) (program : Program) : Type 0 where
   pub single : duplicate decls ≡ None
   pub options : rejected rules (pairs_from 0 decls) ≡ None
+  pub supported : first_form rules decls ≡ None
   pub compiled : IsProgram rules decls program
 
 -- the program of declarations that can be run with the host
@@ -49,11 +52,19 @@ pub record IsUnfit (host : HostSays) (rules : Rules) (decls : List DeriveInput) 
   pub sound : IsSound rules decls program
   pub unfit : unfitness host program ≡ Some it
 
+-- declarations without a name or a derive that stands twice, and without faults of options, one of whose forms has no program
+-- or is not run: the first in the text
+pub record ShowsForm (rules : Rules) (decls : List DeriveInput) (it : Unsupported) : Type 0 where
+  pub single : duplicate decls ≡ None
+  pub options : rejected rules (pairs_from 0 decls) ≡ None
+  pub first : first_form rules decls ≡ Some it
+
 -- why declarations can't be run with the host
 abbrev pub IsRefused : HostSays → Rules → List DeriveInput → RunError → Type 0
 IsRefused host rules decls (error.DuplicateName span) = duplicate decls ≡ Some span
 IsRefused host rules decls (error.Rejected it) = (duplicate decls ≡ None) × (rejected rules (pairs_from 0 decls) ≡ Some it)
-IsRefused host rules decls (error.Unsupported form span) = IsUnfit host rules decls (unfit.Unsupported form span)
+IsRefused host rules decls (error.Unsupported form span) =
+    ShowsForm rules decls (record { form = form; span = span }) ⊎ IsUnfit host rules decls (unfit.Unsupported form span)
 IsRefused host rules decls (error.UnknownType span) = IsUnfit host rules decls (unfit.UnknownType span)
 IsRefused host rules decls (error.UnknownCallable span) = IsUnfit host rules decls (unfit.UnknownCallable span)
 IsRefused host rules decls error.NoReceiver = IsUnfit host rules decls unfit.NoReceiver

@@ -11,7 +11,7 @@ use Rattle.codegen_program.specs.declared.program.«Unit».{«Unit» as Unit'}
 use Rattle.body_core.specs.declared.ast.data.«Data».TheVariants as body
 use Rattle.options_rows.specs.Values.{Rules}
 use Rattle.options_core.specs.Body.{Body}
-use Rattle.options_core.specs.declared.container.Core.{Core}
+use Rattle.options_core.specs.Core.{Core}
 use Rattle.run_accepted.specs.declared.rejected.CompileFail.{CompileFail}
 use Rattle.run_accepted.specs.declared.rejected.CompileFail.TheVariants as fails
 use Rattle.run_accepted.specs.Compiled.{IsUnit, IsUnitUnder}

@@ -7,6 +7,7 @@ ghost use Rattle.machine_forms.specs.Names as names;
 ghost use Rattle.run_accepted.specs.Accepted as spec;
 
 use crate::error::RunError;
+use crate::forms::first_form;
 use crate::{compile, derives_of, repeated_derives};
 use base_core::{Items, Mem};
 use codegen_program::Program;
@@ -14,6 +15,7 @@ use machine_fit::refusals;
 use machine_forms::{Unfit, earliest, repeated_names};
 use machine_host::Host;
 use node_core::DeriveInput;
+use options_forms::Unsupported;
 use options_rows::RenameTable;
 use std::alloc::Global;
 use tok_types::Span;
@@ -50,6 +52,9 @@ pub fn program_of<H: Host>(
         return Err(RunError::DuplicateName { span });
     }
     let program = compile(alloc, decls, table)?;
+    if let Some(Unsupported { form, span }) = first_form(alloc, decls, table)? {
+        return Err(RunError::Unsupported { form, span });
+    }
     match unfitness(alloc, &program, host)? {
         Some(unfit) => Err(RunError::from(unfit)),
         None => Ok(program),

@@ -8,6 +8,7 @@ mod declaration;
 mod derives;
 mod error;
 mod fields;
+mod forms;
 mod names;
 mod options;
 mod program;

@@ -43,7 +43,6 @@ fn meta_unit(
     number: u32,
     table: &RenameTable,
 ) -> Result<Unit, CompileFail>
-    requires { IsBuilt decl.now }
     ensures { steps.MakesUnit table.now number decl.now Derive.FromMeta result }
 {
     match FromMetaOptions::new(alloc, decl, table) {
@@ -67,13 +66,12 @@ fn input_unit(
     }
 }
 
-/// What the options compile to. More fields than a `u32` counts are want of memory.
+/// What the options compile to. More slots than a `u32` counts are want of memory.
 fn compiled_meta(alloc: Global, options: &FromMetaOptions, number: u32) -> Mem<Unit>
-    requires { steps.IsPlainCore options.now.base }
     ensures { IfOk result (λ unit. spec.IsMetaUnit options.now number unit) }
 {
     let left = options.as_impl(alloc)?;
-    if has_few_fields(&left.base) {
+    if left.base.has_few_slots() {
         return left.unit_of(alloc, number);
     }
     Err(AllocError)

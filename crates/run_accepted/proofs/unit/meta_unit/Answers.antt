@@ -2,18 +2,8 @@ use Rattle.std.proofs.Common.{subst, sym}
 use Rattle.options_core.specs.Stages.{option_faults, options_of, meta_reader}
 use Rattle.options_core.specs.declared.from_meta.FromMetaOptions.{FromMetaOptions}
 use Rattle.run_accepted.specs.Compiled.{IsMetaUnit}
-use Rattle.run_accepted.specs.Steps.{IsPlainCore}
 use Rattle.run_accepted.proofs.OutcomeLemmas.{no_faults}
-use Rattle.run_accepted.proofs.PlainLemmas.{meta_is_plain}
 use Rattle.run_accepted.proofs.unit.meta_unit.Goals as goal
-
-pub compiled_meta-requires : goal.compiled_meta-requires
-compiled_meta-requires c =
-    let decl = c.args.decl.now in
-    let rules = c.args.table.now in
-    let got = no_faults (option_faults (meta_reader rules decl) decl) (options_of (meta_reader rules decl) decl) c.in-Ok.options c.in-Ok.ensures in
-    let P : FromMetaOptions → Type 0 = λ options. IsPlainCore options.base in
-    subst P got.1 (meta_is_plain rules decl c.requires)
 
 pub returns-in_ok-compiled_meta-in-Ok : goal.returns-in_ok-compiled_meta-in-Ok
 returns-in_ok-compiled_meta-in-Ok c =

@@ -1,0 +1,14 @@
+use Rattle.std.proofs.Common.{◌≡◌, ◌++◌, OnOk, subst, sym}
+use Rattle.options_core.specs.Stages.{fdi_reader, option_faults, options_of}
+use Rattle.options_core.specs.declared.from_derive.FdiOptions.{FdiOptions}
+use Rattle.options_forms.specs.Forms.{input_forms}
+use Rattle.run_accepted.proofs.OutcomeLemmas.{no_faults}
+use Rattle.run_accepted.proofs.forms.push_input.Goals as goal
+
+pub returns-in-Ok : goal.returns-in-Ok
+returns-in-Ok c =
+    let reader = fdi_reader c.args.table.now c.args.decl.now in
+    let decl = c.args.decl.now in
+    let got = no_faults (option_faults reader decl) (options_of reader decl) c.in-Ok.options c.in-Ok.ensures in
+    let P : FdiOptions → Type 0 = λ options. OnOk c.push_forms.result (c.push_forms.new.places ≡ c.args.places.now ++ input_forms options) in
+    subst P (sym got.1) c.push_forms.ensures

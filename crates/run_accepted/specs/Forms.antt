@@ -1,0 +1,30 @@
+-- Forms of declarations that have no program, or that no run supports.
+use Rattle.std.specs.Prelude.{List, [], ◌++◌, flat_map, Option}
+use Rattle.node_core.specs.declared.derive.DeriveInput.{DeriveInput}
+use Rattle.codegen_program.specs.declared.program.Derive.{Derive}
+use Rattle.codegen_program.specs.declared.program.Derive.TheVariants as derive
+use Rattle.codegen_core.specs.declared.form.Unsupported.{Unsupported}
+use Rattle.machine_forms.specs.Forms.{declared_forms}
+use Rattle.machine_forms.specs.Places.{earliest_of}
+use Rattle.options_rows.specs.Values.{Rules}
+use Rattle.options_core.specs.Stages.{fdi_reader, meta_reader, options_of}
+use Rattle.options_forms.specs.Forms.{input_forms, meta_forms}
+use Rattle.run_accepted.specs.Derives.{derives_of}
+use Rattle.run_accepted.specs.declared.derives.Derived.{Derived}
+
+-- what the options of a declaration show under a derive
+abbrev pub forms_under : Rules → DeriveInput → Derive → List Unsupported
+forms_under rules decl derive.FromMeta = meta_forms (options_of (meta_reader rules decl) decl)
+forms_under rules decl derive.FromDeriveInput = input_forms (options_of (fdi_reader rules decl) decl)
+forms_under rules decl _ = []
+
+abbrev pub derived_forms : Rules → DeriveInput → Derived → List Unsupported
+derived_forms rules decl it = forms_under rules decl it.derive
+
+-- what a declaration shows: its options under each derive, and then the declaration itself
+abbrev pub decl_forms : Rules → DeriveInput → List Unsupported
+decl_forms rules decl = flat_map (derived_forms rules decl) (derives_of decl.attrs) ++ declared_forms decl
+
+-- the form that stands first in the text
+abbrev pub first_form : Rules → List DeriveInput → Option Unsupported
+first_form rules decls = earliest_of (λ it. it.span) (flat_map (decl_forms rules) decls)
