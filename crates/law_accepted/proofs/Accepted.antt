@@ -9,7 +9,7 @@ use Rattle.node_core.specs.declared.data.Fields.TheVariants as fields
 use Rattle.node_core.specs.declared.data.«Data».{«Data»}
 use Rattle.node_core.specs.declared.data.«Data».TheVariants as body
 use Rattle.node_core.specs.declared.derive.DeriveInput.{DeriveInput}
-use Rattle.codegen_core.specs.Compiled.{compiled_meta}
+use Rattle.codegen_core.specs.Compiled.{compiled_list}
 use Rattle.codegen_program.specs.declared.program.Derive.TheVariants as derive
 use Rattle.codegen_program.specs.declared.program.Program.{Program}
 use Rattle.meaning_core.specs.HostSays.{HostSays}
@@ -32,6 +32,7 @@ use Rattle.run_source.specs.Values.{Rules}
 use Rattle.run_accepted.proofs.BuiltLemmas.{named}
 use Rattle.run_accepted.specs.Accepted.{IsAccepted}
 use Rattle.run_accepted.proofs.FitLemmas.{no_rows}
+use Rattle.run_accepted.proofs.PlainLemmas.{listed_unit, meta_is_listed}
 use Rattle.run_accepted.proofs.ListLemmas.{at_place}
 use Rattle.run_accepted.proofs.PlaceLemmas.{none_first}
 use Rattle.law_options.specs.Meant.{meant_items}
@@ -114,8 +115,9 @@ module _ (host : HostSays) (rules : Rules) (decls : List DeriveInput) (program :
       let bare = bare_at number decl made.stands in
       let whole = items_are rules number decl (is_named number decl made.stands) (have_idents number decl made.stands) (names_differ number decl made.stands) made.faultless in
       let (left, left_is, compiled) = made.made in
+      let listed = compiled ∙ listed_unit left number (meta_is_listed rules decl left (at_place IsBuilt decls number decl built made.stands) left_is) in
       let met =
-      items_are_met host program made.unit meant (without_attributes decl) left made.among made.numbered (compiled ∙ ap (compiled_meta left) (sym made.numbered))
+      items_are_met host program made.unit meant (without_attributes decl) left made.among made.numbered (listed ∙ ap (compiled_list left) (sym made.numbered))
       (item_options_are rules decl left number (derive.FromMeta ∷ []) left_is) known.0 known.1 bare whole in
       let P : Decl → Type 0 = λ some. (some.number ≡ number) × IsSound host program some true in
       subst P (sym same) (refl, sound_by host program (without_attributes decl) meant true bare whole met)

@@ -20,17 +20,18 @@ use Rattle.meaning_core.specs.Decls.{member_name}
 use Rattle.meaning_core.specs.Made.{named_type}
 use Rattle.meaning_core.specs.Decl.{FieldDecl}
 use Rattle.run_accepted.specs.Attributes.{body_without, field_without, fields_without, without_attributes}
-use Rattle.run_source.specs.Body.{field_ident, field_meaning, field_start, inherited, start_body, unnamed, with_fields}
+use Rattle.run_source.specs.Body.{field_ident, field_meaning, field_start, inherited, start_body, union_faults, unnamed, with_fields}
 use Rattle.run_source.specs.Core.{Core}
 use Rattle.run_source.specs.Entries.{items, option_entries}
 use Rattle.run_source.specs.FieldOptions.{of_field, of_field_faults}
 use Rattle.run_source.specs.InputField.{InputField}
-use Rattle.run_source.specs.Members.{body_fields, no_variant, variants_of}
+use Rattle.run_source.specs.Members.{body_fields, variants_of}
 use Rattle.node_core.specs.Bodies.{is_union, field_list}
 use Rattle.run_accepted.specs.Pairs.{faults_under}
 use Rattle.run_source.specs.Rows.{else_faults, list_of}
-use Rattle.run_source.specs.Stages.{Reader, body_faults, container_options, fdi_reader, field_faults, good_fields, meta_reader, option_faults, options_of, union_faults}
+use Rattle.run_source.specs.Stages.{Reader, body_faults, container_options, fdi_reader, field_faults, good_fields, meta_reader, option_faults, options_of}
 use Rattle.run_accepted.specs.Unbuilt.{are_named, has_named_fields}
+use Rattle.run_accepted.proofs.PlainLemmas.{struct_core}
 use Rattle.run_source.specs.Values.{Rules}
 use Rattle.run_source.specs.Walk.{all_faults}
 use Rattle.law_options.specs.Meant.{fields_in, meant_decl, meant_field, meant_items}
@@ -132,7 +133,7 @@ module _ {S : Type 0} (reader : Reader S) (decl : DeriveInput) where
       → AllByRecursion (λ field. reader.field_faults (container_options reader decl) field ≡ []) (body_fields decl.body)
   no_field_faults none =
       let of_fields = flat_map (reader.field_faults (container_options reader decl)) (body_fields decl.body) in
-      let of_variants = flat_map (λ variant. no_variant variant ∷ []) (variants_of decl.body) in
+      let of_variants = flat_map (reader.variant_faults (container_options reader decl)) (variants_of decl.body) in
       let of_items = all_faults reader.options reader.item_faults reader.start [] (option_entries decl.attrs) in
       let of_body =
       none_later of_items (body_faults reader decl) (none_later (union_faults (is_union decl.body)) (else_faults of_items (body_faults reader decl)) none) in
@@ -157,5 +158,6 @@ module _ (rules : Rules) (number : ℕ) (decl : DeriveInput) (named : has_named_
       let core = set.base in
       let goods = good_fields rules core (body_fields decl.body) in
       let whole = options_of (meta_reader rules decl) decl in
-      meant_is decl named have differ number (derive.FromMeta ∷ []) [] whole.base goods refl refl
+      let same = struct_core rules core decl.body named in
+      meant_is decl named have differ number (derive.FromMeta ∷ []) [] whole.base goods (ap (λ (core : Core). core.ident) same) (ap (λ (core : Core). core.body) same)
       (goods_are rules core (body_fields decl.body) (no_field_faults (meta_reader rules decl) decl none))

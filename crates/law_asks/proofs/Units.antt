@@ -12,7 +12,7 @@ use Rattle.codegen_program.specs.declared.init.Init.{Init}
 use Rattle.codegen_program.specs.declared.shape.ShapeSpec.TheVariants as shapes
 use Rattle.codegen_program.specs.declared.stmt.Stmt.{Stmt}
 use Rattle.codegen_program.specs.declared.stmt.Stmt.TheVariants as stmt
-use Rattle.codegen_core.specs.Compiled.{closing, compiled_derive_input, compiled_meta, default_of, fields_of, for_items, input_stmts, list_stmts, over_attributes, set_default, transform}
+use Rattle.codegen_core.specs.Compiled.{closing, compiled_derive_input, compiled_list, default_of, fields_of, for_items, input_stmts, list_stmts, over_attributes, set_default, transform}
 use Rattle.codegen_core.specs.Fields.{at_slots, check, check_without, checks, declarations, flattens, inits}
 use Rattle.codegen_core.specs.declared.default_expression.DefaultExpression.{DefaultExpression}
 use Rattle.codegen_core.specs.declared.field.Field.{Field}
@@ -122,7 +122,7 @@ input_asks decl left is =
     ∙ ap (λ from_ident. all_asks (closing from_ident base)) is.no_ident
     ∙ closing_is base))
 
-pub meta_unit_asks : (decl : Decl) (left : FromMetaImpl) (number : ℕ) → IsDecl left.base decl → unit_asks (compiled_meta left number) ≡ base_asks true decl left.base
+pub meta_unit_asks : (decl : Decl) (left : FromMetaImpl) (number : ℕ) → IsDecl left.base decl → unit_asks (compiled_list left number) ≡ base_asks true decl left.base
 meta_unit_asks decl left number is = append-nil (all_asks (list_stmts left.base)) ∙ list_asks decl left.base is
 
 pub input_unit_asks : (decl : Decl) (left : FromDeriveInputImpl) (number : ℕ) → IsInputDecl left decl

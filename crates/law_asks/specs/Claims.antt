@@ -3,7 +3,7 @@ use Rattle.std.specs.Prelude.{◌≡◌, true, [], Some, Contains, slice_get}
 use Rattle.node_core.specs.declared.derive.DeriveInput.{DeriveInput}
 use Rattle.codegen_program.specs.declared.program.Program.{Program}
 use Rattle.codegen_program.specs.declared.program.«Unit».{«Unit» as Unit'}
-use Rattle.codegen_core.specs.Compiled.{compiled_meta}
+use Rattle.codegen_core.specs.Compiled.{compiled_list}
 use Rattle.codegen_core.specs.declared.from_meta_impl.FromMetaImpl.{FromMetaImpl}
 use Rattle.law_fits.specs.HostSays.{HostSays}
 use Rattle.law_fits.specs.Callables.{unknown_callables}
@@ -26,7 +26,7 @@ InputIsMet =
 abbrev pub ItemsAreMet : Type 0
 ItemsAreMet =
     (host : HostSays) (program : Program) (unit : Unit') (decl : Decl) (declared : DeriveInput) (left : FromMetaImpl)
-    → Contains program.units unit → unit.decl ≡ decl.number → unit ≡ compiled_meta left unit.decl → IsDecl left.base decl
+    → Contains program.units unit → unit.decl ≡ decl.number → unit ≡ compiled_list left unit.decl → IsDecl left.base decl
     → unknown_types host program ≡ [] → unknown_callables host program ≡ []
     → slice_get program.decls decl.number ≡ Some declared → IsOf declared decl
     → IsMet host program decl true

@@ -10,11 +10,12 @@ use Rattle.node_core.specs.declared.derive.DeriveInput.{DeriveInput}
 use Rattle.codegen_program.specs.declared.program.Program.{Program}
 use Rattle.codegen_program.specs.declared.program.«Unit».{«Unit» as Unit'}
 use Rattle.machine_forms.specs.Asks.{unit_asks}
-use Rattle.machine_forms.specs.Forms.{generated_ask, generated_members, is_generic, unsupported, unsupported_in}
-use Rattle.machine_forms.specs.Places.{earliest, earliest_of, places_from, refused_if}
+use Rattle.machine_forms.specs.Forms.{generated_ask, generated_members, unsupported, unsupported_in}
+use Rattle.machine_forms.specs.Places.{earliest, earliest_of, places_from}
 use Rattle.machine_forms.specs.Units.{asks_of, is_of, units_of}
-use Rattle.machine_forms.specs.declared.refusals.Unsupported.{Unsupported}
-use Rattle.machine_forms.specs.declared.unfit.Form.TheVariants as form
+use Rattle.codegen_core.specs.Forms.{form_if, is_generic}
+use Rattle.codegen_core.specs.declared.form.Unsupported.{Unsupported}
+use Rattle.codegen_core.specs.declared.form.Form.TheVariants as form
 use Rattle.law_options.specs.HostSays.{HostSays}
 use Rattle.law_options.specs.Unfitness.{refusals}
 use Rattle.law_options.specs.Values.{Rules}
@@ -88,7 +89,7 @@ module _ (host : HostSays) (rules : Rules) (decls : List DeriveInput) (program :
       → AllByRecursion NamesNoGenerated (units_of program.units number)
   plain_at number decl stands =
       let units = units_of program.units number in
-      let generics : List Unsupported = refused_if (is_generic decl.generics) (record { form = form.Generics; span = decl.ident.span }) in
+      let generics : List Unsupported = form_if (is_generic decl.generics) form.Generics decl.ident in
       let same : number ≡ 0 + number = omega arith in
       let none : unsupported_in units decl ≡ [] =
       ap (λ at. unsupported_in (units_of program.units at) decl) same

@@ -6,7 +6,7 @@ use Rattle.node_core.specs.declared.derive.DeriveInput.{DeriveInput}
 use Rattle.codegen_program.specs.declared.program.Derive.{Derive}
 use Rattle.codegen_program.specs.declared.program.Derive.TheVariants as derive
 use Rattle.codegen_program.specs.declared.program.«Unit».{«Unit» as Unit'}
-use Rattle.codegen_core.specs.Compiled.{compiled_derive_input, compiled_meta, fields_of}
+use Rattle.codegen_core.specs.Compiled.{compiled_derive_input, compiled_list, fields_of}
 use Rattle.codegen_core.specs.Defaults.{fallback as falls}
 use Rattle.codegen_core.specs.declared.default_expression.DefaultExpression.{DefaultExpression}
 use Rattle.codegen_core.specs.declared.default_expression.DefaultExpression.TheVariants as defaults
@@ -15,6 +15,7 @@ use Rattle.codegen_core.specs.declared.trait_impl.TraitImpl.{TraitImpl}
 use Rattle.law_options.specs.Values.{Rules}
 use Rattle.run_accepted.specs.Compiled.{IsUnitUnder}
 use Rattle.run_accepted.specs.Unbuilt.{IsBuilt}
+use Rattle.run_accepted.proofs.PlainLemmas.{listed_unit, meta_is_listed}
 use Rattle.run_accepted.proofs.UnitLemmas.{number_is}
 use Rattle.law_machine.specs.Compiles.{IsDecl, IsField, meant_fallback}
 use Rattle.law_machine.specs.Decl.{BodyDecl, Decl, FieldDecl, Shape, Single, Many, Flat, Default, ByType, ByCall, fallback_by, is_flat, is_many, skip_fallback}
@@ -79,7 +80,8 @@ module _ (rules : Rules) where
       → IsUnitUnder rules number decl it unit → IsLeftUnit unit
   unit_is_left number decl derive.FromMeta unit built (left, is, compiled) =
       let own = number_is rules number decl derive.FromMeta unit (left, is, compiled) in
-      inl (left, compiled ∙ ap (compiled_meta left) (sym own), is_left left.base _ (item_options_are rules decl left number [] is))
+      let listed = compiled ∙ listed_unit left number (meta_is_listed rules decl left built is) in
+      inl (left, listed ∙ ap (compiled_list left) (sym own), is_left left.base _ (item_options_are rules decl left number [] is))
   unit_is_left number decl derive.FromDeriveInput unit built (left, is, compiled) =
       let own = number_is rules number decl derive.FromDeriveInput unit (left, is, compiled) in
       let ident : left.from_ident ≡ false = is.ident ∙ no_ident rules decl built in

@@ -3,6 +3,7 @@ use Rattle.std.proofs.Common.{◌≡◌, ◌∙◌, List, [], ◌∷◌, ◌++�
 use Rattle.std.specs.List.{AllZip}
 use Rattle.std.proofs.lemmas.List.{map-append}
 use mathlib.Core.List.{append-eq-nil_iff}
+use Rattle.tok_types.specs.declared.ident.Ident.{Ident}
 use Rattle.node_core.specs.Bodies.{is_union}
 use Rattle.node_core.specs.declared.data.Field.{Field}
 use Rattle.node_core.specs.declared.data.«Data».{«Data» as NodeData}
@@ -16,19 +17,19 @@ use Rattle.codegen_core.specs.Compiled.{fields_of as left_fields, struct_fields}
 use Rattle.codegen_core.specs.declared.field.Field.{Field as Left}
 use Rattle.codegen_core.specs.declared.trait_impl.TraitImpl.{TraitImpl}
 use Rattle.codegen_core.specs.declared.variant.Variant.{Variant}
-use Rattle.law_options.specs.Body.{Body, field_meaning, field_start, inherited, start_body, with_fields}
+use Rattle.law_options.specs.Body.{Body, field_meaning, field_start, inherited, start_body, union_faults, with_fields}
 use Rattle.law_options.specs.Core.{Core}
 use Rattle.law_options.specs.Entries.{items, option_entries}
 use Rattle.law_options.specs.FieldOptions.{of_field, of_field_faults}
 use Rattle.law_options.specs.InputField.{InputField}
 use Rattle.law_options.specs.Meant.{fields_in}
-use Rattle.law_options.specs.Members.{body_fields, no_variant, variants_of}
+use Rattle.law_options.specs.Members.{body_fields, variants_of}
 use Rattle.law_options.specs.Rows.{else_faults, list_of}
-use Rattle.law_options.specs.Stages.{Reader, body_faults, container_options, field_faults, good_fields, option_faults, options_of, union_faults}
+use Rattle.law_options.specs.Stages.{Reader, body_faults, container_options, field_faults, good_fields, option_faults, options_of}
 use Rattle.law_options.specs.Values.{Rules}
 use Rattle.law_options.specs.Walk.{all_faults}
-use Rattle.run_accepted.specs.Views as views
-use Rattle.run_accepted.specs.Views.{IsImpl, IsStruct}
+use Rattle.run_accepted.specs.MemberViews as views
+use Rattle.run_accepted.specs.MemberViews.{IsBody, IsImpl}
 use Rattle.law_given.specs.Owned.{Member, member_of}
 use Rattle.law_given.proofs.Slots.{left_member}
 
@@ -78,18 +79,18 @@ left_members [] (it ∷ its) zip = absurd zip
 left_members (left ∷ lefts) [] zip = absurd zip
 left_members (left ∷ lefts) (it ∷ its) zip = ap₂ ◌∷◌ (λ k. (zip.0.ident k, zip.0.ty k)) (left_members lefts its zip.1)
 
-body_members : (left : «Data» Variant Left) (it : Body) → IsStruct left it → map left_member (struct_fields left) ≡ map option_member (fields_in it)
-body_members (container.Struct left) (container.Struct it) is = left_members left.fields it.fields is.1
-body_members (container.Struct left) (container.Enum variants) is = absurd is
-body_members (container.Enum lefts) (container.Struct it) is = absurd is
-body_members (container.Enum lefts) (container.Enum variants) is = absurd is
+body_members : (ty : Ident) (left : «Data» Variant Left) (it : Body) → IsBody ty left it → map left_member (struct_fields left) ≡ map option_member (fields_in it)
+body_members ty (container.Struct left) (container.Struct it) is = left_members left.fields it.fields is.1
+body_members ty (container.Struct left) (container.Enum variants) is = absurd is
+body_members ty (container.Enum lefts) (container.Struct it) is = absurd is
+body_members ty (container.Enum lefts) (container.Enum variants) is = refl
 
 -- what is compiled from a struct has those of all its fields, where none has a fault
 pub struct_members : (rules : Rules) (core : Core) (it : NodeData) (left : TraitImpl) (whole : Core) → IsImpl left whole
     → whole.body ≡ with_fields (start_body it) (good_fields rules core (body_fields it)) → flat_map (field_faults rules core) (body_fields it) ≡ []
     → map left_member (left_fields left) ≡ map member_of (body_fields it)
 struct_members rules core it left whole is same none =
-    body_members left.body whole.body is.members ∙ ap (λ body. map option_member (fields_in body)) same ∙ members_kept rules core it none
+    body_members whole.ident left.body whole.body is.members ∙ ap (λ body. map option_member (fields_in body)) same ∙ members_kept rules core it none
 
 -- ---- faults
 
@@ -102,7 +103,7 @@ module _ {S : Type 0} (reader : Reader S) (decl : DeriveInput) where
   pub no_field_faults : option_faults reader decl ≡ [] → flat_map (reader.field_faults (container_options reader decl)) (body_fields decl.body) ≡ []
   no_field_faults none =
       let of_fields = flat_map (reader.field_faults (container_options reader decl)) (body_fields decl.body) in
-      let of_variants = flat_map (λ variant. no_variant variant ∷ []) (variants_of decl.body) in
+      let of_variants = flat_map (reader.variant_faults (container_options reader decl)) (variants_of decl.body) in
       let of_items = all_faults reader.options reader.item_faults reader.start [] (option_entries decl.attrs) in
       let of_rest = none_later (union_faults (is_union decl.body)) (else_faults of_items (body_faults reader decl)) none in
       let of_body = none_later of_items (body_faults reader decl) of_rest in

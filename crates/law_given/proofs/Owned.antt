@@ -26,8 +26,10 @@ use Rattle.law_options.specs.Values.{Rules}
 use Rattle.run_accepted.specs.Attributes.{body_without, field_without, fields_without, generics_without, without_attributes}
 use Rattle.run_accepted.specs.Compiled.{IsUnitUnder}
 use Rattle.run_accepted.specs.Pairs.{faults_under}
-use Rattle.run_accepted.specs.Views.{IsImpl}
+use Rattle.run_accepted.specs.MemberViews.{IsImpl}
+use Rattle.run_accepted.specs.Unbuilt.{IsBuilt}
 use Rattle.run_accepted.proofs.ListLemmas.{at_place}
+use Rattle.run_accepted.proofs.PlainLemmas.{listed_unit, meta_core_is, meta_is_listed}
 use Rattle.law_given.specs.Claims.{GivenIsOfDeclarations}
 use Rattle.law_given.specs.Given.{HasFewFields, IsGivenUnit}
 use Rattle.law_given.specs.Owned.{IsOfDeclaration, member_of, numbered, slots_of}
@@ -84,28 +86,31 @@ module _ (rules : Rules) (decl : DeriveInput) (few : HasFewFields decl) where
         krate = unusual (option_copied left.krate);
       }
 
-  owned : (number : ℕ) (it : Derive) (unit : Unit') → faults_under rules decl it ≡ [] → IsUnitUnder rules number decl it unit
+  owned : (number : ℕ) (it : Derive) (unit : Unit') → IsBuilt decl → faults_under rules decl it ≡ [] → IsUnitUnder rules number decl it unit
       → IsOfDeclaration (without_attributes decl) unit
-  owned number derive.FromMeta unit none (left, is, compiled) =
+  owned number derive.FromMeta unit built none (left, is, compiled) =
       let set = container_options (meta_reader rules decl) decl in
       let whole = (options_of (meta_reader rules decl) decl).base in
-      subst (IsOfDeclaration (without_attributes decl)) (sym compiled)
-      (unit_owned set.base whole left.base number derive.FromMeta left.derive_syn_parse _ is.base refl refl refl
+      let listed = compiled ∙ listed_unit left number (meta_is_listed rules decl left built is) in
+      let same = meta_core_is rules decl built in
+      subst (IsOfDeclaration (without_attributes decl)) (sym listed)
+      (unit_owned set.base whole left.base number derive.FromMeta left.derive_syn_parse _ is.base
+      (ap (λ (core : Core). core.ident) same) (ap (λ (core : Core). core.generics) same) (ap (λ (core : Core). core.body) same)
       (no_field_faults (meta_reader rules decl) decl none) (list_slots left.base))
-  owned number derive.FromDeriveInput unit none (left, is, compiled) =
+  owned number derive.FromDeriveInput unit built none (left, is, compiled) =
       let set = container_options (fdi_reader rules decl) decl in
       let whole = (options_of (fdi_reader rules decl) decl).base.container in
       subst (IsOfDeclaration (without_attributes decl)) (sym compiled)
       (unit_owned set.base.container whole left.base number derive.FromDeriveInput false _ is.base refl refl refl
       (no_field_faults (fdi_reader rules decl) decl none) (input_slots left))
-  owned number derive.FromAttributes unit none is = absurd is
-  owned number derive.FromField unit none is = absurd is
-  owned number derive.FromTypeParam unit none is = absurd is
-  owned number derive.FromVariant unit none is = absurd is
+  owned number derive.FromAttributes unit built none is = absurd is
+  owned number derive.FromField unit built none is = absurd is
+  owned number derive.FromTypeParam unit built none is = absurd is
+  owned number derive.FromVariant unit built none is = absurd is
 
 pub given_is_of_declarations : GivenIsOfDeclarations
 given_is_of_declarations program number unit given at =
     let is = at_place (IsGivenUnit program.decls) program.units number unit given.units at in (
       left_at program number unit given at,
-      (without_attributes is.written, is.stands, owned is.rules is.written is.few unit.decl unit.derive unit is.faultless is.compiled),
+      (without_attributes is.written, is.stands, owned is.rules is.written is.few unit.decl unit.derive unit is.built is.faultless is.compiled),
     )

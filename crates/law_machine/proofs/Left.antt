@@ -4,7 +4,7 @@ use Rattle.std.specs.List.{AllByRecursion, AllZip}
 use Rattle.base_core.specs.declared.text.Text.{Text}
 use Rattle.node_expr.specs.declared.ty.«Type».{«Type» as Type'}
 use Rattle.node_make.specs.PathText.{path_text}
-use Rattle.codegen_core.specs.Compiled.{compiled_derive_input, compiled_meta, fields_of}
+use Rattle.codegen_core.specs.Compiled.{compiled_derive_input, compiled_list, fields_of}
 use Rattle.codegen_core.specs.Defaults.{fallback as falls}
 use Rattle.codegen_core.specs.declared.default_expression.DefaultExpression.{DefaultExpression}
 use Rattle.codegen_core.specs.declared.default_expression.DefaultExpression.TheVariants as defaults
@@ -74,7 +74,7 @@ lists_have_outcomes setting before unit items (left, compiled, is) =
     let decl = meant_decl (unit_type unit) [] left.base in (
       _,
       ap (λ u. run_func setting before is_from_list u (Items items)) compiled
-          ∙ list_outcome setting before (receiver_of setting (compiled_meta left unit.decl)) left.base decl items (decl_is (unit_type unit) [] left.base is),
+          ∙ list_outcome setting before (receiver_of setting (compiled_list left unit.decl)) left.base decl items (decl_is (unit_type unit) [] left.base is),
     )
 
 pub inputs_have_outcomes : InputsHaveOutcomes

@@ -9,7 +9,7 @@ use Rattle.error_fault.specs.Outcome.{Outcome}
 use Rattle.machine_value.specs.declared.value.Value.{Value as Datum}
 use Rattle.codegen_program.specs.declared.program.Derive.TheVariants as derives
 use Rattle.codegen_program.specs.declared.program.«Unit».{«Unit» as Unit'}
-use Rattle.codegen_core.specs.Compiled.{compiled_derive_input, compiled_meta}
+use Rattle.codegen_core.specs.Compiled.{compiled_derive_input, compiled_list}
 use Rattle.machine_execute.specs.Asked.{OnElement}
 use Rattle.machine_execute.specs.Elements.{OnInput}
 use Rattle.machine_execute.specs.Machine.{cells_by, earlier_units, is_from_derive_input, or_unread, run_func, setting_of, unit_cells, unit_reads, unit_under, unit_type}
@@ -30,7 +30,7 @@ module _ (setting : Setting) where
   cells_are before (Some unit) None same = absurd same
   cells_are before (Some unit) (Some decl) (left, compiled, left_is, type_is) =
       let lists : (List NestedMeta → Outcome Datum) → Cells Datum = λ read. record no_cells { list = λ items. Some (read items) } in
-      let receiver = receiver_of setting (compiled_meta left unit.decl) in
+      let receiver = receiver_of setting (compiled_list left unit.decl) in
       ap (unit_cells setting before) compiled
       ∙ ap lists (fun_ext (λ items. ap or_unread (list_is_meaning setting before receiver left.base decl items left_is (sym (ap unit_type compiled) ∙ type_is))))
 

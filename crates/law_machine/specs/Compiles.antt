@@ -12,7 +12,7 @@ use Rattle.codegen_program.specs.declared.init.Fallback.{Fallback as Falls}
 use Rattle.codegen_program.specs.declared.init.Fallback.TheVariants as fallbacks
 use Rattle.codegen_program.specs.declared.program.Derive.TheVariants as derives
 use Rattle.codegen_program.specs.declared.program.«Unit».{«Unit» as Unit'}
-use Rattle.codegen_core.specs.Compiled.{compiled_derive_input, compiled_meta, fields_of, default_of}
+use Rattle.codegen_core.specs.Compiled.{compiled_derive_input, compiled_list, fields_of, default_of}
 use Rattle.codegen_core.specs.Defaults.{custom}
 use Rattle.codegen_core.specs.Fields.{fallback_of}
 use Rattle.codegen_core.specs.declared.field.Field.{Field}
@@ -62,13 +62,13 @@ pub record IsInputDecl (left : FromDeriveInputImpl) (decl : Decl) : Type 0 where
   pub attributes : map path_text left.attr_names.now.0 ≡ decl.attributes
   pub no_ident : left.from_ident ≡ false
 
--- the unit of the declaration, where either is there
+-- the unit of a declaration that is read field by field, where either is there
 abbrev pub IsMetaUnit : Option Unit' → Option Decl → Type 0
 IsMetaUnit None None = Unit {0}
 IsMetaUnit None (Some decl) = ⊥
 IsMetaUnit (Some unit) None = ⊥
 IsMetaUnit (Some unit) (Some decl) =
-    (left : FromMetaImpl) × (unit ≡ compiled_meta left unit.decl) × IsDecl left.base decl × (unit_type unit ≡ decl.type)
+    (left : FromMetaImpl) × (unit ≡ compiled_list left unit.decl) × IsDecl left.base decl × (unit_type unit ≡ decl.type)
 
 -- a declaration that is read from items has its unit, and no other number has one
 abbrev pub AreMetaUnits : List Unit' → List Decl → Type 0

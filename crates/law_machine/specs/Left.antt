@@ -6,7 +6,7 @@ use Rattle.base_core.specs.declared.text.Text.{Text}
 use Rattle.tok_types.specs.Ident.{ident_text}
 use Rattle.node_expr.specs.declared.ty.«Type».{«Type» as Type'}
 use Rattle.codegen_program.specs.declared.program.«Unit».{«Unit» as Unit'}
-use Rattle.codegen_core.specs.Compiled.{compiled_derive_input, compiled_meta, default_of, fields_of}
+use Rattle.codegen_core.specs.Compiled.{compiled_derive_input, compiled_list, default_of, fields_of}
 use Rattle.codegen_core.specs.Defaults.{custom}
 use Rattle.codegen_core.specs.declared.default_expression.DefaultExpression.{DefaultExpression}
 use Rattle.codegen_core.specs.declared.default_expression.DefaultExpression.TheVariants as defaults
@@ -80,9 +80,9 @@ pub record IsLeftField (whole : Option Default) (left : Field) : Type 0 where
 abbrev pub IsLeft : TraitImpl → Type 0
 IsLeft left = AllByRecursion (IsLeftField (whole_default left)) (fields_of left)
 
--- the unit of `FromMeta` that options leave
+-- the unit of `FromMeta` that options leave of a struct which is read field by field
 abbrev pub IsLeftMeta : Unit' → Type 0
-IsLeftMeta unit = (left : FromMetaImpl) × (unit ≡ compiled_meta left unit.decl) × IsLeft left.base
+IsLeftMeta unit = (left : FromMetaImpl) × (unit ≡ compiled_list left unit.decl) × IsLeft left.base
 
 -- the unit of `FromDeriveInput` that options leave; none of its defaults comes from the identifier
 abbrev pub IsLeftInput : Unit' → Type 0

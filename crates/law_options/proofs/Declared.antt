@@ -1,5 +1,5 @@
 -- What is compiled from options is of the declaration that they mean.
-use Rattle.std.proofs.Common.{◌≡◌, ◌∙◌, ℕ, false, List, [], ◌∷◌, map, Option, Some, None, option_map, refl, sym, ap}
+use Rattle.std.proofs.Common.{◌≡◌, ◌∙◌, ℕ, false, List, [], ◌∷◌, map, Option, Some, None, option_map, refl, sym, ap, subst}
 use Rattle.std.specs.Prelude.{is_some, option_and_then, unwrap_or}
 use Rattle.std.specs.List.{AllByRecursion, AllZip}
 use Rattle.base_core.specs.declared.text.Text.{Text}
@@ -8,6 +8,7 @@ use Rattle.tok_types.specs.declared.ident.Ident.{Ident}
 use Rattle.node_make.specs.PathText.{path_text}
 use Rattle.node_core.specs.declared.data.«Data».{«Data» as NodeData}
 use Rattle.node_core.specs.declared.data.«Data».TheVariants as node
+use Rattle.node_core.specs.Bodies.{field_list}
 use Rattle.node_core.specs.declared.derive.DeriveInput.{DeriveInput}
 use Rattle.codegen_program.specs.declared.program.Derive.{Derive}
 use Rattle.codegen_core.specs.Compiled.{struct_fields}
@@ -28,11 +29,12 @@ use Rattle.run_accepted.specs.Rows.{values}
 use Rattle.run_accepted.specs.Values.{Rules}
 use Rattle.run_accepted.specs.Core.{Core}
 use Rattle.run_accepted.specs.InputField.{InputField}
-use Rattle.run_accepted.specs.Body.{Body, start_body, with_fields}
-use Rattle.run_accepted.specs.ContainerOptions.{core_items, default, fdi_named, from_ident_of, meta_core_items, meta_named, outer_items, same_core}
-use Rattle.run_accepted.specs.Stages.{container_options, fdi_reader, good_fields, meta_reader}
-use Rattle.run_accepted.specs.Views as views
-use Rattle.run_accepted.specs.Views.{AreDefaults, IsImpl, IsStruct}
+use Rattle.run_accepted.specs.Body.{Body, start_body, with_fields, with_variants}
+use Rattle.run_accepted.specs.CoreOptions.{default, same_core}
+use Rattle.run_accepted.specs.ContainerOptions.{core_items, fdi_named, from_ident_of, meta_core_items, meta_named, outer_items}
+use Rattle.run_accepted.specs.Stages.{container_options, core_with_body, fdi_reader, good_fields, good_variants, meta_reader}
+use Rattle.run_accepted.specs.MemberViews as views
+use Rattle.run_accepted.specs.MemberViews.{AreDefaults, IsBody, IsImpl}
 use Rattle.law_machine.specs.Compiles.{IsDecl, IsField, meant_default, meant_fallback}
 use Rattle.law_machine.proofs.Left.{flat_is, many_is}
 use Rattle.law_options.specs.Claims.{InputOptionsAreMeant, ItemOptionsAreMeant}
@@ -102,19 +104,19 @@ module _ (body : BodyDecl) where
   all_are (left ∷ lefts) [] zip are = absurd zip
   all_are (left ∷ lefts) (it ∷ its) zip are = (field_is left it zip.0 are.0, all_are lefts its zip.1 are.1)
 
-  body_is : (left : «Data» Variant Field) (it : Body) → IsStruct left it → AllByRecursion (IsLeft body.default) (fields_in it)
+  body_is : (ty : Ident) (left : «Data» Variant Field) (it : Body) → IsBody ty left it → AllByRecursion (IsLeft body.default) (fields_in it)
       → AllZip (IsField body) (struct_fields left) (map meant_field (fields_in it))
-  body_is (container.Struct left) (container.Struct it) is are = all_are left.fields it.fields is.1 are
-  body_is (container.Struct left) (container.Enum variants) is are = absurd is
-  body_is (container.Enum lefts) (container.Struct it) is are = absurd is
-  body_is (container.Enum lefts) (container.Enum variants) is are = absurd is
+  body_is ty (container.Struct left) (container.Struct it) is are = all_are left.fields it.fields is.1 are
+  body_is ty (container.Struct left) (container.Enum variants) is are = absurd is
+  body_is ty (container.Enum lefts) (container.Struct it) is are = absurd is
+  body_is ty (container.Enum lefts) (container.Enum variants) is are = tt
 
 decl_is : (left : TraitImpl) (core : Core) (number : ℕ) (derives : List Derive) (names : List Text) → IsImpl left core
     → AllByRecursion (IsLeft (own_default core.default)) (fields_in core.body) → IsDecl left (meant_decl number derives names core)
 decl_is left core number derives names is are =
     record {
       name = ap ident_text is.ident;
-      fields = body_is (meant_decl number derives names core).body left.body core.body is.members are;
+      fields = body_is (meant_decl number derives names core).body core.ident left.body core.body is.members are;
       default = default_is core.ident left.default core.default is.default;
       transform = is.transform;
       allows_unknown = is.allow;
@@ -139,6 +141,24 @@ whole_is rules core input own is =
     let P = IsLeft (own_default core.default) in
     with_is P (start_body input.body) (good_fields rules core (body_fields input.body)) (start_is P input.body) (fields_are rules core own (body_fields input.body))
 
+-- the same of one that takes variants too
+meta_whole_is : (rules : Rules) (core : Core) (it : NodeData) → IsOwnIfAny core.default → core.body ≡ start_body it
+    → AllByRecursion (IsLeft (own_default (core_with_body rules core it).default)) (fields_in (core_with_body rules core it).body)
+meta_whole_is rules core (node.Struct it) own is =
+    let P = IsLeft (own_default core.default) in
+    let goods = good_fields rules core (field_list it.fields) in
+    let Q : Body → Type 0 = λ body. AllByRecursion P (fields_in (with_fields body goods)) in
+    subst Q (sym is) (fields_are rules core own (field_list it.fields))
+meta_whole_is rules core (node.Enum it) own is =
+    let P = IsLeft (own_default core.default) in
+    let goods = good_variants rules core it.variants in
+    let Q : Body → Type 0 = λ body. AllByRecursion P (fields_in (with_variants body goods)) in
+    subst Q (sym is) tt
+meta_whole_is rules core (node.Union it) own is =
+    let P = IsLeft (own_default core.default) in
+    let Q : Body → Type 0 = λ body. AllByRecursion P (fields_in body) in
+    subst Q (sym is) tt
+
 pub input_options_are : InputOptionsAreMeant
 input_options_are rules input left number derives is no_ident =
     let set = container_options (fdi_reader rules input) input in
@@ -157,4 +177,4 @@ item_options_are rules input left number derives is =
     let set = container_options (meta_reader rules input) input in
     let named = map meta_named (items (option_entries input.attrs)) in
     let own = first_default (same_core default.name) None (meta_core_items named) tt in
-    decl_is left.base _ number derives [] is.base (whole_is rules set.base input own refl)
+    decl_is left.base _ number derives [] is.base (meta_whole_is rules set.base input.body own refl)

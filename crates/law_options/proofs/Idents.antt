@@ -11,7 +11,8 @@ use Rattle.error_fault.specs.Outcome.{Outcome, Value, value_of}
 use Rattle.run_accepted.specs.Entries.{items, option_entries}
 use Rattle.run_accepted.specs.Rows.{last_of, list_of, Named, values}
 use Rattle.run_accepted.specs.Values.{Rules, word_of}
-use Rattle.run_accepted.specs.ContainerOptions.{core_name_of, fdi_named, outer_item, outer_items, outer_name_of, same_outer}
+use Rattle.run_accepted.specs.CoreOptions.{core_name_of}
+use Rattle.run_accepted.specs.ContainerOptions.{fdi_named, outer_item, outer_items, outer_name_of, same_outer}
 use Rattle.run_accepted.specs.CoreName.{CoreName}
 use Rattle.run_accepted.specs.FdiName.TheVariants as fdi
 use Rattle.run_accepted.specs.OuterName.{OuterName}

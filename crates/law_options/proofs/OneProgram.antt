@@ -1,33 +1,44 @@
 -- Two programs of the same declarations are equal, since a unit depends on no more than what its options fix.
-use Rattle.std.proofs.Common.{◌≡◌, ◌∙◌, ℕ, ◌+◌, Bool, false, ◌||◌, List, [], ◌∷◌, ◌++◌, map, Option, Some, None, option_map, refl, sym, ap, ap₂}
-use Rattle.std.specs.Prelude.{option_and_then}
+use Rattle.std.proofs.Common.{◌≡◌, ◌∙◌, ℕ, suc, ◌+◌, Bool, true, false, ◌||◌, List, [], ◌∷◌, ◌++◌, length, map, Option, Some, None, option_map, refl, sym, ap, ap₂, subst₂}
+use Rattle.std.specs.Prelude.{option_and_then, if◌then◌else◌}
 use Rattle.std.specs.List.{AllZip, cons_option, list_any}
+use Rattle.std.specs.Option.{option_copied}
 use Rattle.base_core.specs.declared.text.Text.{Text}
+use Rattle.tok_types.specs.Ident.{ident_text}
 use Rattle.tok_types.specs.declared.ident.Ident.{Ident}
 use Rattle.node_make.specs.PathText.{path_text}
 use Rattle.node_core.specs.declared.derive.DeriveInput.{DeriveInput}
+use Rattle.node_core.specs.declared.style.Style.{Style}
+use Rattle.node_core.specs.declared.style.Style.TheVariants as style
 use Rattle.body_core.specs.declared.ast.data.«Data».{«Data»}
 use Rattle.body_core.specs.declared.ast.data.«Data».TheVariants as body
 use Rattle.codegen_program.specs.declared.program.Derive.{Derive}
 use Rattle.codegen_program.specs.declared.program.Derive.TheVariants as derive
 use Rattle.codegen_program.specs.declared.program.Program.{Program}
 use Rattle.codegen_program.specs.declared.program.«Unit».{«Unit» as Unit'}
-use Rattle.codegen_core.specs.Compiled.{closing, fields_of, for_items, input_stmts, list_stmts, over_attributes, struct_fields}
+use Rattle.codegen_core.specs.Compiled.{build, call_funcs, closing, fields_of, for_items, funcs_by, funcs_in, input_stmts, list_funcs, list_stmts, meta_funcs, over_attributes, own_funcs, struct_fields}
 use Rattle.codegen_core.specs.Defaults.{fallback, source}
-use Rattle.codegen_core.specs.Fields.{arm, at_slots, check, check_without, checks, core_loop, declaration, declarations, fallback_of, flatten, flattens, init, inits, name_of, named_arm, names}
+use Rattle.codegen_core.specs.Fields.{arm, at_slots, check, check_without, checks_from, core_loop_from, declaration, declarations_from, fallback_of, flatten, flattens, init, inits_from, name_of, named_arm, names}
+use Rattle.codegen_core.specs.Variants.{form_by, member_name, own_form, own_unit_form, proxy_of, read_name, slotted, slotted_by, sole, transparent_field, unit_arm, unit_arms, unit_form_by, variant_arm, variant_arms, variant_names, variant_stmts}
+use Rattle.codegen_program.specs.declared.variant.UnitForm.TheVariants as units
+use Rattle.codegen_program.specs.declared.variant.VariantForm.TheVariants as forms
 use Rattle.codegen_core.specs.declared.default_expression.DefaultExpression.{DefaultExpression as Shown}
 use Rattle.codegen_core.specs.declared.default_expression.DefaultExpression.TheVariants as shown
 use Rattle.codegen_core.specs.declared.field.Field.{Field}
 use Rattle.codegen_core.specs.declared.from_derive_impl.FromDeriveInputImpl.{FromDeriveInputImpl}
+use Rattle.codegen_core.specs.declared.from_meta_impl.FromMetaImpl.{FromMetaImpl}
 use Rattle.codegen_core.specs.declared.trait_impl.TraitImpl.{TraitImpl}
 use Rattle.codegen_core.specs.declared.variant.Variant.{Variant}
 use Rattle.run_accepted.specs.DefaultExpression.{DefaultExpression}
 use Rattle.run_accepted.specs.DefaultExpression.TheVariants as defaults
 use Rattle.run_accepted.specs.Core.{Core}
 use Rattle.run_accepted.specs.FdiOptions.{FdiOptions}
+use Rattle.run_accepted.specs.FromMetaOptions.{FromMetaOptions}
 use Rattle.run_accepted.specs.InputField.{InputField}
+use Rattle.run_accepted.specs.InputVariant.{InputVariant}
 use Rattle.run_accepted.specs.Body.{Body}
-use Rattle.run_accepted.specs.Views.{AreDefaults, IsField, IsImpl, IsInputImpl, IsStruct}
+use Rattle.run_accepted.specs.MemberViews.{AreDefaults, IsBody, IsField, IsImpl, IsVariant}
+use Rattle.run_accepted.specs.Views.{IsInputImpl, IsMetaImpl}
 use Rattle.run_accepted.specs.Values.{Rules}
 use Rattle.run_accepted.specs.Compiled.{IsUnit, IsUnitUnder}
 use Rattle.run_accepted.specs.Pairs.{Pair, pairs_from}
@@ -90,10 +101,11 @@ both_have (it ∷ its) (one ∷ ones) (other ∷ others) are also =
     (record { it = it; are = are.0; also = also.0 }, both_have its ones others are.1 also.1)
 both_have its ones others are also = absurd (assumption)
 
-bodies_have : (one : «Data» Variant Field) (it : Body) (other : «Data» Variant Field) → IsStruct one it → IsStruct other it
+bodies_have : (ty : Ident) (one : «Data» Variant Field) (it : Body) (other : «Data» Variant Field) → IsBody ty one it → IsBody ty other it
     → AllZip HaveSameOptions (struct_fields one) (struct_fields other)
-bodies_have (body.Struct one) (body.Struct it) (body.Struct other) are also = both_have it.fields one.fields other.fields are.1 also.1
-bodies_have one it other are also = absurd (assumption)
+bodies_have ty (body.Struct one) (body.Struct it) (body.Struct other) are also = both_have it.fields one.fields other.fields are.1 also.1
+bodies_have ty (body.Enum ones) (body.Enum its) (body.Enum others) are also = tt
+bodies_have ty one it other are also = absurd (assumption)
 
 -- what two fields of the same options give, all fields give
 module _ {A : Type 0} (give : ℕ → Field → List A) (same : (one other : Field) → HaveSameOptions one other → (slot : ℕ) → give slot one ≡ give slot other) where
@@ -115,43 +127,174 @@ same_any ones others have = absurd have
 
 -- all fields compile to the same
 module _ (ones others : List Field) (have : AllZip HaveSameOptions ones others) where
-  same_declarations : declarations ones ≡ declarations others
-  same_declarations = same_slots declaration same_declaration 0 ones others have
+  same_declarations : (slot : ℕ) → declarations_from slot ones ≡ declarations_from slot others
+  same_declarations slot = same_slots declaration same_declaration slot ones others have
 
-  same_core_loop : (allow_unknown_fields : Bool) → core_loop allow_unknown_fields ones ≡ core_loop allow_unknown_fields others
-  same_core_loop allow_unknown_fields = cc (same_slots arm same_arm 0 ones others have, same_any ones others have, same_names ones others have)
+  same_core_loop : (slot : ℕ) (allow_unknown_fields : Bool) → core_loop_from slot allow_unknown_fields ones ≡ core_loop_from slot allow_unknown_fields others
+  same_core_loop slot allow_unknown_fields =
+      cc (same_slots arm same_arm slot ones others have, same_any ones others have, same_names ones others have)
 
   same_flattens : flattens ones ≡ flattens others
   same_flattens =
       ap (λ siblings. at_slots (flatten siblings) 0 ones) (same_names ones others have)
       ∙ same_slots (flatten (names others)) (λ one other both slot. cc) 0 ones others have
 
-  same_checks : checks ones ≡ checks others
-  same_checks = same_slots check same_check 0 ones others have
+  same_checks : (slot : ℕ) → checks_from slot ones ≡ checks_from slot others
+  same_checks slot = same_slots check same_check slot ones others have
 
-  same_inits : inits ones ≡ inits others
-  same_inits = same_slots (λ slot field. init slot field ∷ []) same_init 0 ones others have
+  same_inits : (slot : ℕ) → inits_from slot ones ≡ inits_from slot others
+  same_inits slot = same_slots (λ slot field. init slot field ∷ []) same_init slot ones others have
+
+same_length : (ones others : List Field) → AllZip HaveSameOptions ones others → length ones ≡ length others
+same_length [] [] have = refl
+same_length (one ∷ ones) (other ∷ others) have = ap (λ count. suc count) (same_length ones others have.1)
+same_length ones others have = absurd have
+
+-- ---- the field as which a struct or a variant is read
+
+-- there are two of the same options, or there is none
+abbrev SameProxy : Option Field → Option Field → Type 0
+SameProxy None None = Unit {0}
+SameProxy (Some one) (Some other) = HaveSameOptions one other
+SameProxy _ _ = ⊥
+
+same_sole : (ones others : List Field) → AllZip HaveSameOptions ones others → SameProxy (sole ones) (sole others)
+same_sole [] [] have = tt
+same_sole (one ∷ []) (other ∷ []) have = have.0
+same_sole (one ∷ another ∷ ones) (other ∷ next ∷ others) have = tt
+same_sole ones others have = absurd (assumption)
+
+same_proxy : (transparent : Bool) (it : Style) (ones others : List Field) → AllZip HaveSameOptions ones others
+    → SameProxy (transparent_field transparent it ones) (transparent_field transparent it others)
+same_proxy transparent style.Tuple ones others have = same_sole ones others have
+same_proxy true style.Struct ones others have = same_sole ones others have
+same_proxy false style.Struct ones others have = tt
+same_proxy transparent style.Unit ones others have = tt
+
+same_member : (it : Style) (one other : Field) → HaveSameOptions one other → member_name it one ≡ member_name it other
+same_member style.Tuple one other have = refl
+same_member style.Struct one other have = ap ident_text (have.are.ident ∙ sym have.also.ident)
+same_member style.Unit one other have = ap ident_text (have.are.ident ∙ sym have.also.ident)
+
+-- ---- a variant
+
+record HaveSameVariant (one other : Variant) : Type 0 where
+  ty : Ident
+  it : InputVariant
+  are : IsVariant ty one it
+  also : IsVariant ty other it
+
+-- two variants of the same options give the same
+module _ (one other : Variant) (have : HaveSameVariant one other) where
+  members_have : AllZip HaveSameOptions one.body.fields other.body.fields
+  members_have = both_have have.it.body.fields one.body.fields other.body.fields have.are.fields have.also.fields
+
+  same_style : one.body.style ≡ other.body.style
+  same_style = have.are.style ∙ sym have.also.style
+
+  proxies : SameProxy (proxy_of one) (proxy_of other)
+  proxies =
+      let P : Style → Bool → Type 0 = λ it transparent. SameProxy (proxy_of one) (transparent_field transparent it other.body.fields) in
+      subst₂ P same_style (have.are.transparent ∙ sym have.also.transparent)
+      (same_proxy one.transparent one.body.style one.body.fields other.body.fields members_have)
+
+  same_stmts : (slot : ℕ) → variant_stmts slot one ≡ variant_stmts slot other
+  same_stmts slot =
+      let ones = one.body.fields in
+      let others = other.body.fields in
+      let declarations = same_declarations ones others members_have slot in
+      let loop = same_core_loop ones others members_have slot one.allow_unknown_fields in
+      let checks = same_checks ones others members_have slot in
+      let inits = same_inits ones others members_have slot in
+      cc (declarations, loop, checks, inits)
+
+  same_own : (it : Style) (slot : ℕ) → own_form it slot one ≡ own_form it slot other
+  same_own style.Tuple slot = ap forms.Struct (same_stmts slot)
+  same_own style.Struct slot = ap forms.Struct (same_stmts slot)
+  same_own style.Unit slot = refl
+
+  same_form : (left right : Option Field) → SameProxy left right → (slot : ℕ) → form_by left slot one ≡ form_by right slot other
+  same_form None None same slot = same_own one.body.style slot ∙ ap (λ it. own_form it slot other) same_style
+  same_form (Some left) (Some right) same slot =
+      ap₂ forms.Transparent (same_member one.body.style left right same ∙ ap (λ it. member_name it right) same_style) (same.are.ty ∙ sym same.also.ty)
+  same_form left right same slot = absurd (assumption)
+
+  same_unit_form : (left right : Option Field) → SameProxy left right → unit_form_by left one.body.style ≡ unit_form_by right other.body.style
+  same_unit_form None None same = ap own_unit_form same_style
+  same_unit_form (Some left) (Some right) same =
+      ap₂ units.Transparent (same_member one.body.style left right same ∙ ap (λ it. member_name it right) same_style) (same.are.ty ∙ sym same.also.ty)
+  same_unit_form left right same = absurd (assumption)
+
+  same_data_arm : (slot : ℕ) → variant_arm slot one ≡ variant_arm slot other
+  same_data_arm slot = cc (same_form (proxy_of one) (proxy_of other) proxies slot)
+
+  same_unit_arm : unit_arm one ≡ unit_arm other
+  same_unit_arm = cc (same_unit_form (proxy_of one) (proxy_of other) proxies)
+
+  same_read_name : read_name one ≡ read_name other
+  same_read_name = cc
+
+  count_by : (skip : Bool) (left right : Option Field) → SameProxy left right
+      → length (if skip then [] else slotted_by left one.body.fields) ≡ length (if skip then [] else slotted_by right other.body.fields)
+  count_by true left right same = refl
+  count_by false None None same = same_length one.body.fields other.body.fields members_have
+  count_by false (Some left) (Some right) same = refl
+  count_by false left right same = absurd (assumption)
+
+  same_count : length (slotted one) ≡ length (slotted other)
+  same_count =
+      count_by one.skip (proxy_of one) (proxy_of other) proxies
+      ∙ ap (λ skip. length (if skip then [] else slotted_by (proxy_of other) other.body.fields)) (have.are.skip ∙ sym have.also.skip)
+
+-- ---- all variants
+
+variants_have : (ty : Ident) (its : List InputVariant) (ones others : List Variant) → AllZip (IsVariant ty) ones its → AllZip (IsVariant ty) others its
+    → AllZip HaveSameVariant ones others
+variants_have ty [] [] [] are also = tt
+variants_have ty (it ∷ its) (one ∷ ones) (other ∷ others) are also =
+    (record { ty = ty; it = it; are = are.0; also = also.0 }, variants_have ty its ones others are.1 also.1)
+variants_have ty its ones others are also = absurd (assumption)
+
+same_data_arms : (slot : ℕ) (ones others : List Variant) → AllZip HaveSameVariant ones others → variant_arms slot ones ≡ variant_arms slot others
+same_data_arms slot [] [] have = refl
+same_data_arms slot (one ∷ ones) (other ∷ others) have =
+    ap₂ ◌++◌ (same_data_arm one other have.0 slot)
+    (ap (λ count. variant_arms (slot + count) ones) (same_count one other have.0) ∙ same_data_arms (slot + length (slotted other)) ones others have.1)
+same_data_arms slot ones others have = absurd have
+
+same_unit_arms : (ones others : List Variant) → AllZip HaveSameVariant ones others → unit_arms ones ≡ unit_arms others
+same_unit_arms [] [] have = refl
+same_unit_arms (one ∷ ones) (other ∷ others) have = ap₂ ◌++◌ (same_unit_arm one other have.0) (same_unit_arms ones others have.1)
+same_unit_arms ones others have = absurd have
+
+same_variant_names : (ones others : List Variant) → AllZip HaveSameVariant ones others → variant_names ones ≡ variant_names others
+same_variant_names [] [] have = refl
+same_variant_names (one ∷ ones) (other ∷ others) have = ap₂ cons_option (same_read_name one other have.0) (same_variant_names ones others have.1)
+same_variant_names ones others have = absurd have
 
 -- ---- a receiver
 
 -- two receivers of the same options compile to the same statements
 module _ (one other : TraitImpl) (it : Core) (are : IsImpl one it) (also : IsImpl other it) where
   fields_have : AllZip HaveSameOptions (fields_of one) (fields_of other)
-  fields_have = bodies_have one.body it.body other.body are.members also.members
+  fields_have = bodies_have it.ident one.body it.body other.body are.members also.members
 
   same_for_items : for_items one ≡ for_items other
-  same_for_items = cc (same_core_loop (fields_of one) (fields_of other) fields_have one.allow_unknown_fields)
+  same_for_items = cc (same_core_loop (fields_of one) (fields_of other) fields_have 0 one.allow_unknown_fields)
+
+  same_build : build one ≡ build other
+  same_build = cc (same_inits (fields_of one) (fields_of other) fields_have 0)
 
   same_closing : (from_ident : Bool) → closing from_ident one ≡ closing from_ident other
   same_closing from_ident =
       let flattens = same_flattens (fields_of one) (fields_of other) fields_have in
-      let checks = same_checks (fields_of one) (fields_of other) fields_have in
-      let inits = same_inits (fields_of one) (fields_of other) fields_have in
+      let checks = same_checks (fields_of one) (fields_of other) fields_have 0 in
+      let inits = same_inits (fields_of one) (fields_of other) fields_have 0 in
       let default = same_default it.ident one.default it.default other.default are.default also.default in
       cc (flattens, checks, inits, default.1)
 
   same_list : list_stmts one ≡ list_stmts other
-  same_list = cc (same_declarations (fields_of one) (fields_of other) fields_have, same_for_items, same_closing false)
+  same_list = cc (same_declarations (fields_of one) (fields_of other) fields_have 0, same_for_items, same_closing false)
 
   same_over_attributes : (paths : List Text) → over_attributes paths one ≡ over_attributes paths other
   same_over_attributes [] = refl
@@ -160,9 +303,54 @@ module _ (one other : TraitImpl) (it : Core) (are : IsImpl one it) (also : IsImp
 same_input : (one other : FromDeriveInputImpl) (it : FdiOptions) → IsInputImpl one it → IsInputImpl other it → input_stmts one ≡ input_stmts other
 same_input one other it are also =
     let core = it.base.container in
-    let declarations = same_declarations (fields_of one.base) (fields_of other.base) (fields_have one.base other.base core are.base also.base) in
+    let declarations = same_declarations (fields_of one.base) (fields_of other.base) (fields_have one.base other.base core are.base also.base) 0 in
     let attributes = same_over_attributes one.base other.base core are.base also.base (map path_text one.attr_names.now.0) in
     cc (declarations, attributes, same_closing one.base other.base core are.base also.base one.from_ident)
+
+-- ---- what reads items
+
+-- two receivers of the same options of `FromMeta` compile to the same functions
+module _ (one other : FromMetaImpl) (it : FromMetaOptions) (are : IsMetaImpl one it) (also : IsMetaImpl other it) where
+  same_calls : call_funcs one ≡ call_funcs other
+  same_calls =
+      let word : one.from_word ≡ other.from_word = are.word ∙ sym also.word in
+      let none : option_copied one.from_none ≡ option_copied other.from_none = are.none ∙ sym also.none in
+      let expr : option_copied one.from_expr ≡ option_copied other.from_expr = are.expr ∙ sym also.expr in
+      cc
+
+  same_list_funcs : list_funcs one ≡ list_funcs other
+  same_list_funcs = cc (same_calls, same_list one.base other.base it.base are.base also.base)
+
+  same_own_funcs : (it : Style) → own_funcs it one ≡ own_funcs it other
+  same_own_funcs style.Tuple = same_list_funcs
+  same_own_funcs style.Struct = same_list_funcs
+  same_own_funcs style.Unit = cc (same_build one.base other.base it.base are.base also.base)
+
+  same_funcs_by : (left right : Option Field) → SameProxy left right → (it : Style) → funcs_by left it one ≡ funcs_by right it other
+  same_funcs_by None None same style = same_own_funcs style
+  same_funcs_by (Some left) (Some right) same style =
+      let ident : one.base.ident.now ≡ other.base.ident.now = are.base.ident ∙ sym also.base.ident in
+      let ty : left.ty.now ≡ right.ty.now = same.are.ty ∙ sym same.also.ty in
+      cc (same_member style left right same)
+  same_funcs_by left right same style = absurd (assumption)
+
+  same_transparent : one.base.transparent ≡ other.base.transparent
+  same_transparent = are.base.transparent ∙ sym also.base.transparent
+
+  same_funcs_in : (left : «Data» Variant Field) (whole : Body) (right : «Data» Variant Field) → IsBody it.base.ident left whole → IsBody it.base.ident right whole
+      → funcs_in one left ≡ funcs_in other right
+  same_funcs_in (body.Struct left) (body.Struct whole) (body.Struct right) left_is right_is =
+      let have = both_have whole.fields left.fields right.fields left_is.1 right_is.1 in
+      let proxy = same_proxy one.base.transparent left.style left.fields right.fields have in
+      same_funcs_by (transparent_field one.base.transparent left.style left.fields) (transparent_field one.base.transparent left.style right.fields) proxy left.style
+      ∙ ap₂ (λ transparent style. funcs_by (transparent_field transparent style right.fields) style other) same_transparent (left_is.0 ∙ sym right_is.0)
+  same_funcs_in (body.Enum lefts) (body.Enum whole) (body.Enum rights) left_is right_is =
+      let have = variants_have it.base.ident whole lefts rights left_is right_is in
+      cc (same_data_arms 0 lefts rights have, same_unit_arms lefts rights have, same_variant_names lefts rights have, same_calls)
+  same_funcs_in left whole right left_is right_is = absurd (assumption)
+
+  same_funcs : meta_funcs one ≡ meta_funcs other
+  same_funcs = same_funcs_in one.base.body it.base.body other.base.body are.base.members also.base.members
 
 -- ---- a program
 
@@ -170,7 +358,7 @@ same_input one other it are also =
 module _ (rules : Rules) where
   unit_is_one : (number : ℕ) (decl : DeriveInput) (derive : Derive) (one other : Unit') → IsUnitUnder rules number decl derive one
       → IsUnitUnder rules number decl derive other → one ≡ other
-  unit_is_one number decl derive.FromMeta one other (left, are, one_is) (right, also, other_is) = cc (same_list left.base right.base _ are.base also.base)
+  unit_is_one number decl derive.FromMeta one other (left, are, one_is) (right, also, other_is) = cc (same_funcs left right _ are also)
   unit_is_one number decl derive.FromDeriveInput one other (left, are, one_is) (right, also, other_is) = cc (same_input left right _ are also)
   unit_is_one number decl derive one other are also = absurd are
 

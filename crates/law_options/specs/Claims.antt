@@ -1,5 +1,6 @@
 -- What is claimed of options.
 use Rattle.std.specs.Prelude.{◌≡◌, ℕ, false, List, Some, slice_get}
+use Rattle.std.specs.List.{All}
 use Rattle.node_core.specs.declared.derive.DeriveInput.{DeriveInput}
 use Rattle.codegen_core.specs.declared.from_derive_impl.FromDeriveInputImpl.{FromDeriveInputImpl}
 use Rattle.codegen_core.specs.declared.from_meta_impl.FromMetaImpl.{FromMetaImpl}
@@ -34,11 +35,11 @@ ItemOptionsAreMeant =
     → IsDecl left.base (meant_items number derives (options_of (meta_reader rules input) input))
 
 -- The unit of a declaration for `FromDeriveInput`, in the program that a text compiles to, gives on any item what the item
--- means under the text.
+-- means under the text, all of whose declarations can be run.
 abbrev pub ProgramIsMeant : Type 0
 ProgramIsMeant =
     (host : HostSays) (rules : Rules) (decls : List DeriveInput) (program : Program) (number : ℕ) (decl : DeriveInput) (unit : Unit') (subject : DeriveInput)
-    → IsProgram rules decls program → slice_get decls number ≡ Some decl → IsBuilt decl → IsUnit rules (pair number decl derive.FromDeriveInput) unit
+    → IsProgram rules decls program → slice_get decls number ≡ Some decl → All IsBuilt decls → IsUnit rules (pair number decl derive.FromDeriveInput) unit
     → machine host program unit subject ≡ Some (text_meaning host rules decls number decl subject)
 
 -- the declarations of a text have one program at most

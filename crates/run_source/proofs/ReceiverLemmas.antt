@@ -20,7 +20,6 @@ use Rattle.machine_execute.specs.Machine.{machine}
 use Rattle.law_options.specs.HostSays.{HostSays}
 use Rattle.law_options.specs.Values.{Rules}
 use Rattle.run_accepted.specs.Attributes.{without_attributes}
-use Rattle.run_accepted.specs.Unbuilt.{IsBuilt}
 use Rattle.run_accepted.specs.Compiled.{IsUnit, IsUnitUnder}
 use Rattle.run_accepted.specs.Pairs.{pair, pairs_from}
 use Rattle.run_accepted.specs.Accepted.{unfitness}
@@ -112,7 +111,7 @@ accepted_is_meant host rules decls program built is =
     λ subject.
     ap (option_and_then (λ unit. unit_on host program unit (OnInput subject))) at
     ∙ ap (λ b. if b then machine host program unit subject else None) (input_same unit.derive parts.1)
-    ∙ program_is_meant host rules decls program unit.decl last unit subject is.sound.compiled stands (at_place IsBuilt decls (length decls - 1) last built is_end) made
+    ∙ program_is_meant host rules decls program unit.decl last unit subject is.sound.compiled stands built made
     ∙ ap (λ number. Some (text_meaning host rules decls number last subject)) end in (
       record { number = number; receiver = first; outcomes = λ subject. (meaning subject, means subject) },
       λ subject.

@@ -3,6 +3,7 @@ use Rattle.std.proofs.Common.{◌≡◌, ◌⊎◌, ◌∙◌, ℕ, List, Option
 use Rattle.tok_types.specs.declared.span.Span.{Span}
 use Rattle.node_core.specs.declared.derive.DeriveInput.{DeriveInput}
 use Rattle.codegen_program.specs.declared.program.Program.{Program}
+use Rattle.codegen_core.specs.declared.form.Unsupported.{Unsupported}
 use Rattle.law_options.specs.HostSays.{HostSays}
 use Rattle.law_options.specs.Unfit.{Unfit}
 use Rattle.law_options.specs.Unfit.TheVariants as unfit
@@ -10,7 +11,8 @@ use Rattle.law_options.specs.Values.{Rules}
 use Rattle.run_accepted.specs.Pairs.{pairs_from, rejected}
 use Rattle.run_accepted.specs.declared.rejected.Rejected.{Rejected}
 use Rattle.run_accepted.specs.Accepted as accepted
-use Rattle.run_accepted.specs.Accepted.{IsAccepted, IsUnfit, duplicate, unfitness}
+use Rattle.run_accepted.specs.Accepted.{IsAccepted, IsUnfit, ShowsForm, duplicate, unfitness}
+use Rattle.run_accepted.specs.Forms.{first_form}
 use Rattle.run_accepted.specs.declared.error.RunError.{RunError}
 use Rattle.run_accepted.specs.declared.error.RunError.TheVariants as error
 use Rattle.law_options.proofs.OneProgram.{program_is_one}
@@ -69,12 +71,14 @@ module _ (host : HostSays) (rules : Rules) (decls : List DeriveInput) where
   data Cause (it : RunError) : Type 0 where
     by_name : (span : Span) → duplicate decls ≡ Some span → it ≡ error.DuplicateName span → Cause it
     by_options : (found : Rejected) → duplicate decls ≡ None → rejected rules (pairs_from 0 decls) ≡ Some found → it ≡ error.Rejected found → Cause it
+    by_shown : (found : Unsupported) → ShowsForm rules decls found → it ≡ error.Unsupported found.form found.span → Cause it
     by_program : (found : Unfit) → IsUnfit host rules decls found → it ≡ accepted.error_of found → Cause it
 
   cause_of : (it : RunError) → accepted.IsRefused host rules decls it → Cause it
   cause_of (error.DuplicateName span) is = by_name span is refl
   cause_of (error.Rejected found) is = by_options found is.0 is.1 refl
-  cause_of (error.Unsupported form span) is = by_program (unfit.Unsupported form span) is refl
+  cause_of (error.Unsupported form span) (inl shown) = by_shown (record { form = form; span = span }) shown refl
+  cause_of (error.Unsupported form span) (inr is) = by_program (unfit.Unsupported form span) is refl
   cause_of (error.UnknownType span) is = by_program (unfit.UnknownType span) is refl
   cause_of (error.UnknownCallable span) is = by_program (unfit.UnknownCallable span) is refl
   cause_of error.NoReceiver is = by_program unfit.NoReceiver is refl
@@ -86,10 +90,20 @@ module _ (host : HostSays) (rules : Rules) (decls : List DeriveInput) where
   cause_same : (one other : RunError) → Cause one → Cause other → one ≡ other
   cause_same one other (by_name span name e) (by_name at same f) = e ∙ ap error.DuplicateName (two_values (duplicate decls) span at name same) ∙ sym f
   cause_same one other (by_name span name e) (by_options found none options f) = absurd (not_none (duplicate decls) span none name)
+  cause_same one other (by_name span name e) (by_shown found shown f) = absurd (not_none (duplicate decls) span shown.single name)
   cause_same one other (by_name span name e) (by_program found is f) = absurd (not_none (duplicate decls) span is.sound.single name)
   cause_same one other (by_options found none options e) (by_name span name f) = absurd (not_none (duplicate decls) span none name)
   cause_same one other (by_options found none options e) (by_options more too same f) = e ∙ ap error.Rejected (two_values (rejected rules (pairs_from 0 decls)) found more options same) ∙ sym f
+  cause_same one other (by_options found none options e) (by_shown more shown f) =
+      absurd (not_none (rejected rules (pairs_from 0 decls)) found shown.options options)
   cause_same one other (by_options found none options e) (by_program more is f) = absurd (not_none (rejected rules (pairs_from 0 decls)) found is.sound.options options)
+  cause_same one other (by_shown found shown e) (by_name span name f) = absurd (not_none (duplicate decls) span shown.single name)
+  cause_same one other (by_shown found shown e) (by_options more none options f) =
+      absurd (not_none (rejected rules (pairs_from 0 decls)) more shown.options options)
+  cause_same one other (by_shown found shown e) (by_shown more also f) =
+      e ∙ ap (λ (it : Unsupported). error.Unsupported it.form it.span) (two_values (first_form rules decls) found more shown.first also.first) ∙ sym f
+  cause_same one other (by_shown found shown e) (by_program more is f) = absurd (not_none (first_form rules decls) found is.sound.supported shown.first)
+  cause_same one other (by_program found is e) (by_shown more shown f) = absurd (not_none (first_form rules decls) more is.sound.supported shown.first)
   cause_same one other (by_program found is e) (by_name span name f) = absurd (not_none (duplicate decls) span is.sound.single name)
   cause_same one other (by_program found is e) (by_options more none options f) = absurd (not_none (rejected rules (pairs_from 0 decls)) more is.sound.options options)
   cause_same one other (by_program found is e) (by_program more are f) = e ∙ ap accepted.error_of (unfit_same found more is are) ∙ sym f
@@ -98,6 +112,7 @@ module _ (host : HostSays) (rules : Rules) (decls : List DeriveInput) where
   no_cause : (program : Program) (it : RunError) → IsAccepted host rules decls program → Cause it → ⊥
   no_cause program it is (by_name span name e) = not_none (duplicate decls) span is.sound.single name
   no_cause program it is (by_options found none options e) = not_none (rejected rules (pairs_from 0 decls)) found is.sound.options options
+  no_cause program it is (by_shown found shown e) = not_none (first_form rules decls) found is.sound.supported shown.first
   no_cause program it is (by_program found are e) = not_unfit program found is are
 
   -- a form that no run reads is told, or the declarations are not accepted
