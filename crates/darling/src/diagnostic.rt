@@ -1,10 +1,10 @@
 //! What a person is told of how a run ended, beside the line of the refusal.
 
 use base_core::{Mem, Text};
-use darling_run::{Form, Status};
+use darling_run::Status;
 use run_diagnostic::{
-    push_bad_row, push_duplicate, push_generated, push_generics, push_no_parts, push_no_receiver,
-    push_not_text, push_rejected, push_syntax, push_too_deep, push_unbuilt, push_unknown_function,
+    push_bad_row, push_duplicate, push_form, push_no_parts, push_no_receiver, push_not_text,
+    push_rejected, push_syntax, push_too_deep, push_unbuilt, push_unknown_function,
     push_unknown_type,
 };
 use run_parts::{Parts, as_text, divide};
@@ -38,14 +38,7 @@ fn push_in_parts(alloc: Global, out: &mut Text, parts: &Parts<'_>, status: &Stat
         Status::Unbuilt { span } => push_unbuilt(alloc, out, parts, *span),
         Status::DuplicateName { span } => push_duplicate(alloc, out, parts, *span),
         Status::Rejected(it) => push_rejected(alloc, out, parts, it),
-        Status::Unsupported {
-            form: Form::Generics,
-            span,
-        } => push_generics(alloc, out, parts, *span),
-        Status::Unsupported {
-            form: Form::GeneratedName,
-            span,
-        } => { push_generated(alloc, out, parts, *span) }
+        Status::Unsupported { form, span } => push_form(alloc, out, parts, *form, *span),
         Status::UnknownType { span } => push_unknown_type(alloc, out, parts, *span),
         Status::UnknownCallable { span } => push_unknown_function(alloc, out, parts, *span),
         Status::NoReceiver => push_no_receiver(out, parts),

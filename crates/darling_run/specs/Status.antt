@@ -61,10 +61,18 @@ abbrev pub options_line : Rejected → List ℕ
 options_line it =
     codes "refused: options of " ++ ident_text it.decl ++ codes " under " ++ derive_name it.derive ++ codes ": " ++ join_by fault_line (codes "; ") it.faults ++ codes "\n"
 
--- how the line of a form begins that no run supports
+-- how the line of a form begins that is not supported
 abbrev pub form_reason : Form → List ℕ
+form_reason form.EmptyEnum = codes "refused: unsupported empty enum at "
+form_reason form.Tuple = codes "refused: unsupported tuple at "
 form_reason form.Generics = codes "refused: unsupported generics at "
 form_reason form.GeneratedName = codes "refused: unsupported generated name at "
+form_reason form.IdentUnderAttributes = codes "refused: unsupported ident under FromAttributes at "
+form_reason form.MagicBesideTransparent = codes "refused: unsupported magic beside transparent at "
+form_reason form.InheritedDefault = codes "refused: unsupported inherited default at "
+form_reason form.Transform = codes "refused: unsupported transform at "
+form_reason form.FromNone = codes "refused: unsupported from_none at "
+form_reason form.FromExpr = codes "refused: unsupported from_expr at "
 
 -- the line of a refusal
 abbrev pub refusal_text : Status → List ℕ

@@ -41,13 +41,21 @@ pub fn refusal_text(alloc: Global, status: &Status) -> Mem<Text>
     }
 }
 
-/// How the line of a form begins that no run supports.
+/// How the line of a form begins that is not supported.
 fn form_reason(form: Form) -> &'static str
     ensures { result.now ≡ spec.form_reason form }
 {
     match form {
+        Form::EmptyEnum => "refused: unsupported empty enum at ",
+        Form::Tuple => "refused: unsupported tuple at ",
         Form::Generics => "refused: unsupported generics at ",
         Form::GeneratedName => "refused: unsupported generated name at ",
+        Form::IdentUnderAttributes => "refused: unsupported ident under FromAttributes at ",
+        Form::MagicBesideTransparent => "refused: unsupported magic beside transparent at ",
+        Form::InheritedDefault => "refused: unsupported inherited default at ",
+        Form::Transform => "refused: unsupported transform at ",
+        Form::FromNone => "refused: unsupported from_none at ",
+        Form::FromExpr => "refused: unsupported from_expr at ",
     }
 }
 

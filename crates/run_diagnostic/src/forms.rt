@@ -2,6 +2,7 @@
 
 use crate::place::{bytes_of, first_word, last_word, push_all, push_place, text_at};
 use base_core::{Mem, Text};
+use run_accepted::Form;
 use run_parts::Parts;
 use std::alloc::Global;
 use tok_types::Span;
@@ -64,8 +65,58 @@ pub fn push_duplicate(alloc: Global, out: &mut Text, parts: &Parts<'_>, span: Sp
     )
 }
 
+/// Adds what is told of a form that is not supported.
+pub fn push_form(
+    alloc: Global,
+    out: &mut Text,
+    parts: &Parts<'_>,
+    form: Form,
+    span: Span,
+) -> Mem<()> {
+    match form {
+        Form::Generics => push_generics(alloc, out, parts, span),
+        Form::GeneratedName => push_generated(alloc, out, parts, span),
+        other => push_other_form(alloc, out, parts, other, span),
+    }
+}
+
+fn push_other_form(
+    alloc: Global,
+    out: &mut Text,
+    parts: &Parts<'_>,
+    form: Form,
+    span: Span,
+) -> Mem<()> {
+    let name = text_at(parts.declarations, span);
+    push_all(
+        out,
+        &["error: `", name, "` has a form that is not supported: "],
+    )?;
+    out.push_str(form.words())?;
+    out.push_str("\n")?;
+    push_place(alloc, out, parts, 1, bytes_of(span))?;
+    out.push_str("  = help: ")?;
+    out.push_str(form_help(form))?;
+    out.push_str("\n")
+}
+
+fn form_help(form: Form) -> &'static str {
+    match form {
+        Form::EmptyEnum => "an enum that is read from an element has a variant",
+        Form::Tuple => "a tuple has one field, as which it is read",
+        Form::Generics => "a declaration that is run has neither",
+        Form::GeneratedName => "call it otherwise",
+        Form::IdentUnderAttributes => "attributes have no identifier: call the field otherwise",
+        Form::MagicBesideTransparent => "a struct that is read as its one field is has no other",
+        Form::InheritedDefault => "no default of an enum is taken over: give the field its own",
+        Form::Transform => "a function for the whole is for structs that are read field by field",
+        Form::FromNone => "this is for structs that are read field by field, and for enums",
+        Form::FromExpr => "this is for structs that are read field by field, and for enums",
+    }
+}
+
 /// Adds what is told of a declaration with parameters.
-pub fn push_generics(alloc: Global, out: &mut Text, parts: &Parts<'_>, span: Span) -> Mem<()> {
+fn push_generics(alloc: Global, out: &mut Text, parts: &Parts<'_>, span: Span) -> Mem<()> {
     let name = text_at(parts.declarations, span);
     push_all(out, &["error: `", name, "` has parameters or a `where`\n"])?;
     push_place(alloc, out, parts, 1, bytes_of(span))?;
@@ -73,7 +124,7 @@ pub fn push_generics(alloc: Global, out: &mut Text, parts: &Parts<'_>, span: Spa
 }
 
 /// Adds what is told of a name that the generated code has for itself.
-pub fn push_generated(alloc: Global, out: &mut Text, parts: &Parts<'_>, span: Span) -> Mem<()> {
+fn push_generated(alloc: Global, out: &mut Text, parts: &Parts<'_>, span: Span) -> Mem<()> {
     let name = text_at(parts.declarations, span);
     push_all(
         out,

@@ -15,7 +15,7 @@ mod similar;
 mod syntax;
 mod types;
 
-pub use forms::{push_duplicate, push_generated, push_generics, push_no_receiver, push_unbuilt};
+pub use forms::{push_duplicate, push_form, push_no_receiver, push_unbuilt};
 pub use functions::push_unknown_function;
 pub use input::{push_bad_row, push_no_parts, push_not_text};
 pub use keep::KeepingSource;
