@@ -2,7 +2,8 @@
 
 ghost use Rattle.std.specs.Prelude.{◌≡◌, ◌++◌, codes, decimal, IfOk, OnOk, OnErr};
 ghost use Rattle.std.specs.List.{join_by, list_any};
-ghost use Rattle.error_fault.specs.FaultText.{quoted, alternatives_text, expected_text, kind_text, path_text, fault_text, span_text, escaped_char, has_escape, escaped, fault_line};
+ghost use Rattle.error_fault.specs.FaultText.{quoted, alternatives_text, expected_text, kind_text, path_text};
+ghost use Rattle.error_fault.specs.FaultText.{fault_text, span_text, escaped_char, has_escape, escaped, fault_line};
 
 use crate::alts::Alts;
 use crate::fault::Fault;

@@ -6,7 +6,6 @@
 
 mod context;
 mod machine;
-mod names;
 mod order;
 mod outcome;
 mod prepared;

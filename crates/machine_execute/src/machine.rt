@@ -7,7 +7,6 @@ ghost use Rattle.machine_value.specs.declared.value.Value.{Value as Datum};
 ghost use Rattle.machine_execute.specs.Elements.{HasOutcome, element_of, machine_on, unit_on};
 
 use crate::context::Context;
-use crate::names::same_derive;
 use crate::outcome::Outcome;
 use crate::prepared::Prepared;
 use crate::unit::unit_element;
@@ -72,7 +71,7 @@ pub(crate) fn run_unit<H: Host>(
 ) -> Mem<Option<Outcome>>
     ensures { IfOk result (λ found. found ≡ unit_on (H.says context.now.host.now) context.now.program.now unit.now (element_of element.entry)) }
 {
-    if !same_derive(unit.derive, element.derive()) {
+    if unit.derive != element.derive() {
         return Ok(None);
     }
     let earlier = Earlier {

@@ -8,7 +8,6 @@ ghost use Rattle.machine_read.specs.Machine.{unit_under as unit_under_in};
 ghost use Rattle.machine_execute.specs.Order as spec;
 ghost use Rattle.machine_execute.specs.Order.{number_at};
 
-use crate::names::same_derive;
 use codegen_program::{Derive, Unit};
 
 /// Whether the units stand in the order of their declarations.
@@ -40,7 +39,7 @@ pub(crate) fn unit_under(
         if in_order && unit.decl as usize > number {
             return None;
         }
-        if unit.decl as usize == number && same_derive(unit.derive, derive) {
+        if unit.decl as usize == number && unit.derive == derive {
             return Some(unit);
         }
     }

@@ -1,6 +1,6 @@
 //! A unit: the outcomes of its functions.
 
-ghost use Rattle.std.specs.Prelude.{option_map};
+ghost use Rattle.std.specs.Prelude.{◌≡◌, option_map};
 ghost use Rattle.error_fault.specs.Outcome.{Value as ValueSeen};
 ghost use Rattle.machine_read.specs.Asked.{asked_of};
 ghost use Rattle.machine_read.specs.Elements.{OnNested, element_of};
@@ -11,10 +11,9 @@ ghost use Rattle.machine_read.specs.Cells.{AnswersCell, cell_at};
 ghost use Rattle.machine_execute.specs.Units.{by_unit, cell_of, func_of, made_by, stmts_of};
 
 use crate::context::Context;
-use crate::names::stmts_named;
 use crate::units::or_unread;
 use base_core::Mem;
-use codegen_program::{FuncName, MAX_NESTING, Stmt, Unit};
+use codegen_program::{Func, FuncName, MAX_NESTING, Stmt, Unit};
 use error_core::{Error, Fail, Result};
 use machine_read::{
     Asked, Call, Declared, Element, Host, NestedMeta, Reader, Scope, Setting, named_type,
@@ -173,6 +172,18 @@ fn run_func<H: Host, D: Declared>(
         Some(stmts) => run_stmts(context, earlier, room, unit, stmts, asked),
         None => Ok(None),
     }
+}
+
+/// The statements of the first function of the name.
+fn stmts_named(funcs: &[Func], name: FuncName) -> Option<&[Stmt]>
+    ensures { option_map (λ stmts. stmts.now) result ≡ spec.stmts_named (spec.is_func name) funcs.now }
+{
+    for func in funcs {
+        if name == func.name {
+            return Some(func.stmts.as_slice());
+        }
+    }
+    None
 }
 
 /// The outcome of statements of a unit. None where they have none.
