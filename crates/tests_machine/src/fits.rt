@@ -3,7 +3,7 @@
 
 use crate::programs::{by_hand, program_of};
 use machine_fit::{fit, refusals};
-use machine_forms::{Form, Unfit};
+use machine_forms::Unfit;
 use machine_host::Host;
 use node_core::{Span, Text};
 use std::alloc::Global;
@@ -52,18 +52,7 @@ fn shown(answer: Option<&Unfit>) -> (&'static str, Option<Span>) {
     match answer {
         None => ("fits", None),
         Some(Unfit::DuplicateName { span }) => ("duplicate name", Some(*span)),
-        Some(
-            Unfit::Unsupported {
-                form: Form::Generics,
-                span,
-            },
-        ) => ("generics", Some(*span)),
-        Some(
-            Unfit::Unsupported {
-                form: Form::GeneratedName,
-                span,
-            },
-        ) => ("generated name", Some(*span)),
+        Some(Unfit::Unsupported { form, span }) => (form.words(), Some(*span)),
         Some(Unfit::UnknownType { span }) => ("unknown type", Some(*span)),
         Some(Unfit::UnknownCallable { span }) => ("unknown callable", Some(*span)),
         Some(Unfit::NoReceiver) => ("no receiver", None),

@@ -2,7 +2,9 @@
 
 use crate::bodies::{names_of, printed_members, read_nothing, shaped, taken};
 use crate::searched::{declared, searched};
+use crate::units::compiled;
 use crate::values::{shown, table};
+use crate::variants::{forms, shown_variants};
 use error_core::{Fail as Refusal, Text};
 use error_fault::push_fault_line;
 use node_core::DeriveInput;
@@ -37,6 +39,9 @@ fn told(alloc: Global, kind: &str, argument: &str) -> Tested<Text> {
             faults(alloc, FromMetaOptions::new(alloc, &item, &table(alloc)?))
         }
         "options" => shown(alloc, argument),
+        "variants" => shown_variants(alloc, argument),
+        "forms" => forms(alloc, argument),
+        "units" => compiled(alloc, argument),
         "shapes" => shaped(alloc, argument),
         "taken" => taken(alloc, argument),
         "members" => printed_members(alloc, argument),

@@ -10,6 +10,10 @@ mod receivers;
 #[cfg(test)]
 mod searched;
 #[cfg(test)]
+mod units;
+#[cfg(test)]
 mod usage;
 #[cfg(test)]
 mod values;
+#[cfg(test)]
+mod variants;

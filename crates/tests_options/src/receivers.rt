@@ -59,16 +59,22 @@ struct A(u8); => ok
 
 // A receiver that derives `FromMeta`.
 const META: &str =
-    "#[darling(from_word = f, from_word = f)] struct A { n: u8 } => 25..34 Duplicate field `from_word`;
+    r#"#[darling(from_word = f, from_word = f)] struct A { n: u8 } => 25..34 Duplicate field `from_word`;
 #[darling(from_none = f, from_none = f)] struct A { n: u8 } => 25..34 Duplicate field `from_none`;
 #[darling(from_expr = f, from_expr = f)] struct A { n: u8 } => 25..34 Duplicate field `from_expr`;
 #[darling(derive_syn_parse, derive_syn_parse)] struct A { n: u8 } => 28..44 Duplicate field `derive_syn_parse`;
 #[darling(attributes(a), from_word = 7, default, default)] struct A { n: u8 } => 10..23 Unknown field: `attributes`;37..38 Unexpected type `lit`;49..56 Duplicate field `default`;
 #[darling(from_word = f)] struct A; => 22..23 `from_word` cannot be used on unit structs because it conflicts with the generated impl;
+#[darling(from_word = || f(), from_none = g, from_expr = h)] struct A; => 22..28 `from_word` cannot be used on unit structs because it conflicts with the generated impl;
+#[darling(transparent, from_word = "f", from_expr = g)] struct A; => 10..21 `#[darling(transparent)]` can only be applied to structs with a single field;35..38 `from_word` cannot be used on unit structs because it conflicts with the generated impl;
+#[darling(from_none = f, from_expr = g)] struct A(u8); => 37..38 `from_expr` cannot be used on transparent structs because the implementation is entirely delegated to the inner type;
+#[darling(from_word = f, from_expr = g)] struct A(u8, u8); => ok
+#[darling(from_word = f, from_expr = g)] struct A(); => ok
+#[darling(from_none = f, from_expr = g)] struct A; => ok
 #[darling(from_word = f, from_expr = g)] struct A(u8); => 22..23 `from_word` cannot be used on transparent structs because the implementation is entirely delegated to the inner type;37..38 `from_expr` cannot be used on transparent structs because the implementation is entirely delegated to the inner type;
 #[darling(transparent, from_word = f, from_expr = g)] struct A { a: u8, b: u8 } => 10..21 `#[darling(transparent)]` can only be applied to structs with a single field;35..36 `from_word` cannot be used on transparent structs because the implementation is entirely delegated to the inner type;50..51 `from_expr` cannot be used on transparent structs because the implementation is entirely delegated to the inner type;
 #[darling(from_word = f, from_expr = g)] struct A { a: u8 } => ok
-union A { n: u8 } => - Unions are not supported;";
+union A { n: u8 } => - Unions are not supported;"#;
 
 // What the options hold of one that derives `FromDeriveInput`.
 const HELD: &str = r#"struct A { one_two: u8 } => A: one_two as one_two;

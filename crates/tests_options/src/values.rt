@@ -35,7 +35,8 @@ fn push_default(alloc: Global, text: &mut Text, default: &Option<DefaultExpressi
     Ok(())
 }
 
-fn push_field(alloc: Global, text: &mut Text, field: &InputField) -> Tested<()> {
+/// Adds what the options of a field hold.
+pub fn push_field(alloc: Global, text: &mut Text, field: &InputField) -> Tested<()> {
     text.push_str(field.ident.to_text(alloc)?.as_str())?;
     text.push_str(" as ")?;
     text.push_str(field.name.as_str())?;

@@ -30,8 +30,17 @@ struct A {} / %% => refused: no receiver
 #[derive(FromDeriveInput)] struct A { b: u8, b: u8 } / %% / struct S; => refused: duplicate name at 45..46
 #[derive(FromDeriveInput)] struct A<T> { b: u8 } / %% / struct S; => refused: unsupported generics at 34..35
 #[derive(FromDeriveInput)] struct A { __err: u8 } / %% / struct S; => refused: unsupported generated name at 38..43
+#[derive(FromDeriveInput)] struct A { #[darling(skip, with = _darling::f)] n: u8 } / %% / struct S; => refused: unsupported generated name at 61..69
+#[derive(FromDeriveInput)] struct A { #[darling(map = _darling::x)] n: u8 } / %% / struct S; => refused: unsupported generated name at 54..62
+#[derive(FromDeriveInput)] struct A { __err: u8, #[darling(skip, with = _darling::f)] n: u8 } / %% / struct S; => refused: unsupported generated name at 38..43
+struct A { #[darling(with = _darling::f)] n: u8 } #[derive(FromDeriveInput)] struct B {} / %% => nothing
+#[derive(FromDeriveInput)] struct A { #[darling(with = ::_darling::f)] n: u8 } / %% => nothing
 #[derive(FromDeriveInput)] struct A(u8); / %% / struct S; => refused: unbuilt at 34..35
 #[derive(FromMeta)] enum E { A } / %% => refused: unbuilt at 25..26
+#[derive(FromMeta)] enum E { #[darling(word, word)] A, B(u8, u8) } / %% => refused: unbuilt at 25..26
+#[derive(FromMeta)] struct A; / %% => refused: unbuilt at 27..28
+#[derive(FromMeta)] struct A(u8, u8); / %% => refused: unbuilt at 27..28
+#[derive(FromMeta)] #[darling(transparent)] struct A { n: u8 } / %% => refused: unbuilt at 30..41
 #[derive(FromMeta)] union U { a: u8 } / %% => refused: unbuilt at 26..27
 #[derive(FromMeta)] #[darling(derive_syn_parse)] struct A { n: u8 } / %% => refused: unbuilt at 30..46
 #[derive(FromDeriveInput)] struct A { ident: Ident } / %% => refused: unbuilt at 38..43
@@ -48,6 +57,11 @@ const TWO: &str =
 #[derive(FromMeta)] struct B { #[darling(aa)] m: u8 } #[derive(FromMeta)] struct A<T> { n: u8 } / %% => refused: options of B under FromMeta: 41..43 Unknown field: `aa`
 #[derive(FromMeta)] struct A { n: f32 } #[derive(FromMeta)] struct B<T> { m: u8 } / %% => refused: unsupported generics at 67..68
 #[derive(FromMeta)] struct B<T> { m: u8 } #[derive(FromMeta)] struct A { n: f32 } / %% => refused: unsupported generics at 27..28
+#[derive(FromMeta)] struct A { #[darling(with = _darling::f)] n: u8 } #[derive(FromMeta)] struct B { #[darling(aa)] m: u8 } / %% => refused: options of B under FromMeta: 111..113 Unknown field: `aa`
+#[derive(FromMeta)] struct A { n: f32, #[darling(skip, default = _darling::f)] m: u8 } / %% => refused: unsupported generated name at 65..73
+#[derive(FromMeta)] struct A { #[darling(default, map = "_darling::f")] n: u8, __err: u8 } #[derive(FromMeta)] struct B<T> { m: u8 } / %% => refused: unsupported generated name at 56..69
+#[derive(FromMeta)] struct A { __err: u8, #[darling(with = _darling::f)] n: u8 } / %% => refused: unsupported generated name at 31..36
+#[derive(FromMeta, FromDeriveInput)] #[darling(and_then = _darling::f)] struct A<T> { #[darling(with = other)] n: u8 } / %% => refused: unsupported generated name at 58..66
 #[derive(FromMeta)] struct A { #[darling(with = other)] n: u8 } #[derive(FromMeta)] struct B { m: f32 } / %% => refused: unknown type at 98..101
 #[derive(FromMeta)] struct B { m: f32 } #[derive(FromMeta)] struct A { #[darling(with = other)] n: u8 } / %% => refused: unknown type at 34..37
 #[derive(FromMeta)] struct A { #[darling(with = other)] n: u8 } / %% => refused: unknown callable at 48..53
