@@ -60,8 +60,8 @@ def lists():
     """What a section has to name, and what it has to call `not yet`."""
     derives = read("crates/run_accepted/specs/Derives.antt")
     unbuilt = read("crates/run_accepted/specs/Unbuilt.antt")
-    container = read("crates/options_core/specs/ContainerOptions.antt")
-    field = read("crates/options_core/specs/FieldOptions.antt")
+    container = read("crates/options_members/specs/CoreOptions.antt") + read("crates/options_core/specs/ContainerOptions.antt")
+    field = read("crates/options_members/specs/FieldOptions.antt")
     functions = read("crates/machine_std/specs/Functions.antt")
     types = read("crates/machine_rows/src/table.rt")
     names = re.findall(r'^ +\(?"(\w+)"', types.split("const NAMES")[1].split("\n];")[0], re.M)
