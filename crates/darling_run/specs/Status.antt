@@ -6,8 +6,8 @@ use Rattle.tok_types.specs.declared.span.Span.{Span}
 use Rattle.error_fault.specs.FaultText.{fault_line, span_text}
 use Rattle.codegen_program.specs.declared.program.Derive.{Derive}
 use Rattle.codegen_program.specs.declared.program.Derive.TheVariants as derive
-use Rattle.run_source.specs.Form.{Form}
-use Rattle.run_source.specs.Form.TheVariants as form
+use Rattle.codegen_core.specs.declared.form.Form.{Form}
+use Rattle.codegen_core.specs.declared.form.Form.TheVariants as form
 use Rattle.run_source.specs.Rejected.{Rejected}
 use Rattle.run_source.specs.RunError.{RunError}
 use Rattle.run_source.specs.RunError.TheVariants as error

@@ -4,8 +4,8 @@ pub use Rattle.error_fault.specs.declared.fault.Fault.{Fault}
 pub use Rattle.codegen_program.specs.declared.program.Derive.{Derive}
 pub use Rattle.codegen_program.specs.declared.program.Derive.TheVariants as derive
 pub use Rattle.codegen_program.specs.declared.program.Program.{Program}
-pub use Rattle.run_source.specs.Form.{Form}
-pub use Rattle.run_source.specs.Form.TheVariants as form
+pub use Rattle.codegen_core.specs.declared.form.Form.{Form}
+pub use Rattle.codegen_core.specs.declared.form.Form.TheVariants as form
 pub use Rattle.run_source.specs.Rejected.{Rejected}
 pub use Rattle.run_source.specs.RunError.{RunError}
 pub use Rattle.run_source.specs.RunError.TheVariants as run_error

@@ -13,5 +13,4 @@ pub use Rattle.machine_host.specs.declared.place.Use
 pub use Rattle.machine_host.specs.declared.said.Said
 pub use Rattle.meta_nested.specs.Cells
 pub use Rattle.meta_nested.specs.Dispatch
-pub use Rattle.codegen_program.specs.declared.callable.Callable
 pub use Rattle.util_core.specs.declared.over_ride.Override

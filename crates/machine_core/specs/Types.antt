@@ -6,7 +6,7 @@ pub use Rattle.machine_value.specs.declared.value.Value.{Value}
 pub use Rattle.machine_value.specs.declared.value.Value.TheVariants as value
 pub use Rattle.machine_rows.specs.declared.leaf.Leaf.{Leaf}
 pub use Rattle.machine_rows.specs.declared.leaf.Leaf.TheVariants as leaf
-pub use Rattle.machine_host.specs.Callable.{Callable}
+pub use Rattle.codegen_program.specs.declared.callable.Callable.{Callable}
 pub use Rattle.machine_host.specs.declared.place.Place.{Place}
 pub use Rattle.machine_host.specs.declared.place.Use.{Use}
 pub use Rattle.machine_host.specs.declared.place.Use.TheVariants as use_at

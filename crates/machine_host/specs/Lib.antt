@@ -10,20 +10,15 @@ pub mod Decls
 pub mod Lawful
 pub mod Made
 pub mod Refusing
-pub use Rattle.util_core.specs.Callable as UtilCoreCallable
-pub use Rattle.util_core.specs.Cells
 pub use Rattle.util_core.specs.Dispatch
 pub use Rattle.util_core.specs.Integers as MetaReadsIntegers
 pub use Rattle.util_core.specs.Keys
 pub use Rattle.util_core.specs.Lists
 pub use Rattle.util_core.specs.Maps
 pub use Rattle.util_core.specs.MetaReadsExprs as Exprs
-pub use Rattle.util_core.specs.NestedMeta
-pub use Rattle.util_core.specs.Nodes as MetaNestedNodes
 pub use Rattle.util_core.specs.PathLists
 pub use Rattle.util_core.specs.Rows
 pub use Rattle.util_core.specs.Sets
 pub use Rattle.util_core.specs.Syntax
 pub use Rattle.util_core.specs.Wrappers
-pub use Rattle.codegen_program.specs.declared.callable.Callable
 pub use Rattle.util_core.specs.declared.over_ride.Override

@@ -20,7 +20,7 @@ use Rattle.node_core.specs.declared.data.Fields.TheVariants as fields
 use Rattle.node_core.specs.declared.data.«Data».{«Data»}
 use Rattle.node_core.specs.declared.data.«Data».TheVariants as body
 use Rattle.node_core.specs.declared.derive.DeriveInput.{DeriveInput}
-use Rattle.machine_host.specs.Callable.{Callable}
+use Rattle.codegen_program.specs.declared.callable.Callable.{Callable}
 use Rattle.law_spans.specs.Erased.{erased_expr, erased_ident, erased_path, erased_qself, erased_type}
 use Rattle.law_spans_items.specs.Erased.{erased_data, erased_derive_input, erased_field, erased_fields}
 use Rattle.law_equality.proofs.Exprs.{bare_expr}

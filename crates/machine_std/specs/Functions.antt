@@ -13,7 +13,7 @@ use Rattle.node_expr.specs.declared.ty.«Type».{«Type» as Type'}
 use Rattle.node_make.specs.PathText.{path_text}
 use Rattle.node_core.specs.Meta.{path_of_meta}
 use Rattle.node_core.specs.declared.derive.DeriveInput.{DeriveInput}
-use Rattle.machine_host.specs.Callable.{Callable}
+use Rattle.codegen_program.specs.declared.callable.Callable.{Callable}
 use Rattle.machine_rows.specs.Heads.{head_of}
 use Rattle.machine_rows.specs.declared.head.Head.{Head}
 use Rattle.machine_rows.specs.declared.head.Head.TheVariants as head

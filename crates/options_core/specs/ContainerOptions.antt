@@ -7,7 +7,7 @@ use Rattle.node_core.specs.declared.attr.Meta.{Meta}
 use Rattle.node_span.specs.Spanned.{path_span}
 use Rattle.error_fault.specs.Outcome.{Outcome, Value, on_value}
 use Rattle.error_fault.specs.declared.fault.Fault.{Fault}
-use Rattle.options_rows.specs.Callable.{Callable}
+use Rattle.codegen_program.specs.declared.callable.Callable.{Callable}
 use Rattle.options_rows.specs.DefaultExpression.{DefaultExpression}
 use Rattle.options_rows.specs.DefaultExpression.TheVariants.{Trait}
 use Rattle.options_rows.specs.Rows.{duplicate_path, first_of, last_of, Named, values, Opt, OptionRow, once, last_stands, name_in, row_in, row_faults}

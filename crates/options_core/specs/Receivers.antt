@@ -17,7 +17,7 @@ use Rattle.error_fault.specs.Outcome.{Outcome, on_value}
 use Rattle.error_fault.specs.declared.fault.Fault.{Fault}
 use Rattle.error_fault.specs.declared.kind.FaultKind.TheVariants.{Custom}
 use Rattle.options_rows.specs.PathLists.{common}
-use Rattle.options_rows.specs.Callable.{Callable}
+use Rattle.codegen_program.specs.declared.callable.Callable.{Callable}
 use Rattle.body_core.specs.declared.ast.fields.Fields.{Fields}
 use Rattle.body_core.specs.declared.ast.data.«Data».TheVariants as container
 use Rattle.options_rows.specs.ForwardAttrsFilter.{ForwardAttrsFilter}

@@ -5,7 +5,7 @@ use Rattle.body_core.specs.declared.ast.data.«Data».TheVariants as body
 use Rattle.codegen_word.specs.WordClosure.{word_closure}
 use Rattle.codegen_core.specs.declared.from_derive_impl.FromDeriveInputImpl.{FromDeriveInputImpl}
 use Rattle.codegen_core.specs.declared.from_meta_impl.FromMetaImpl.{FromMetaImpl}
-use Rattle.options_rows.specs.Callable.{Callable}
+use Rattle.codegen_program.specs.declared.callable.Callable.{Callable}
 use Rattle.options_core.specs.declared.from_derive.FdiOptions.{FdiOptions}
 use Rattle.options_core.specs.declared.from_meta.FromMetaOptions.{FromMetaOptions}
 use Rattle.options_members.specs.declared.input_variant.InputVariant.{InputVariant}

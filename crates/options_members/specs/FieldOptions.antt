@@ -9,7 +9,7 @@ use Rattle.node_span.specs.Spanned.{meta_span}
 use Rattle.error_fault.specs.Fault.{at_span}
 use Rattle.error_fault.specs.declared.fault.Fault.{Fault}
 use Rattle.error_fault.specs.declared.kind.FaultKind.TheVariants.{Custom}
-use Rattle.options_rows.specs.Callable.{Callable}
+use Rattle.codegen_program.specs.declared.callable.Callable.{Callable}
 use Rattle.codegen_program.specs.declared.arm.PostfixTransform.{PostfixTransform}
 use Rattle.options_rows.specs.DefaultExpression.{DefaultExpression}
 use Rattle.options_rows.specs.SpannedValue.{SpannedValue}

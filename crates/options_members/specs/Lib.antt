@@ -6,16 +6,5 @@ pub mod CoreOptions
 pub mod CoreLaws
 pub mod Body
 pub mod Views
-pub use Rattle.body_core.specs.declared.ast.data.«Data» as AstData
-pub use Rattle.options_rows.specs.Callable
 pub use Rattle.options_rows.specs.DefaultExpression
-pub use Rattle.options_rows.specs.Does
-pub use Rattle.options_rows.specs.Entries
-pub use Rattle.options_rows.specs.ForwardAttrsFilter
-pub use Rattle.options_rows.specs.Members
-pub use Rattle.options_rows.specs.PathLists
-pub use Rattle.options_rows.specs.RowLaws
-pub use Rattle.options_rows.specs.Rows
 pub use Rattle.options_rows.specs.SpannedValue
-pub use Rattle.options_rows.specs.Values
-pub use Rattle.options_rows.specs.Walk

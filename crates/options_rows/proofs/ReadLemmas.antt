@@ -8,7 +8,7 @@ use Rattle.error_core.specs.declared.fail.Fail.{Fail}
 use Rattle.error_core.specs.declared.fail.Fail.TheVariants as fails
 use Rattle.options_types.specs.PathList.{PathList}
 use Rattle.options_types.specs.Callable.{callable}
-use Rattle.options_types.specs.UtilCoreCallable.{Callable}
+use Rattle.codegen_program.specs.declared.callable.Callable.{Callable}
 
 -- a value that is made again of what is seen of it
 answers_made : {X A : Type 0} (seen : X → A) (made : A → X) (answer : Result X Fail) (outcome : Outcome A)

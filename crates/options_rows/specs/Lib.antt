@@ -6,7 +6,6 @@ pub mod Rows
 pub mod Values
 pub mod Walk
 pub use Rattle.options_types.specs.PathLists
-pub use Rattle.options_types.specs.UtilCoreCallable as Callable
 pub use Rattle.options_types.specs.declared.default_expression.DefaultExpression
 pub use Rattle.options_types.specs.declared.forward_attrs.ForwardAttrsFilter
 pub use Rattle.options_types.specs.declared.spanned_value.SpannedValue

@@ -23,7 +23,7 @@ use Rattle.options_types.specs.PathList.{PathList}
 use Rattle.options_types.specs.Exprs.{path_cells}
 use Rattle.options_types.specs.Syntax.{where_predicates_cells}
 use Rattle.options_types.specs.Callable.{callable, callable_cells}
-use Rattle.options_types.specs.UtilCoreCallable.{Callable}
+use Rattle.codegen_program.specs.declared.callable.Callable.{Callable}
 use Rattle.options_types.specs.Flag.{flag_cells}
 use Rattle.util_table.specs.Rule.{rule_cells}
 use Rattle.util_table.specs.declared.row.Row.{Row as NameRow}

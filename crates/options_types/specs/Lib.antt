@@ -12,4 +12,3 @@ pub use Rattle.util_core.specs.PathList
 pub use Rattle.util_core.specs.PathLists
 pub use Rattle.util_core.specs.Rows
 pub use Rattle.util_core.specs.Syntax
-pub use Rattle.codegen_program.specs.declared.callable.Callable as UtilCoreCallable
