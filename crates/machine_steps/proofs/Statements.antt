@@ -11,10 +11,16 @@ use Rattle.codegen_program.specs.declared.forward.Forward.{Forward}
 use Rattle.codegen_program.specs.declared.forwarded.Forwarded.{Forwarded}
 use Rattle.codegen_program.specs.declared.init.DefaultSource.{DefaultSource}
 use Rattle.codegen_program.specs.declared.init.Init.{Init}
+use Rattle.codegen_program.specs.declared.program.FuncName.{FuncName}
 use Rattle.codegen_program.specs.declared.shape.ShapeSpec.{ShapeSpec}
 use Rattle.codegen_program.specs.declared.stmt.Stmt.{Stmt, roll-Stmt, fold-roll-Stmt}
+use Rattle.codegen_program.specs.declared.stmt.Stmt.TheFolds.{map-Stmt}
 use Rattle.codegen_program.specs.declared.stmt.Stmt.TheOpen.{Stmt-F}
 use Rattle.codegen_program.specs.declared.stmt.Stmt.TheVariants as stmt
+use Rattle.codegen_program.specs.declared.variant.UnitArm.{UnitArm}
+use Rattle.codegen_program.specs.declared.variant.VariantArm.{VariantArm}
+use Rattle.codegen_program.specs.declared.variant.VariantForm.{VariantForm}
+use Rattle.codegen_program.specs.declared.variant.VariantForm.TheVariants as form
 use Rattle.machine_steps.specs.Setting.{Setting}
 use Rattle.machine_steps.specs.Reads.{Before}
 use Rattle.machine_steps.specs.Asked.{Asked}
@@ -81,6 +87,57 @@ module _ (setting : Setting) (before : Before) (receiver : Receiver) where
   read_body ident with =
       stepped (stmt.ReadBody ident with) (Stmt-F.ReadBody ident with) (stmt_step setting before receiver (Stmt-F.ReadBody ident with))
       (stmt.rolls-ReadBody ident with) (fold-roll-Stmt Doing (stmt_step setting before receiver) (Stmt-F.ReadBody ident with))
+
+  pub delegate : (name : Ident) (member : Text) (ty : Type') → Steps (stmt.Delegate name member ty) (stmt_step setting before receiver (Stmt-F.Delegate name member ty))
+  delegate name member ty =
+      stepped (stmt.Delegate name member ty) (Stmt-F.Delegate name member ty) (stmt_step setting before receiver (Stmt-F.Delegate name member ty))
+      (stmt.rolls-Delegate name member ty) (fold-roll-Stmt Doing (stmt_step setting before receiver) (Stmt-F.Delegate name member ty))
+
+  pub unit_names : (arms : List UnitArm) (names : List Text) → Steps (stmt.UnitNames arms names) (stmt_step setting before receiver (Stmt-F.UnitNames arms names))
+  unit_names arms names =
+      stepped (stmt.UnitNames arms names) (Stmt-F.UnitNames arms names) (stmt_step setting before receiver (Stmt-F.UnitNames arms names))
+      (stmt.rolls-UnitNames arms names) (fold-roll-Stmt Doing (stmt_step setting before receiver) (Stmt-F.UnitNames arms names))
+
+  pub call : (callable : Callable) (at : FuncName) → Steps (stmt.Call callable at) (stmt_step setting before receiver (Stmt-F.Call callable at))
+  call callable at =
+      stepped (stmt.Call callable at) (Stmt-F.Call callable at) (stmt_step setting before receiver (Stmt-F.Call callable at))
+      (stmt.rolls-Call callable at) (fold-roll-Stmt Doing (stmt_step setting before receiver) (Stmt-F.Call callable at))
+
+  -- ---- variants: what the statements in them do
+
+  abbrev pub does_form : VariantForm Stmt → VariantForm Doing
+  does_form form.«Unit» = form.«Unit»
+  does_form (form.Transparent member type) = form.Transparent member type
+  does_form (form.Struct stmts) = form.Struct (map (does setting before receiver) stmts)
+
+  abbrev pub does_arm : VariantArm Stmt → VariantArm Doing
+  does_arm arm = record { name = arm.name; ident = arm.ident; form = does_form arm.form }
+
+  abbrev arms_of : Stmt-F Doing → List (VariantArm Doing)
+  arms_of (Stmt-F.Variants arms names) = arms
+  arms_of _ = []
+
+  -- the arms of a layer whose statements are done
+  abbrev done : List (VariantArm Stmt) → List (VariantArm Doing)
+  done arms = arms_of (map-Stmt Stmt Doing (does setting before receiver) (Stmt-F.Variants arms []))
+
+  one_done : (name : Text) (ident : Ident) (it : VariantForm Stmt) (arms : List (VariantArm Stmt))
+      → done (record { name = name; ident = ident; form = it } ∷ arms) ≡ does_arm (record { name = name; ident = ident; form = it }) ∷ done arms
+  one_done name ident form.«Unit» arms = refl
+  one_done name ident (form.Transparent member type) arms = refl
+  one_done name ident (form.Struct stmts) arms = refl
+
+  done_is : (arms : List (VariantArm Stmt)) → done arms ≡ map does_arm arms
+  done_is [] = refl
+  done_is (arm ∷ arms) = one_done arm.name arm.ident arm.form arms ∙ ap (λ more. does_arm arm ∷ more) (done_is arms)
+
+  pub variants : (arms : List (VariantArm Stmt)) (names : List Text)
+      → Steps (stmt.Variants arms names) (stmt_step setting before receiver (Stmt-F.Variants (map does_arm arms) names))
+  variants arms names =
+      stepped (stmt.Variants arms names) (Stmt-F.Variants arms names) (stmt_step setting before receiver (Stmt-F.Variants (map does_arm arms) names))
+      (stmt.rolls-Variants arms names)
+      (fold-roll-Stmt Doing (stmt_step setting before receiver) (Stmt-F.Variants arms names)
+      ∙ ap (λ them. stmt_step setting before receiver (Stmt-F.Variants them names)) (done_is arms))
 
   -- one list behind another
   pub run_append : (xs ys : List Stmt) (asked : Asked) (progress : Progress) → run_from setting before receiver (xs ++ ys) asked progress ≡ run_from setting before receiver ys asked (run_from setting before receiver xs asked progress)

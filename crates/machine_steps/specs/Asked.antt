@@ -9,7 +9,7 @@ use Rattle.node_core.specs.declared.attr.Meta.{Meta}
 use Rattle.meta_nested.specs.declared.call.Call.{Call}
 use Rattle.meta_nested.specs.declared.call.Call.TheVariants as call
 use Rattle.meta_nested.specs.declared.nested.MetaNameValueInvalidExpr.{MetaNameValueInvalidExpr}
-use Rattle.machine_host.specs.NestedMeta.{NestedMeta}
+use Rattle.meta_nested.specs.declared.nested.NestedMeta.{NestedMeta}
 use Rattle.machine_steps.specs.declared.asked.Asked.{Asked as Held}
 use Rattle.machine_steps.specs.declared.asked.Asked.TheVariants as held
 use Rattle.machine_steps.specs.Elements.{Element, OnAttributes, attributes_of, element_of}

@@ -8,12 +8,12 @@ use Rattle.node_core.specs.declared.attr.Attribute.{Attribute}
 use Rattle.node_core.specs.declared.attr.Meta.{Meta}
 use Rattle.node_core.specs.declared.attr.Meta.TheVariants as meta
 use Rattle.print_core.specs.Items.{attribute_tokens}
-use Rattle.machine_host.specs.NestedMeta.{NestedMeta}
+use Rattle.meta_nested.specs.declared.nested.NestedMeta.{NestedMeta}
 use Rattle.error_fault.specs.declared.fault.Fault.{Fault}
 use Rattle.error_fault.specs.Outcome.{Outcome, Value, Faults}
 use Rattle.meta_entries.specs.Attributes.{attribute_items, is_named}
 use Rattle.machine_cells.specs.Values.{syntax_list}
-use Rattle.machine_host.specs.Callable.{Callable}
+use Rattle.codegen_program.specs.declared.callable.Callable.{Callable}
 use Rattle.machine_host.specs.Seen.{AttrsSeen}
 use Rattle.machine_host.specs.declared.place.Use.TheVariants as use_at
 use Rattle.machine_value.specs.declared.value.Value.{Value as Datum}

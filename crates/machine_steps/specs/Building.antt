@@ -13,7 +13,7 @@ use Rattle.print_core.specs.Marks.{ident as ident_tokens}
 use Rattle.print_core.specs.Nodes.{bound_tokens, expr_tokens, type_tokens}
 use Rattle.error_fault.specs.Outcome.{Outcome, Value, bind, on_value}
 use Rattle.machine_cells.specs.Values.{syntax, syntax_list}
-use Rattle.machine_host.specs.Callable.{Callable}
+use Rattle.codegen_program.specs.declared.callable.Callable.{Callable}
 use Rattle.machine_host.specs.Decls.{member_name}
 use Rattle.machine_host.specs.Seen.{SeenArg, IdentSeen, NothingSeen, OptionalIdentSeen}
 use Rattle.machine_host.specs.declared.place.Use.{Use}

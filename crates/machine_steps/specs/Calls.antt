@@ -15,8 +15,8 @@ use Rattle.print_core.specs.Marks.{Trees, group, ident, mark, word}
 use Rattle.print_core.specs.Nodes.{expr_tokens}
 use Rattle.error_fault.specs.Outcome.{Outcome, Value, Faults, on_value, refused}
 use Rattle.error_fault.specs.declared.kind.FaultKind.TheVariants.{Custom}
-use Rattle.machine_host.specs.Callable.{Callable}
-use Rattle.machine_host.specs.Cells.{Cells}
+use Rattle.codegen_program.specs.declared.callable.Callable.{Callable}
+use Rattle.meta_nested.specs.Cells.{Cells}
 use Rattle.machine_host.specs.Dispatch.{from_bool, from_char, from_expr, from_invalid_expr, from_list, from_meta, from_nested_meta, from_none, from_text, from_value, from_word}
 use Rattle.machine_host.specs.Seen.{SeenArg, ExprSeen, NothingSeen}
 use Rattle.machine_host.specs.declared.place.Use.TheVariants as use_at

@@ -4,8 +4,8 @@ use Rattle.node_core.specs.declared.derive.DeriveInput.{DeriveInput}
 use Rattle.node_expr.specs.declared.ty.«Type».{«Type» as Type'}
 use Rattle.error_fault.specs.Outcome.{Outcome}
 use Rattle.law_spans.specs.Erased.{erased_type}
-use Rattle.machine_host.specs.NestedMeta.{NestedMeta}
-use Rattle.machine_host.specs.Cells.{Cells, no_cells}
+use Rattle.meta_nested.specs.declared.nested.NestedMeta.{NestedMeta}
+use Rattle.meta_nested.specs.Cells.{Cells, no_cells}
 use Rattle.machine_host.specs.Dispatch.{by_nested_meta, from_list, from_none}
 use Rattle.machine_cells.specs.Defaults.{row_default}
 use Rattle.machine_cells.specs.RowCells.{row_cells}

@@ -7,7 +7,7 @@ use Rattle.node_core.specs.declared.derive.DeriveInput.{DeriveInput}
 use Rattle.node_core.specs.declared.generics.TypeParam.{TypeParam}
 use Rattle.codegen_program.specs.declared.program.Derive.{Derive}
 use Rattle.codegen_program.specs.declared.program.Derive.TheVariants as derives
-use Rattle.machine_host.specs.NestedMeta.{NestedMeta}
+use Rattle.meta_nested.specs.declared.nested.NestedMeta.{NestedMeta}
 use Rattle.machine_steps.specs.declared.element.Element.{Element as Held}
 use Rattle.machine_steps.specs.declared.element.Element.TheVariants as held
 

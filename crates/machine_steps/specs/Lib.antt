@@ -20,14 +20,13 @@ pub mod Calls
 pub mod Statements
 pub mod Machine
 pub use Rattle.machine_cells.specs.Defaults
-pub use Rattle.machine_host.specs.Callable
-pub use Rattle.machine_host.specs.Cells
+pub use Rattle.meta_nested.specs.Cells
 pub use Rattle.machine_host.specs.Decls
 pub use Rattle.machine_host.specs.Dispatch
 pub use Rattle.machine_host.specs.HostSays
 pub use Rattle.machine_host.specs.Lawful
 pub use Rattle.machine_host.specs.Made
-pub use Rattle.machine_host.specs.MetaNestedNodes as Nodes
-pub use Rattle.machine_host.specs.NestedMeta
+pub use Rattle.meta_nested.specs.Nodes
+pub use Rattle.meta_nested.specs.declared.nested.NestedMeta
 pub use Rattle.machine_host.specs.Seen
 pub use Rattle.machine_host.specs.declared.place.Use

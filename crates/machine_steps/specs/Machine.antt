@@ -2,7 +2,7 @@
 use Rattle.std.specs.Prelude.{ℕ, ◌==◌, Bool, ◌&&◌, List, [], ◌∷◌, Option, Some, None, option_and_then, option_map, if◌then◌else◌}
 use Rattle.node_core.specs.declared.derive.DeriveInput.{DeriveInput}
 use Rattle.error_fault.specs.Outcome.{Outcome, value_of}
-use Rattle.machine_host.specs.Cells.{Cells, no_cells}
+use Rattle.meta_nested.specs.Cells.{Cells, no_cells}
 use Rattle.machine_host.specs.Dispatch.{by_nested_meta}
 use Rattle.machine_host.specs.HostSays.{HostSays}
 use Rattle.machine_value.specs.declared.value.Value.{Value as Datum}

@@ -4,8 +4,8 @@ use Rattle.base_core.specs.declared.text.Text.{Text}
 use Rattle.node_core.specs.Meta.{path_of_meta}
 use Rattle.node_core.specs.declared.attr.Meta.{Meta}
 use Rattle.node_make.specs.PathText.{path_text}
-use Rattle.machine_host.specs.NestedMeta.{NestedMeta}
-use Rattle.machine_host.specs.NestedMeta.TheVariants as nested
+use Rattle.meta_nested.specs.declared.nested.NestedMeta.{NestedMeta}
+use Rattle.meta_nested.specs.declared.nested.NestedMeta.TheVariants as nested
 
 -- the text of the path of a meta
 abbrev pub meta_name : Meta → Text

@@ -4,7 +4,7 @@ use Rattle.tok_types.specs.declared.ident.Ident.{Ident}
 use Rattle.node_expr.specs.declared.ty.«Type».{«Type» as Type'}
 use Rattle.error_fault.specs.declared.fault.Fault.{Fault}
 use Rattle.error_fault.specs.Outcome.{Outcome, faults_of, value_of}
-use Rattle.machine_host.specs.Callable.{Callable}
+use Rattle.codegen_program.specs.declared.callable.Callable.{Callable}
 use Rattle.machine_host.specs.Seen.{BodySeen, FieldsSeen, GenericsSeen}
 use Rattle.machine_host.specs.declared.place.Use.TheVariants as use_at
 use Rattle.machine_value.specs.declared.value.Value.{Value as Datum}

@@ -7,12 +7,12 @@ use Rattle.tok_types.specs.Ident.{ident_text}
 use Rattle.node_expr.specs.declared.ty.«Type».{«Type» as Type'}
 use Rattle.error_fault.specs.Outcome.{Outcome, bind, with_span}
 use Rattle.law_spans.specs.Erased.{erased_path}
-use Rattle.machine_host.specs.MetaNestedNodes.{nested_span}
-use Rattle.machine_host.specs.NestedMeta.{NestedMeta}
-use Rattle.machine_host.specs.NestedMeta.TheVariants as nested
-use Rattle.machine_host.specs.Cells.{no_cells}
+use Rattle.meta_nested.specs.Nodes.{nested_span}
+use Rattle.meta_nested.specs.declared.nested.NestedMeta.{NestedMeta}
+use Rattle.meta_nested.specs.declared.nested.NestedMeta.TheVariants as nested
+use Rattle.meta_nested.specs.Cells.{no_cells}
 use Rattle.machine_host.specs.Dispatch.{from_invalid_expr}
-use Rattle.machine_host.specs.Callable.{Callable}
+use Rattle.codegen_program.specs.declared.callable.Callable.{Callable}
 use Rattle.machine_host.specs.Seen.{MetaSeen, ValueSeen}
 use Rattle.machine_host.specs.declared.place.Use.{Use}
 use Rattle.machine_host.specs.declared.place.Use.TheVariants as use_at

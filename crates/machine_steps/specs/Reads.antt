@@ -2,7 +2,7 @@
 use Rattle.std.specs.Prelude.{ℕ, codes}
 use Rattle.error_fault.specs.Outcome.{Outcome, refused}
 use Rattle.error_fault.specs.declared.kind.FaultKind.TheVariants.{Custom}
-use Rattle.machine_host.specs.Cells.{Cells, no_cells}
+use Rattle.meta_nested.specs.Cells.{Cells, no_cells}
 use Rattle.machine_value.specs.declared.value.Value.{Value as Datum}
 use Rattle.machine_steps.specs.Elements.{Element}
 

@@ -6,7 +6,7 @@ use Rattle.node_expr.specs.declared.ty.«Type».{«Type» as Type'}
 use Rattle.error_fault.specs.Outcome.{Outcome, Value, Faults}
 use Rattle.law_spans.specs.Erased.{erased_expr}
 use Rattle.codegen_program.specs.Callables.{path_call}
-use Rattle.machine_host.specs.Callable.{Callable}
+use Rattle.codegen_program.specs.declared.callable.Callable.{Callable}
 use Rattle.machine_host.specs.Decls.{decl_names}
 use Rattle.machine_host.specs.HostSays.{HostSays, erased_decls, erased_place}
 use Rattle.machine_host.specs.Seen.{SeenArg}

@@ -3,7 +3,7 @@ use Rattle.std.specs.Prelude.{true, false, List, [], ◌∷◌, Option, Some, No
 use Rattle.base_core.specs.declared.text.Text.{Text}
 use Rattle.tok_types.specs.Ident.{ident_text}
 use Rattle.node_expr.specs.declared.ty.«Type».{«Type» as Type'}
-use Rattle.machine_host.specs.NestedMeta.{NestedMeta}
+use Rattle.meta_nested.specs.declared.nested.NestedMeta.{NestedMeta}
 use Rattle.error_fault.specs.declared.fault.Fault.{Fault}
 use Rattle.error_fault.specs.declared.kind.FaultKind.TheVariants.{MissingField}
 use Rattle.error_fault.specs.Fault.{plain}

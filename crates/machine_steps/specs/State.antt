@@ -2,7 +2,7 @@
 use Rattle.std.specs.Prelude.{ℕ, zero, suc, Bool, true, false, cond, List, [], ◌∷◌, ◌++◌, length, Option, Some, None, slice_set, slice_index_or, codes}
 use Rattle.std.specs.Str.{bytes_eq}
 use Rattle.base_core.specs.declared.text.Text.{Text}
-use Rattle.machine_host.specs.NestedMeta.{NestedMeta}
+use Rattle.meta_nested.specs.declared.nested.NestedMeta.{NestedMeta}
 use Rattle.error_fault.specs.declared.fault.Fault.{Fault}
 use Rattle.error_fault.specs.declared.kind.FaultKind.TheVariants.{DuplicateField, UnexpectedFormat, UnknownField}
 use Rattle.error_fault.specs.Kind.{set_of}
@@ -10,7 +10,7 @@ use Rattle.error_fault.specs.Fault.{at_span}
 use Rattle.error_fault.specs.Faults.{at}
 use Rattle.error_fault.specs.Outcome.{Outcome, Value, Faults}
 use Rattle.machine_value.specs.declared.value.Value.{Value as Datum}
-use Rattle.machine_host.specs.MetaNestedNodes.{nested_span}
+use Rattle.meta_nested.specs.Nodes.{nested_span}
 use Rattle.codegen_program.specs.declared.arm.Arm.{Arm}
 use Rattle.codegen_program.specs.declared.arm.Rest.{Rest}
 use Rattle.codegen_program.specs.declared.arm.Rest.TheVariants as rests

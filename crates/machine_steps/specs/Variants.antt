@@ -11,9 +11,9 @@ use Rattle.error_fault.specs.Kind.{set_of}
 use Rattle.error_fault.specs.Outcome.{Outcome, Value, Faults, on_value, refused, under}
 use Rattle.error_fault.specs.declared.kind.FaultKind.TheVariants.{TooFewItems, TooManyItems, UnexpectedFormat, UnknownField, UnknownValue}
 use Rattle.machine_host.specs.Dispatch.{from_meta, items_of}
-use Rattle.machine_host.specs.MetaNestedNodes.{nested_span}
-use Rattle.machine_host.specs.NestedMeta.{NestedMeta}
-use Rattle.machine_host.specs.NestedMeta.TheVariants as nested
+use Rattle.meta_nested.specs.Nodes.{nested_span}
+use Rattle.meta_nested.specs.declared.nested.NestedMeta.{NestedMeta}
+use Rattle.meta_nested.specs.declared.nested.NestedMeta.TheVariants as nested
 use Rattle.machine_value.specs.declared.value.Value.{Value as Datum}
 use Rattle.machine_value.specs.declared.value.Value.TheVariants as value
 use Rattle.codegen_program.specs.declared.variant.UnitArm.{UnitArm}
