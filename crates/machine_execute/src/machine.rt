@@ -28,9 +28,9 @@ pub const MAX_READING: usize = 1024;
 /// An element whose reading goes deeper than [`MAX_READING`] levels of types and declarations is want of memory.
 ///
 /// ```
-/// match try_execute(alloc, &program, unit, Element::Input(&input), &host) {
+/// match try_execute(alloc, program, unit, Element::Input(input), &host) {
 ///     Ok(Some(outcome)) => shown(alloc, &outcome),
-///     Ok(None) => Err(Fail::new(format_args!("{subject} has no outcome"))),
+///     Ok(None) => Err(Fail::new(format_args!("it has no outcome"))),
 ///     Err(_) => Ok(Text::from_str(alloc, "no memory")?),
 /// }
 /// ```

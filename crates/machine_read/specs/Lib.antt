@@ -7,7 +7,6 @@ pub use Rattle.machine_steps.specs.Asked
 pub use Rattle.machine_steps.specs.Attributes
 pub use Rattle.machine_steps.specs.Below
 pub use Rattle.machine_steps.specs.Building
-pub use Rattle.machine_steps.specs.Callable
 pub use Rattle.machine_steps.specs.Convert
 pub use Rattle.machine_steps.specs.Elements
 pub use Rattle.machine_steps.specs.HostSays
@@ -15,7 +14,6 @@ pub use Rattle.machine_steps.specs.Lawful
 pub use Rattle.machine_steps.specs.Machine
 pub use Rattle.machine_steps.specs.Made
 pub use Rattle.machine_steps.specs.Names
-pub use Rattle.machine_steps.specs.Parts
 pub use Rattle.machine_steps.specs.Progress
 pub use Rattle.machine_steps.specs.Reading
 pub use Rattle.machine_steps.specs.Reads

@@ -5,11 +5,15 @@ ghost use Rattle.std.specs.Option.{option_copied};
 ghost use Rattle.std.specs.Str.{bytes_eq};
 ghost use Rattle.error_core.specs.Answers.{Answers, refusal};
 ghost use Rattle.error_fault.specs.Outcome as outcomes;
+ghost use Rattle.error_fault.specs.Outcome.{Outcome};
 ghost use Rattle.machine_read.specs.Answers.{Maps};
 ghost use Rattle.machine_read.specs.Scopes.{under};
+ghost use Rattle.machine_steps.specs.Asked.{called_on};
+ghost use Rattle.machine_steps.specs.Calls.{by_call, none_or_absent};
 ghost use Rattle.machine_steps.specs.Convert as convert;
 ghost use Rattle.machine_steps.specs.Reading as spec;
 ghost use Rattle.machine_steps.specs.Setting.{called};
+ghost use Rattle.machine_value.specs.declared.value.Value.{Value as Datum};
 ghost use Rattle.tok_types.specs.Ident.{ident_text};
 
 use crate::declared::Declared;
@@ -17,11 +21,11 @@ use crate::inside::{Inside, row_cell};
 use crate::setting::Setting;
 use base_core::{Mem, TryClone};
 use codegen_program::PostfixTransform;
-use error_core::{Fail, Result};
+use error_core::{Error, Fail, Result};
 use machine_leaf::{Callable, Reader};
 use machine_steps::{Arg, Host, Use};
 use machine_value::Value;
-use meta_nested::{MetaNameValueInvalidExpr, NestedMeta, spanned};
+use meta_nested::{Call, MetaNameValueInvalidExpr, NestedMeta, spanned};
 use node_expr::{Path, Type};
 use node_span::Spanned;
 use std::alloc::Global;
@@ -78,6 +82,35 @@ impl<H: Host, D: Declared> Scope<'_, H, D> {
             cell: row_cell::<H, D>,
         };
         inside.from_none(self.alloc)
+    }
+
+    /// What a type answers to a call, whichever it is. One that is nothing without an item refuses then.
+    pub fn answer(&self, room: usize, ty: &Type, call: Call<'_>) -> Result<Value>
+        requires { D.reads_within self.now.declared.now room }
+        ensures { (element : Outcome Datum) → Answers (λ it. it) result
+            (by_call (under H.says D.earlier self.now convert.cells ty.now) element (called_on call.entry)) }
+    {
+        let row = self.setting.row(self.alloc, ty)?;
+        let inside = Inside {
+            scope: self,
+            room,
+            row: &row,
+            cell: row_cell::<H, D>,
+        };
+        let alloc = self.alloc;
+        match call {
+            Call::Word => inside.from_word(alloc),
+            Call::List(items) => inside.from_list(alloc, items),
+            Call::String(text, span) => inside.from_text(alloc, text, span),
+            Call::Char(value) => inside.from_char(alloc, value),
+            Call::Bool(value) => inside.from_bool(alloc, value),
+            Call::Value(value) => inside.from_value(alloc, value),
+            Call::Expr(expr) => inside.from_expr(alloc, expr),
+            Call::InvalidExpr(value) => inside.from_invalid_expr(alloc, value),
+            Call::Meta(item) => inside.from_meta(alloc, item),
+            Call::NestedMeta(item) => inside.from_nested_meta(alloc, item),
+            Call::Absent => or_absent(alloc, inside.from_none(alloc)?),
+        }
     }
 
     /// What a transform makes of an answer; faults pass it by.
@@ -166,6 +199,16 @@ impl<H: Host, D: Declared> Scope<'_, H, D> {
             NestedMeta::Lit(_) => self.convert(room, ty, item),
             NestedMeta::NameValueInvalidExpr(it) => stored_fault(self.alloc, it),
         }
+    }
+}
+
+/// The value, or that there is none.
+fn or_absent(alloc: Global, value: Option<Value>) -> Result<Value>
+    ensures { Answers (λ it. it) result (none_or_absent value) }
+{
+    match value {
+        Some(value) => Ok(value),
+        None => Err(Fail::Faults(Error::custom(alloc, "absent")?)),
     }
 }
 

@@ -5,7 +5,8 @@ ghost use Rattle.error_core.specs.Answers.{Answers};
 ghost use Rattle.error_core.specs.ErrorView.{leaves};
 ghost use Rattle.law_spans.specs.Erased.{erased_type};
 ghost use Rattle.machine_leaf.specs.Defaults.{row_default};
-ghost use Rattle.machine_steps.specs.Seen.{seen_arg, seen_item};
+ghost use Rattle.machine_steps.specs.Calls.{none_said};
+ghost use Rattle.machine_steps.specs.Seen.{NothingSeen, seen_arg, seen_item};
 ghost use Rattle.machine_read.specs.Scopes.{setting_in};
 ghost use Rattle.machine_steps.specs.Convert as convert;
 ghost use Rattle.machine_steps.specs.Convert.{declared_default, default_said};
@@ -71,6 +72,21 @@ impl<H: Host> Setting<'_, H> {
             .host
             .answer(alloc, self.decls, Some(callable), &place, arg)?;
         said_outcome(alloc, said)
+    }
+
+    /// What a function answers in the place of no item; where it answers nothing, that is refused.
+    pub fn ask_none(&self, alloc: Global, callable: &Callable, ty: &Type) -> Result<Value>
+        ensures { Answers (λ it. it) result
+            (none_said (spec.answer (setting_in H.says self.now) (Some (spec.without_places callable.now)) Use.FromNone ty.now NothingSeen)) }
+    {
+        let place = Place {
+            at: Use::FromNone,
+            ty: ty.try_clone(alloc)?,
+        };
+        let said = self
+            .host
+            .answer(alloc, self.decls, Some(callable), &place, Arg::Nothing)?;
+        none_outcome(alloc, said)
     }
 
     /// What the host makes of the identifier that a type is read from.
@@ -175,6 +191,17 @@ fn said_outcome(alloc: Global, said: Said) -> Result<Value>
     match said.into_result() {
         Ok(Some(value)) => Ok(value),
         Ok(None) => Ok(Value::Text(Text::new(alloc))),
+        Err((fault, more)) => Err(Fail::Faults(error_of(alloc, fault, more)?)),
+    }
+}
+
+/// The value that is given, or the error of the faults. Nothing given is refused.
+fn none_outcome(alloc: Global, said: Said) -> Result<Value>
+    ensures { Answers (λ it. it) result (none_said said) }
+{
+    match said.into_result() {
+        Ok(Some(value)) => Ok(value),
+        Ok(None) => Err(Fail::Faults(Error::custom(alloc, "absent")?)),
         Err((fault, more)) => Err(Fail::Faults(error_of(alloc, fault, more)?)),
     }
 }

@@ -1,7 +1,9 @@
 pub mod Building
+pub mod Chosen
 pub mod Declared
 pub mod Errors
 pub mod Faulty
+pub mod Forms
 pub mod Held
 pub mod Listless
 pub mod Metas
@@ -9,3 +11,4 @@ pub mod Places
 pub mod Reading
 pub mod Steps
 pub mod Stopped
+pub mod Stops

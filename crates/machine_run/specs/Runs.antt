@@ -9,11 +9,11 @@ use Rattle.machine_read.specs.Attributes.{on_attribute}
 use Rattle.machine_read.specs.NestedMeta.{NestedMeta}
 use Rattle.machine_read.specs.HostSays.{HostSays}
 use Rattle.machine_read.specs.Progress.{Progress}
-use Rattle.machine_read.specs.Reads.{Before}
+use Rattle.machine_read.specs.Reads.{Before, Earlier, metas}
 use Rattle.machine_read.specs.Receivers.{Receiver}
 use Rattle.machine_read.specs.Setting.{Setting}
 use Rattle.machine_read.specs.Scopes.{setting_in}
-use Rattle.machine_read.specs.Statements.{run_from}
+use Rattle.machine_read.specs.Statements.{run as run_of, run_from}
 use Rattle.machine_run.specs.Seen.{receiver_of}
 use Rattle.machine_run.specs.declared.run.Run.{Run}
 
@@ -29,9 +29,17 @@ making says run make = make (run_setting says run) (receiver_of run.receiver)
 abbrev pub in_run : {H D A : Type 0} → (H → HostSays) → (D → Before) → Run H D → (Setting → Before → Receiver → A) → A
 in_run says before run done = done (run_setting says run) (before run.scope.declared.now) (receiver_of run.receiver)
 
+-- what is read of an enum, by its name
+abbrev pub of_enum : {H D A : Type 0} → (H → HostSays) → (D → Before) → Run H D → (Setting → Earlier → Text → A) → A
+of_enum says before run read = read (run_setting says run) (metas (before run.scope.declared.now)) (receiver_of run.receiver).name
+
 -- what statements do on the items of a list
 abbrev pub on_list : {H D : Type 0} → (H → HostSays) → (D → Before) → Run H D → List Stmt → List NestedMeta → Progress → Progress
 on_list says before run stmts list = in_run says before run run_from stmts (Items list)
+
+-- what statements do on the items of a list, from the start
+abbrev pub from_start : {H D : Type 0} → (H → HostSays) → (D → Before) → Run H D → List Stmt → List NestedMeta → Progress
+from_start says before run stmts list = in_run says before run run_of stmts (Items list)
 
 -- what statements do on the items of attributes of these names, where others may be kept
 abbrev pub on_attributes : {H D : Type 0} → (H → HostSays) → (D → Before) → Run H D → List Stmt → List Text → Forward → List Attribute → Progress → Progress

@@ -10,7 +10,6 @@ use Rattle.error_core.specs.declared.fail.Fail.{Fail}
 use Rattle.error_fault.specs.declared.fault.Fault.{Fault}
 use Rattle.error_fault.specs.Outcome.{Outcome, on_value}
 use Rattle.machine_value.specs.declared.value.Value.{Value as Datum}
-use Rattle.machine_value.specs.declared.value.Value.TheVariants as value
 use Rattle.machine_value.specs.Members.{labelled}
 use Rattle.node_core.specs.Meta.{path_of_meta}
 use Rattle.node_core.specs.declared.attr.Attribute.{Attribute}
@@ -25,9 +24,10 @@ use Rattle.machine_read.specs.NestedMeta.{NestedMeta}
 use Rattle.machine_read.specs.Slots.{init_value, init_values}
 use Rattle.machine_read.specs.State.{Slot, State, put, slot_at}
 use Rattle.machine_read.specs.Asked.{Asked}
+use Rattle.machine_read.specs.Building.{made}
 use Rattle.machine_read.specs.Attributes.{keep, on_items, passes}
 use Rattle.machine_read.specs.Elements.{Element}
-use Rattle.machine_read.specs.Parts.{body_step, shape_step}
+use Rattle.machine_steps.specs.Parts.{body_step, shape_step}
 use Rattle.machine_read.specs.Reads.{Before}
 use Rattle.machine_read.specs.Receivers.{Receiver}
 use Rattle.machine_read.specs.Statements.{moving, source_value}
@@ -51,6 +51,10 @@ Becomes next old new result = OnOk result (state_of new ≡ next (state_of old))
 -- the run has come to this progress, whatever the state is
 abbrev pub Comes : Progress → Result Come AllocError → Type 0
 Comes progress result = (after : State) → IfOk result (λ it. progress_of after it ≡ progress)
+
+-- a run that goes on has come to this progress, whatever the state is
+abbrev pub Stops : Progress → Come → Result Come AllocError → Type 0
+Stops over before result = (old after : State) → IfOk result (λ it. progress_of after it ≡ going (λ state aside. over) (progress_of old before))
 
 -- the run has come to what `make` makes of what was built
 abbrev pub Builds : (Outcome Datum → Outcome Datum) → Come → Result Come AllocError → Type 0
@@ -87,10 +91,10 @@ with_default default = going (λ state aside. on_outcome default (λ whole. Goin
 abbrev pub member_value : Setting → State → Init → Option (Outcome Datum)
 member_value setting state init = init_value setting state.whole init.fallback (slot_at state.slots init.slot)
 
--- the struct of the values of its members, or what a default of one refuses
-abbrev pub struct_built : Setting → Style → Ident → List Init → State → Progress
-struct_built setting style name inits state =
-    built_or_stuck (option_map (on_value (λ values. value.Struct (ident_text name) style (labelled (map (λ init. init.member) inits) values)))
+-- the struct of the values of its members, or the variant, or what a default of one refuses
+abbrev pub form_built : Setting → Style → Ident → Option Ident → List Init → State → Progress
+form_built setting style name variant inits state =
+    built_or_stuck (option_map (on_value (λ values. made style (ident_text name) variant (labelled (map (λ init. init.member) inits) values)))
     (init_values setting state.whole state.slots inits))
 
 -- ---- parts of the element, whatever it is

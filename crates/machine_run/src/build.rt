@@ -13,10 +13,10 @@ ghost use Rattle.machine_read.specs.Slots as slots;
 ghost use Rattle.machine_read.specs.Statements as spec;
 ghost use Rattle.machine_run.specs.Runs.{making, run_setting};
 ghost use Rattle.machine_run.specs.Seen.{slot_of, state_of};
-ghost use Rattle.machine_run.specs.Steps.{Builds, Comes, Goes, IsOutcome, default_of, member_value, struct_built, with_default};
+ghost use Rattle.machine_run.specs.Steps.{Builds, Comes, Goes, IsOutcome, default_of, form_built, member_value, with_default};
 
 use crate::faults::{again, known};
-use crate::members::{member, push_member, struct_of};
+use crate::members::{form_of, member, push_member};
 use crate::progress::Progress;
 use crate::run::Run;
 use crate::slot::Slot;
@@ -98,7 +98,7 @@ impl<'p, H: Host, D: Declared> Run<'p, H, D> {
         }
     }
 
-    /// Builds the receiver. No unit builds a variant yet, or takes parts of the element.
+    /// Builds the receiver. No unit takes parts of the element yet.
     pub(crate) fn build_form(
         &self,
         asked: Asked<'_>,
@@ -111,36 +111,45 @@ impl<'p, H: Host, D: Declared> Run<'p, H, D> {
     ) -> Mem<Progress>
         ensures { Goes (making H.says self.now build_step (asked_of asked.entry) name.now variant.now parts.now inits.now) state.old progress state.new result }
     {
-        match (variant, parts) {
-            (None, []) => {
+        match parts {
+            [] => {
                 let style = self.receiver.built_style(asked);
-                self.build(style, name, inits, state, progress)
+                self.build(style, name, variant.as_ref(), inits, state, progress)
             }
             _ => Err(AllocError),
         }
     }
 
-    /// Builds the struct of the values of its members, or what a default of one refuses.
+    /// Builds the struct of the values of its members, or the variant, or what a default of one refuses.
     #[tactic(auto, using(crate::proofs::Stopped::goes_over, crate::proofs::Stopped::goes_on))]
     fn build(
         &self,
         style: Style,
         name: &Ident,
+        variant: Option<&Ident>,
         inits: &[Init],
         state: &mut State<'p>,
         progress: Progress,
     ) -> Mem<Progress>
-        ensures { Goes (going (λ it aside. struct_built (run_setting H.says self.now) style name.now inits.now it)) state.old progress state.new result }
+        ensures { Goes (going (λ it aside. form_built (run_setting H.says self.now) style name.now (option_copied variant.entry) inits.now it))
+            state.old progress state.new result }
     {
         match progress.over() {
             Some(over) => Ok(over),
-            None => self.built(style, name, inits, state),
+            None => self.built(style, name, variant, inits, state),
         }
     }
 
     /// What is built of the values of the members.
-    fn built(&self, style: Style, name: &Ident, inits: &[Init], state: &State<'p>) -> Mem<Progress>
-        ensures { Comes (struct_built (run_setting H.says self.now) style name.now inits.now (state_of state.now)) result }
+    fn built(
+        &self,
+        style: Style,
+        name: &Ident,
+        variant: Option<&Ident>,
+        inits: &[Init],
+        state: &State<'p>,
+    ) -> Mem<Progress>
+        ensures { Comes (form_built (run_setting H.says self.now) style name.now (option_copied variant.entry) inits.now (state_of state.now)) result }
     {
         let alloc = self.scope.alloc;
         let mut members = Items::new(alloc);
@@ -151,7 +160,7 @@ impl<'p, H: Host, D: Declared> Run<'p, H, D> {
                 Some(Ok(value)) => push_member(alloc, &mut members, &init.member, value)?,
             }
         }
-        let value = struct_of(alloc, name, style, members)?;
+        let value = form_of(alloc, name, variant, style, members)?;
         Ok(Progress::Built(Ok(value)))
     }
 

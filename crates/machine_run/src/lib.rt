@@ -5,6 +5,7 @@
 #![tactic(auto)]
 
 mod build;
+mod calls;
 mod faults;
 mod flat;
 mod items;
@@ -16,6 +17,7 @@ mod receiver;
 mod run;
 mod slot;
 mod state;
+mod variants;
 
 pub use faults::{again, known};
 pub use progress::Progress;

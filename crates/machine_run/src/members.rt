@@ -1,6 +1,9 @@
 //! Members of structs.
 
-ghost use Rattle.std.specs.Prelude.{◌≡◌, ◌++◌, ◌∷◌, [], IfOk, OnOk};
+ghost use Rattle.std.specs.Prelude.{◌≡◌, ◌++◌, ◌∷◌, [], IfOk, OnOk, cond};
+ghost use Rattle.std.specs.Option.{option_copied};
+ghost use Rattle.machine_steps.specs.Building as building;
+ghost use Rattle.machine_steps.specs.Variants as variants;
 ghost use Rattle.machine_value.specs.Members as spec;
 ghost use Rattle.tok_types.specs.Ident.{ident_text};
 
@@ -63,4 +66,104 @@ pub(crate) fn struct_of(
         style,
         fields,
     })
+}
+
+/// The struct of this name with these members, written in this style, or its variant.
+pub(crate) fn form_of(
+    alloc: Global,
+    name: &Ident,
+    variant: Option<&Ident>,
+    style: Style,
+    fields: Items<(Text, Value)>,
+) -> Mem<Value>
+    ensures { IfOk result (λ it. it ≡ building.made style (ident_text name.now) (option_copied variant.entry) fields) }
+{
+    match variant {
+        None => struct_of(alloc, name, style, fields),
+        Some(variant) => variant_of(alloc, name, variant, Style::Struct, fields),
+    }
+}
+
+/// The variant of this name of an enum with these members, written in this style.
+pub(crate) fn variant_of(
+    alloc: Global,
+    ty: &Ident,
+    name: &Ident,
+    style: Style,
+    fields: Items<(Text, Value)>,
+) -> Mem<Value>
+    ensures { IfOk result (λ it. it ≡ Value.Variant (ident_text ty.now) (ident_text name.now) style fields) }
+{
+    let ty = ty.to_text(alloc)?;
+    let name = name.to_text(alloc)?;
+    Ok(Value::Variant {
+        ty,
+        name,
+        style,
+        fields,
+    })
+}
+
+/// The variant without members.
+pub(crate) fn bare(alloc: Global, ty: &Ident, name: &Ident) -> Mem<Value>
+    ensures { IfOk result (λ it. it ≡ variants.bare (ident_text ty.now) (ident_text name.now)) }
+{
+    variant_of(alloc, ty, name, Style::Unit, Items::new(alloc))
+}
+
+/// The variant of this one member.
+pub(crate) fn wrapped(
+    alloc: Global,
+    ty: &Ident,
+    name: &Ident,
+    member: &Text,
+    value: Value,
+) -> Mem<Value>
+    ensures { IfOk result (λ it. it ≡ variants.wrapped (ident_text ty.now) (ident_text name.now) member.now value) }
+{
+    let fields = one_member(alloc, member, value)?;
+    variant_of(alloc, ty, name, one_style(member), fields)
+}
+
+/// The struct of this one member.
+pub(crate) fn alone(alloc: Global, name: &Ident, member: &Text, value: Value) -> Mem<Value>
+    ensures { IfOk result (λ it. it ≡ building.alone (ident_text name.now) member.now value) }
+{
+    let fields = one_member(alloc, member, value)?;
+    struct_of(alloc, name, one_style(member), fields)
+}
+
+/// How a member that stands alone is written.
+fn one_style(member: &Text) -> Style
+    ensures { result ≡ building.one_style member.now }
+{
+    if is_unnamed(member) {
+        Style::Tuple
+    } else {
+        Style::Struct
+    }
+}
+
+fn one_member(alloc: Global, member: &Text, value: Value) -> Mem<Items<(Text, Value)>>
+    ensures { IfOk result (λ it. it ≡ building.one_member member.now value) }
+{
+    let name = written_name(alloc, member)?;
+    Items::of(alloc, (name, value))
+}
+
+/// The name of the member, which is empty where it has none.
+fn written_name(alloc: Global, member: &Text) -> Mem<Text>
+    ensures { IfOk result (λ it. it ≡ cond (building.is_unnamed member.now) [] member.now) }
+{
+    if is_unnamed(member) {
+        return Ok(Text::new(alloc));
+    }
+    member.try_clone(alloc)
+}
+
+/// Whether the member has no name.
+fn is_unnamed(member: &Text) -> bool
+    ensures { result ≡ building.is_unnamed member.now }
+{
+    member.is("0")
 }

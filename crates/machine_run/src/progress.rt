@@ -1,9 +1,15 @@
 //! How far a run has come.
 
 ghost use Rattle.std.specs.Prelude.{◌≡◌, MatchOption, option_map};
-ghost use Rattle.machine_read.specs.Progress.{outcome};
+ghost use Rattle.error_core.specs.Answers.{Answers};
+ghost use Rattle.error_fault.specs.Outcome.{Outcome};
+ghost use Rattle.machine_read.specs.Progress.{Built, outcome};
 ghost use Rattle.machine_run.specs.Seen.{IsBuilt, IsStopped, StateSeen, answered, progress_of};
+ghost use Rattle.machine_run.specs.Steps.{Comes};
+ghost use Rattle.machine_value.specs.declared.value.Value.{Value as Datum};
 
+use crate::faults::known;
+use base_core::Mem;
 use error_core::Error;
 use machine_value::Value;
 use std::result::Result;
@@ -21,6 +27,13 @@ pub enum Progress {
 }
 
 impl Progress {
+    /// It has built what is answered.
+    pub(crate) fn of(answer: error_core::Result<Value>) -> Mem<Progress>
+        ensures { (outcome : Outcome Datum) → Answers (λ it. it) answer outcome → Comes (Built outcome) result }
+    {
+        Ok(Progress::Built(known(answer)?))
+    }
+
     /// What a statement leaves that asks for a run that goes on, where this one does not. `None` where it goes on.
     pub(crate) fn over(self) -> Option<Progress>
         ensures { MatchOption result (self ≡ Progress.Going) (λ over. IsStopped self over) }

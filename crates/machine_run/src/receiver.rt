@@ -8,7 +8,7 @@ ghost use Rattle.machine_run.specs.Seen.{receiver_of};
 
 use codegen_program::Derive;
 use machine_read::{Asked, Call};
-use node_core::{Data, DeriveInput, Style};
+use node_core::{Data, DeriveInput, Style, Variant};
 use node_expr::Type;
 use tok_types::Ident;
 
@@ -23,7 +23,17 @@ pub struct Receiver<'p> {
     pub decl: Option<&'p DeriveInput>,
 }
 
-impl Receiver<'_> {
+impl<'p> Receiver<'p> {
+    /// The variants of the enum that is made; a struct has none.
+    pub(crate) fn variants(&self) -> &'p [Variant]
+        ensures { result.now ≡ spec.declared_variants (receiver_of self.now).decl }
+    {
+        match self.decl {
+            Some(decl) => variants_of(&decl.body),
+            None => &[],
+        }
+    }
+
     /// How a struct is written that is built: one that a word gives has no members, one that an element gives is written as it
     /// is declared.
     pub(crate) fn built_style(&self, asked: Asked<'_>) -> Style
@@ -44,6 +54,15 @@ impl Receiver<'_> {
             Some(decl) => body_style(&decl.body),
             None => Style::Struct,
         }
+    }
+}
+
+fn variants_of(body: &Data) -> &[Variant]
+    ensures { result.now ≡ spec.variants_of body.now }
+{
+    match body {
+        Data::Enum(it) => it.variants.as_slice(),
+        Data::Struct(_) | Data::Union(_) => &[],
     }
 }
 

@@ -5,9 +5,11 @@ ghost use Rattle.meta_entries.specs.Attributes.{attribute_items};
 ghost use Rattle.machine_read.specs.Asked.{asked_of};
 ghost use Rattle.machine_read.specs.Attributes as attributes;
 ghost use Rattle.machine_read.specs.Made.{named_type};
+ghost use Rattle.machine_read.specs.Progress.{going};
 ghost use Rattle.machine_read.specs.Statements as spec;
 ghost use Rattle.machine_run.specs.Seen.{slot_of};
 ghost use Rattle.machine_run.specs.Steps.{Goes, Moves};
+ghost use Rattle.machine_steps.specs.Variants.{variants as variants_of};
 
 use crate::flat::{check_errors, declare, declare_buffer, declare_errors, refuse_list};
 use crate::parts::{check_shape, keep, read_body};
@@ -16,7 +18,7 @@ use crate::receiver::Receiver;
 use crate::slot::Slot;
 use crate::state::State;
 use base_core::{Items, Mem, Text};
-use codegen_program::{Forward, Stmt};
+use codegen_program::{Alternatives, Forward, Stmt, VariantArm};
 use machine_read::{Asked, Call, Declared, Host, NestedMeta, Scope, Setting};
 use meta_entries::{attribute_items, is_named};
 use node_core::{Attribute, Meta};
@@ -35,7 +37,7 @@ pub struct Run<'p, H, D> {
 }
 
 impl<'p, H: Host, D: Declared> Run<'p, H, D> {
-    ghost use Rattle.machine_run.specs.Runs.{in_run, on_attributes, on_list};
+    ghost use Rattle.machine_run.specs.Runs.{from_start, in_run, of_enum, on_attributes, on_list};
 
     /// Runs the statements one after another. Statements in statements stand no deeper than `nesting` levels; what is
     /// deeper is want of memory.
@@ -124,14 +126,18 @@ impl<'p, H: Host, D: Declared> Run<'p, H, D> {
             Stmt::Transform { post } => self.transform(post, progress),
             Stmt::CheckShape { shapes } => check_shape(shapes, progress),
             Stmt::ReadBody { ident, with } => read_body(ident.as_ref(), with.as_ref(), progress),
+            Stmt::Delegate { name, member, ty } => self.delegate(asked, name, member, ty, progress),
+            Stmt::Variants { arms, names } => {
+                let items = asked.items();
+                self.variants(items, arms.as_slice(), names, nesting, state, progress)
+            }
+            Stmt::UnitNames { arms, names } => {
+                self.unit_names(asked, arms.as_slice(), names, progress)
+            }
+            Stmt::Call { callable, at } => self.call(asked, callable, *at, progress),
             // No unit has them yet.
-            Stmt::DeclareForward { .. }
-            | Stmt::ForwardDone { .. }
-            | Stmt::ReadGenerics { .. }
-            | Stmt::Delegate { .. }
-            | Stmt::Variants { .. }
-            | Stmt::UnitNames { .. }
-            | Stmt::Call { .. } => Err(AllocError),
+            Stmt::DeclareForward { .. } | Stmt::ForwardDone { .. } | Stmt::ReadGenerics { .. } =>
+                Err(AllocError),
         }
     }
 
@@ -216,6 +222,35 @@ impl<'p, H: Host, D: Declared> Run<'p, H, D> {
         match attribute_items(self.scope.alloc, meta) {
             Ok(items) => self.inside(items.as_slice(), stmts, nesting, state, progress),
             Err(fail) => refuse_list(self.scope.alloc, fail, state, progress),
+        }
+    }
+
+    /// Reads the variant whose name the one item of the list has. The statements of a variant begin anew.
+    #[cycle(stmts)]
+    #[tactic(auto, using(crate::proofs::Stopped::goes_over, crate::proofs::Stopped::goes_on))]
+    fn variants(
+        &self,
+        items: &[NestedMeta],
+        arms: &'p [VariantArm<Stmt>],
+        names: &Alternatives,
+        nesting: usize,
+        state: &mut State<'p>,
+        progress: Progress,
+    ) -> Mem<Progress>
+        requires { D.reads_within self.now.scope.declared.now self.now.room }
+        ensures { Goes (going (λ old aside. of_enum H.says D.earlier self.now
+            (λ setting earlier enum. variants_of setting earlier enum (from_start H.says D.earlier self.now) names.now arms.now items.now)))
+            state.old progress state.new result }
+    {
+        match progress.over() {
+            Some(over) => Ok(over),
+            None => match self.chosen(items, arms, names)?.into_parts() {
+                Ok(over) => Ok(over),
+                Err((stmts, items)) => {
+                    state.restart(self.scope.alloc);
+                    self.inside(items.as_slice(), stmts, nesting, state, Progress::Going)
+                }
+            },
         }
     }
 

@@ -38,6 +38,13 @@ impl<'p> State<'p> {
         }
     }
 
+    /// Begins anew: no slot is declared yet.
+    pub(crate) fn restart(&mut self, alloc: Global)
+        ensures { state_of self.new ≡ start }
+    {
+        *self = State::new(alloc);
+    }
+
     /// Takes a slot out; one that is not there is an empty list of a type without a name. It is to be put back.
     pub(crate) fn take(&mut self, alloc: Global, place: usize, nameless: &'p Type) -> Slot<'p>
         requires { nameless.now ≡ named_type [] }

@@ -1,26 +1,32 @@
-use Rattle.std.proofs.Common.{◌≡◌, false, List, [], None, Result, Ok, ap, fold, rules, ◌∙◌}
+use Rattle.std.proofs.Common.{◌≡◌, false, List, [], None, Result, Ok, ap, fold, rules, sym, ◌∙◌}
 use Rattle.std.specs.declared.alloc.AllocError.{AllocError}
 use Rattle.base_core.specs.declared.text.Text.{Text}
 use Rattle.node_core.specs.declared.attr.Attribute.{Attribute}
 use Rattle.codegen_program.specs.declared.stmt.Stmt.{Stmt}
+use Rattle.codegen_program.specs.declared.variant.UnitArm.{UnitArm}
+use Rattle.codegen_program.specs.declared.variant.VariantArm.{VariantArm}
 use Rattle.machine_read.proofs.Statements as steps
 use Rattle.machine_read.specs.NestedMeta.{NestedMeta}
-use Rattle.machine_read.specs.Asked.{asked_of, attributes_asked, element_asked, items_asked}
+use Rattle.machine_read.specs.Asked.{asked_of, attributes_asked, element_asked, items_asked, text_asked}
 use Rattle.machine_read.specs.Attributes.{on_attribute}
 use Rattle.machine_read.specs.Building.{build_step}
-use Rattle.machine_read.specs.Parts.{body_step}
-use Rattle.machine_read.specs.Progress.{Aside, Progress, going, unless_faults}
+use Rattle.machine_steps.specs.Parts.{body_step}
+use Rattle.machine_read.specs.Progress.{Aside, Progress, Built, Going, going, no_aside, unless_faults}
 use Rattle.machine_read.specs.Reads.{metas}
 use Rattle.machine_read.specs.Scopes.{setting_in}
 use Rattle.machine_read.specs.Slots.{read_flat}
 use Rattle.machine_read.specs.State.{One, Several, State, step}
 use Rattle.machine_read.specs.Statements as spec
-use Rattle.machine_run.specs.Runs.{on_list}
+use Rattle.machine_run.specs.Runs.{from_start, of_enum, on_list}
 use Rattle.machine_run.specs.Seen.{progress_of, receiver_of, state_of}
 use Rattle.machine_run.specs.Steps.{Goes, Moves, change_at}
 use Rattle.machine_run.specs.declared.progress.Progress.{Progress as Come}
+use Rattle.machine_steps.specs.Variants.{unit_names, variants}
+use Rattle.machine_run.proofs.Chosen.{over_is, runs_is}
+use Rattle.machine_run.proofs.Forms as forms
 use Rattle.machine_run.proofs.Metas.{itemed, unlisted}
 use Rattle.machine_run.proofs.Steps.{acted, ok_same}
+use Rattle.machine_run.proofs.Stopped.{goes_on}
 use Rattle.machine_run.proofs.run.Run.+stmts.Goals as goal
 
 pub act-returns-in-DeclareErrors : goal.act-returns-in-DeclareErrors
@@ -171,6 +177,51 @@ act-returns-in-ReadBody g t c =
     act _ _ c.args.state.now c.read_body.result c.in-ReadBody.is
     (steps.read_body setting before (receiver_of c.args.self.now.receiver) _ _) known
 
+pub act-returns-in-Delegate : goal.act-returns-in-Delegate
+act-returns-in-Delegate g t c =
+    let setting = setting_in g.H.Host.says c.args.self.now.scope.setting in
+    let before = g.D.Declared.earlier c.args.self.now.scope.declared.now in
+    let act = acted g.H.Host.says g.D.Declared.earlier c.args.self.now (asked_of c.args.asked) c.args.state.now c.args.progress c.args.stmt.now in
+    let state = state_of c.args.state.now in
+    act _ _ c.args.state.now c.delegate.result c.in-Delegate.is
+    (steps.delegate setting before (receiver_of c.args.self.now.receiver) _ _ _) (c.delegate.ensures state state)
+
+pub act-returns-in-Variants : goal.act-returns-in-Variants
+act-returns-in-Variants g t c =
+    let setting = setting_in g.H.Host.says c.args.self.now.scope.setting in
+    let before = g.D.Declared.earlier c.args.self.now.scope.declared.now in
+    let receiver = receiver_of c.args.self.now.receiver in
+    let progress = progress_of (state_of c.args.state.now) c.args.progress in
+    let read : List (VariantArm Stmt) → List NestedMeta → Progress = λ arms items.
+    going (λ state aside. variants setting (metas before) receiver.name (forms.run_inside setting before receiver) c.in-Variants.names arms items) progress in
+    let arms = c.in-Variants.arms in
+    let all : read c.as_slice-in-Variants.result.now c.items-items.result.now ≡ read arms (items_asked (asked_of c.args.asked)) =
+    ap (λ arms. read arms c.items-items.result.now) c.as_slice-in-Variants.ensures ∙ ap (read arms) c.items-items.ensures in
+    let act = acted g.H.Host.says g.D.Declared.earlier c.args.self.now (asked_of c.args.asked) c.args.state.now c.args.progress c.args.stmt.now in
+    act _ _ c.variants.new.state c.variants.result c.in-Variants.is (forms.variants setting before receiver _ _)
+    (ok_same c.variants.result (progress_of (state_of c.variants.new.state)) _ _ all c.variants.ensures)
+
+pub act-returns-in-UnitNames : goal.act-returns-in-UnitNames
+act-returns-in-UnitNames g t c =
+    let setting = setting_in g.H.Host.says c.args.self.now.scope.setting in
+    let before = g.D.Declared.earlier c.args.self.now.scope.declared.now in
+    let receiver = receiver_of c.args.self.now.receiver in
+    let state = state_of c.args.state.now in
+    let named : List UnitArm → Progress = λ arms.
+    going (λ state aside. Built (unit_names setting (metas before) receiver.name c.in-UnitNames.names arms (text_asked (asked_of c.args.asked)))) (progress_of state c.args.progress) in
+    let act = acted g.H.Host.says g.D.Declared.earlier c.args.self.now (asked_of c.args.asked) c.args.state.now c.args.progress c.args.stmt.now in
+    act _ _ c.args.state.now c.unit_names.result c.in-UnitNames.is (steps.unit_names setting before receiver _ _)
+    (ok_same c.unit_names.result (progress_of state) _ _ (ap named c.as_slice-in-UnitNames.ensures) (c.unit_names.ensures state state))
+
+pub act-returns-in-Call : goal.act-returns-in-Call
+act-returns-in-Call g t c =
+    let setting = setting_in g.H.Host.says c.args.self.now.scope.setting in
+    let before = g.D.Declared.earlier c.args.self.now.scope.declared.now in
+    let act = acted g.H.Host.says g.D.Declared.earlier c.args.self.now (asked_of c.args.asked) c.args.state.now c.args.progress c.args.stmt.now in
+    let state = state_of c.args.state.now in
+    act _ _ c.args.state.now c.call.result c.in-Call.is
+    (steps.call setting before (receiver_of c.args.self.now.receiver) _ _) (c.call.ensures state state)
+
 pub on_meta-returns-in_default : goal.on_meta-returns-in_default
 on_meta-returns-in_default g t c =
     let before = progress_of (state_of c.args.state.now) c.args.progress in
@@ -184,3 +235,29 @@ on_items-returns-in-Err g t c =
     let read = on_list g.H.Host.says g.D.Declared.earlier c.args.self.now c.args.stmts.now in
     unlisted read before after c.args.meta.now c.refuse_list.result c.in-Err.fail c.attribute_items.result c.in-Err.is
     c.attribute_items.ensures c.refuse_list.ensures
+
+pub variants-returns-in-Ok : goal.variants-returns-in-Ok
+variants-returns-in-Ok g t c =
+    let run = c.args.self.now in
+    let old = state_of c.args.state.now in
+    let inside = from_start g.H.Host.says g.D.Declared.earlier run in
+    let read = of_enum g.H.Host.says g.D.Declared.earlier run
+    (λ setting earlier enum. variants setting earlier enum inside c.args.names.now c.args.arms.now c.args.items.now) in
+    over_is inside old c.in_ok-chosen-in-None.field-0 c.into_parts.result read c.into_parts.ensures (c.in_ok-chosen-in-None.ensures inside old) c.in-Ok.over c.in-Ok.is
+    ∙ sym (goes_on c.args.progress old (λ old aside. read) c.in-None.ensures)
+
+pub variants-returns-in-Err : goal.variants-returns-in-Err
+variants-returns-in-Err g t c =
+    let run = c.args.self.now in
+    let old = state_of c.args.state.now in
+    let inside = from_start g.H.Host.says g.D.Declared.earlier run in
+    let read = of_enum g.H.Host.says g.D.Declared.earlier run
+    (λ setting earlier enum. variants setting earlier enum inside c.args.names.now c.args.arms.now c.args.items.now) in
+    let begun : List NestedMeta → State → Progress = λ items state.
+    on_list g.H.Host.says g.D.Declared.earlier run c.in-Err.stmts.now items (Going state no_aside) in
+    let runs : inside c.in-Err.stmts.now c.in-Err.items ≡ read =
+    runs_is inside old c.in_ok-chosen-in-None.field-0 c.into_parts.result read c.into_parts.ensures (c.in_ok-chosen-in-None.ensures inside old) c.in-Err.stmts c.in-Err.items c.in-Err.is in
+    let all : begun c.as_slice.result.now (state_of c.restart.new.self) ≡ going (λ old aside. read) (progress_of old c.args.progress) =
+    ap (λ items. begun items (state_of c.restart.new.self)) c.as_slice.ensures ∙ ap (begun c.in-Err.items) c.restart.ensures ∙ runs
+    ∙ sym (goes_on c.args.progress old (λ old aside. read) c.in-None.ensures) in
+    ok_same c.inside.result (progress_of (state_of c.inside.new.state)) _ _ all c.inside.ensures

@@ -24,6 +24,9 @@ decreases-on_items g l = 6 * l.nesting + 1
 abbrev pub decreases-inside : goal.decreases-inside
 decreases-inside g l = 6 * l.nesting
 
+abbrev pub decreases-variants : goal.decreases-variants
+decreases-variants g l = 6 * l.nesting + 1
+
 abbrev pub invariant-run_from-loop-stmt : goal.invariant-run_from-loop-stmt
 invariant-run_from-loop-stmt g l =
     let does = in_run g.H.Host.says g.D.Declared.earlier l.self spec.run_from in
