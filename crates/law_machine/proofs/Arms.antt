@@ -1,19 +1,24 @@
--- The names, the arms and the rest of what options leave are those of the declaration.
-use Rattle.std.proofs.Common.{◌≡◌, ℕ, ◌+◌, zero, suc, Bool, true, false, ◌||◌, cond, List, [], ◌∷◌, ◌++◌, Option, Some, None, refl, ap, ap₂, ◌∙◌, arith, if◌then◌else◌}
+-- The names, the arms and the rest of what options leave are those of the declaration, whose items are entries.
+use Rattle.std.proofs.Common.{◌≡◌, ℕ, ◌+◌, zero, suc, Bool, true, false, ◌||◌, cond, List, [], ◌∷◌, ◌++◌, map, fold, Option, Some, None, refl, ap, ap₂, ◌∙◌, arith, if◌then◌else◌}
 use Rattle.std.specs.List.{AllZip, cons_option, list_any}
 use Rattle.std.specs.Option.{option_copied}
 use Rattle.base_core.specs.declared.text.Text.{Text}
-use Rattle.machine_execute.specs.Callable.{Callable}
+use Rattle.codegen_program.specs.declared.callable.Callable.{Callable}
 use Rattle.codegen_program.specs.declared.arm.Arm.{Arm}
 use Rattle.codegen_program.specs.declared.arm.PostfixTransform.{PostfixTransform}
 use Rattle.codegen_program.specs.declared.arm.Rest.TheVariants as rests
 use Rattle.codegen_program.specs.declared.stmt.Stmt.TheVariants as stmt
 use Rattle.codegen_core.specs.Compiled.{fields_of, for_items}
-use Rattle.codegen_core.specs.Fields.{at_slots, name_of, named_arm, arm as left_arm, names as left_names}
+use Rattle.codegen_core.specs.Fields.{at_slots, core_loop_from, name_of, named_arm, arm as left_arm, names as left_names}
 use Rattle.codegen_core.specs.declared.field.Field.{Field}
 use Rattle.codegen_core.specs.declared.trait_impl.TraitImpl.{TraitImpl}
 use Rattle.meaning_core.specs.Decl.{BodyDecl, Decl, FieldDecl, Shape, Single, Many, Flat, has_flat, is_flat, is_many, is_named, is_named_by, names}
-use Rattle.meaning_core.specs.EntrySteps.{arm, arms, arms_from, rest, rest_by}
+use Rattle.machine_steps.specs.Convert.{Earlier}
+use Rattle.machine_steps.specs.Setting.{Setting}
+use Rattle.machine_steps.specs.State.{State, step}
+use Rattle.meaning_core.specs.EntrySteps.{arm, arms, arms_from, entry_step, rest, rest_by}
+use Rattle.meta_entries.specs.declared.entry.Entry.TheVariants as entry
+use Rattle.meta_nested.specs.declared.nested.NestedMeta.{NestedMeta}
 use Rattle.law_machine.specs.Compiles.{IsField, IsDecl}
 
 pub next : (k : ℕ) → k + 1 ≡ suc k
@@ -82,11 +87,20 @@ module _ (body : BodyDecl) where
       (ap (λ j. at_slots left_arm j lefts) (next k) ∙ arms_are lefts fs (suc k) zip.1)
       ∙ put_in (is_named f) (arm k f) (arms_from (suc k) fs)
 
-pub for_items_is : (left : TraitImpl) (decl : Decl) → IsDecl left decl → for_items left ≡ stmt.ForItems (arms decl.body) (rest decl.body)
-for_items_is left decl is =
-    let lefts = fields_of left in
-    let body = decl.body in
-    ap₂ stmt.ForItems (arms_are body lefts body.fields zero is.fields)
-    (ap₂ (λ b ns. if b then rests.Buffer else (if left.allow_unknown_fields then rests.Ignore else rests.Unknown ns)) (any_flat body lefts body.fields is.fields) (names_are body lefts body.fields is.fields)
-    ∙ ap (λ a. if has_flat body.fields then rests.Buffer else (if a then rests.Ignore else rests.Unknown (names body.fields))) is.allows_unknown
+-- the loop over the items, where this is the first slot
+pub core_loop_is : (body : BodyDecl) (k : ℕ) (allows : Bool) (lefts : List Field) → AllZip (IsField body) lefts body.fields → allows ≡ body.allows_unknown
+    → core_loop_from k allows lefts ≡ stmt.ForItems (arms_from k body.fields) (rest body)
+core_loop_is body k allows lefts are same =
+    ap₂ stmt.ForItems (arms_are body lefts body.fields k are)
+    (ap₂ (λ b ns. if b then rests.Buffer else (if allows then rests.Ignore else rests.Unknown ns)) (any_flat body lefts body.fields are) (names_are body lefts body.fields are)
+    ∙ ap (λ a. if has_flat body.fields then rests.Buffer else (if a then rests.Ignore else rests.Unknown (names body.fields))) same
     ∙ rest_by_is (has_flat body.fields) body.allows_unknown (names body.fields))
+
+pub for_items_is : (left : TraitImpl) (decl : Decl) → IsDecl left decl → for_items left ≡ stmt.ForItems (arms decl.body) (rest decl.body)
+for_items_is left decl is = core_loop_is decl.body zero left.allow_unknown_fields (fields_of left) is.fields is.allows_unknown
+
+-- items alone are entries
+pub items_fold : (setting : Setting) (earlier : Earlier) (body : BodyDecl) (s : State) (is : List NestedMeta)
+    → fold (step setting earlier (arms body) (rest body)) s is ≡ fold (entry_step setting earlier body) s (map entry.Item is)
+items_fold setting earlier body s [] = refl
+items_fold setting earlier body s (i ∷ is) = items_fold setting earlier body (step setting earlier (arms body) (rest body) s i) is

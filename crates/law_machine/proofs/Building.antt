@@ -6,7 +6,7 @@ use Rattle.std.specs.Prelude.{option_and_then}
 use Rattle.node_expr.specs.declared.ty.«Type».{«Type» as Type'}
 use Rattle.meta_nested.specs.declared.nested.NestedMeta.{NestedMeta}
 use Rattle.error_fault.specs.declared.fault.Fault.{Fault}
-use Rattle.error_fault.specs.Outcome.{Outcome, Value, Faults, bind, on_value, value_of}
+use Rattle.error_fault.specs.Outcome.{Outcome, Value, Faults, bind, on_value, settle, value_of}
 use Rattle.machine_value.specs.declared.value.Value.{Value as Datum}
 use Rattle.machine_value.specs.declared.value.Value.TheVariants as value
 use Rattle.machine_value.specs.Members.{no_value, labelled}
@@ -25,23 +25,23 @@ use Rattle.codegen_core.specs.declared.default_expression.DefaultExpression.TheV
 use Rattle.codegen_core.specs.declared.field.Field.{Field}
 use Rattle.codegen_core.specs.declared.trait_impl.TraitImpl.{TraitImpl}
 use Rattle.meaning_core.specs.Decl.{BodyDecl, Decl, FieldDecl, Shape, Single, Many, Flat, Fallback, Default, ByType, ByCall, fallback}
-use Rattle.machine_execute.specs.Setting.{Setting}
-use Rattle.machine_execute.specs.Convert.{Earlier, none}
+use Rattle.machine_steps.specs.Setting.{Setting}
+use Rattle.machine_steps.specs.Convert.{Earlier, none}
 use Rattle.meaning_core.specs.Owners.{each, field_at, own}
 use Rattle.meaning_core.specs.EntryFaults.{read, value_list, values}
-use Rattle.machine_execute.specs.Reading.{transformed}
+use Rattle.machine_steps.specs.Reading.{transformed}
 use Rattle.meaning_core.specs.FieldValue.{absent_value, empty_value, fallback_outcome, field_value, flat_faults, flat_outcome, missing_by, value_of_none}
 use Rattle.meaning_core.specs.Meaning.{default_outcome, in_order, joined, whole_default}
-use Rattle.machine_execute.specs.State.{Slot, One, Several, State, slot_at}
+use Rattle.machine_steps.specs.State.{Slot, One, Several, State, slot_at}
 use Rattle.meaning_core.proofs.Clean.{Clean, IsValue, nil_left, nil_right, not_nil, value_if_none}
-use Rattle.machine_execute.specs.Asked.{Asked}
-use Rattle.machine_execute.specs.Building.{built, built_style}
-use Rattle.machine_execute.specs.Reads.{Before, metas}
-use Rattle.machine_execute.specs.Receivers.{Receiver}
-use Rattle.machine_execute.specs.Progress.{Aside, Progress, Going, Built, Ended, built_or_stuck, on_outcome, outcome}
-use Rattle.machine_execute.specs.Slots.{absent, fallback_value, in_front, init_value, init_values}
-use Rattle.machine_execute.proofs.Building.{plain_built}
-use Rattle.machine_execute.proofs.Statements as statement
+use Rattle.machine_steps.specs.Asked.{Asked}
+use Rattle.machine_steps.specs.Building.{built, built_style}
+use Rattle.machine_steps.specs.Reads.{Before, metas}
+use Rattle.machine_steps.specs.Receivers.{Receiver}
+use Rattle.machine_steps.specs.Progress.{Aside, Progress, Going, Built, Ended, built_or_stuck, on_outcome, outcome, unless_faults}
+use Rattle.machine_steps.specs.Slots.{absent, fallback_value, in_front, init_value, init_values}
+use Rattle.machine_steps.proofs.Building.{plain_built}
+use Rattle.machine_steps.proofs.Statements as statement
 use Rattle.law_machine.specs.Compiles.{IsField, IsDecl, meant_default, meant_fallback}
 use Rattle.law_machine.proofs.Passes.{at_here, flat_added, full_by, full_slot, go, missing_added, missing_full, missing_is, one_more}
 
@@ -55,7 +55,7 @@ module _ (setting : Setting) (before : Before) (receiver : Receiver) (asked : As
   empty_meant t whole None = Value (value.List [])
   empty_meant t whole (Some x) = fallback_outcome setting t whole x
 
-  abbrev init_meant : Datum → Option Fallback → Slot → Option (Outcome Datum)
+  abbrev pub init_meant : Datum → Option Fallback → Slot → Option (Outcome Datum)
   init_meant whole x (One t seen (Some v)) = Some (Value v)
   init_meant whole x (One t seen None) = option_map (fallback_outcome setting t whole) x
   init_meant whole x (Several t []) = Some (empty_meant t whole x)
@@ -92,7 +92,7 @@ module _ (setting : Setting) (before : Before) (receiver : Receiver) (asked : As
   none_is f whole (Some v) e = refl
   none_is f whole None e = absurd (not_nil _ [] e)
 
-  init_is : (f : FieldDecl) (s : Shape) (x : Option Fallback) (whole : Datum) (own_items : List NestedMeta) → fallback body f ≡ x → Clean setting earlier f own_items
+  pub init_is : (f : FieldDecl) (s : Shape) (x : Option Fallback) (whole : Datum) (own_items : List NestedMeta) → fallback body f ≡ x → Clean setting earlier f own_items
       → flat_faults setting earlier body f s all ≡ [] → missing_full setting before receiver asked aside body all kept f s x own_items ≡ []
       → init_meant whole x (full_by setting before receiver asked aside body all kept f s x own_items) ≡ Some (field_value setting earlier body whole all f s own_items)
   init_is f Flat x whole own_items e c a m = value_by_read whole x f.type (flat_outcome setting earlier body f all) (value_if_none (flat_outcome setting earlier body f all) a)
@@ -134,32 +134,50 @@ module _ (setting : Setting) (before : Before) (receiver : Receiver) (asked : As
   abbrev value_here : Datum → FieldDecl → List NestedMeta → Outcome Datum
   value_here whole f own_items = field_value setting earlier body whole all f f.shape own_items
 
-  abbrev one_init : ℕ → Field → List Init
+  abbrev pub one_init : ℕ → Field → List Init
   one_init slot left = init slot left ∷ []
 
   in_front_is : (o : Outcome Datum) (others : Outcome (List Datum)) → in_front setting (Some o) (Some others) ≡ Some (bind o (λ v. on_value (λ vs. v ∷ vs) others))
   in_front_is (Value v) others = refl
   in_front_is (Faults f fs) others = refl
 
-  values_are : (whole : Datum) (lefts : List Field) (fs : List FieldDecl) (own_items : ℕ → List NestedMeta) (done : List Slot) → AllZip (IsField body) lefts fs → AreGood fs own_items
-      → init_values setting whole (done ++ each full fs own_items) (at_slots one_init (length done) lefts) ≡ Some (in_order (each (value_here whole) fs own_items))
-  values_are whole [] [] own_items done zip good = refl
-  values_are whole [] (f ∷ fs) own_items done zip good = absurd zip
-  values_are whole (left ∷ lefts) [] own_items done zip good = absurd zip
-  values_are whole (left ∷ lefts) (f ∷ fs) own_items done zip good =
+  -- the slot of each field has this value
+  abbrev pub AreInits : (FieldDecl → List NestedMeta → Slot) → (FieldDecl → List NestedMeta → Outcome Datum) → Datum → List FieldDecl → (ℕ → List NestedMeta) → Type 0
+  AreInits slot value whole [] own_items = Unit {0}
+  AreInits slot value whole (f ∷ fs) own_items =
+      (init_meant whole (fallback body f) (slot f (own_items zero)) ≡ Some (value f (own_items zero))) × AreInits slot value whole fs (λ k. own_items (suc k))
+
+  pub values_of : (slot : FieldDecl → List NestedMeta → Slot) (value : FieldDecl → List NestedMeta → Outcome Datum) (whole : Datum) (lefts : List Field) (fs : List FieldDecl) (own_items : ℕ → List NestedMeta) (done : List Slot)
+      → AllZip (IsField body) lefts fs → AreInits slot value whole fs own_items
+      → init_values setting whole (done ++ each slot fs own_items) (at_slots one_init (length done) lefts) ≡ Some (in_order (each value fs own_items))
+  values_of slot value whole [] [] own_items done zip good = refl
+  values_of slot value whole [] (f ∷ fs) own_items done zip good = absurd zip
+  values_of slot value whole (left ∷ lefts) [] own_items done zip good = absurd zip
+  values_of slot value whole (left ∷ lefts) (f ∷ fs) own_items done zip good =
       let later : ℕ → List NestedMeta = λ k. own_items (suc k) in
-      let x = full f (own_items zero) in
-      let first : init_value setting whole (fallback_of left) (slot_at (done ++ x ∷ each full fs later) (length done)) ≡ Some (value_here whole f (own_items zero)) =
-      ap (init_value setting whole (fallback_of left)) (at_here done (each full fs later) x)
+      let x = slot f (own_items zero) in
+      let first : init_value setting whole (fallback_of left) (slot_at (done ++ x ∷ each slot fs later) (length done)) ≡ Some (value f (own_items zero)) =
+      ap (init_value setting whole (fallback_of left)) (at_here done (each slot fs later) x)
       ∙ meant_is whole (fallback_of left) x
       ∙ ap (λ y. init_meant whole y x) zip.0.fallback
-      ∙ init_is f f.shape (fallback body f) whole (own_items zero) refl good.0.0 good.0.1 (missing_is setting before receiver asked aside body all kept f f.shape (own_items zero) ∙ good.0.2) in
-      let more : init_values setting whole (done ++ x ∷ each full fs later) (at_slots one_init (length done + 1) lefts) ≡ Some (in_order (each (value_here whole) fs later)) =
-      ap₂ (λ xs k. init_values setting whole xs (at_slots one_init k lefts)) (sym (append_assoc done (x ∷ []) (each full fs later))) (one_more done x)
-      ∙ values_are whole lefts fs later (done ++ x ∷ []) zip.1 good.1 in
-      ap₂ (in_front setting) first more ∙ in_front_is (value_here whole f (own_items zero)) (in_order (each (value_here whole) fs later))
+      ∙ good.0 in
+      let more : init_values setting whole (done ++ x ∷ each slot fs later) (at_slots one_init (length done + 1) lefts) ≡ Some (in_order (each value fs later)) =
+      ap₂ (λ xs k. init_values setting whole xs (at_slots one_init k lefts)) (sym (append_assoc done (x ∷ []) (each slot fs later))) (one_more done x)
+      ∙ values_of slot value whole lefts fs later (done ++ x ∷ []) zip.1 good.1 in
+      ap₂ (in_front setting) first more ∙ in_front_is (value f (own_items zero)) (in_order (each value fs later))
 
-  members_are : (lefts : List Field) (fs : List FieldDecl) (k : ℕ) → AllZip (IsField body) lefts fs → map (λ it. it.member) (at_slots one_init k lefts) ≡ map (λ f. f.member) fs
+  inits_are : (whole : Datum) (fs : List FieldDecl) (own_items : ℕ → List NestedMeta) → AreGood fs own_items → AreInits full (value_here whole) whole fs own_items
+  inits_are whole [] own_items good = tt
+  inits_are whole (f ∷ fs) own_items good = (
+    init_is f f.shape (fallback body f) whole (own_items zero) refl good.0.0 good.0.1 (missing_is setting before receiver asked aside body all kept f f.shape (own_items zero) ∙ good.0.2),
+    inits_are whole fs (λ k. own_items (suc k)) good.1,
+  )
+
+  values_are : (whole : Datum) (lefts : List Field) (fs : List FieldDecl) (own_items : ℕ → List NestedMeta) (done : List Slot) → AllZip (IsField body) lefts fs → AreGood fs own_items
+      → init_values setting whole (done ++ each full fs own_items) (at_slots one_init (length done) lefts) ≡ Some (in_order (each (value_here whole) fs own_items))
+  values_are whole lefts fs own_items done zip good = values_of full (value_here whole) whole lefts fs own_items done zip (inits_are whole fs own_items good)
+
+  pub members_are : (lefts : List Field) (fs : List FieldDecl) (k : ℕ) → AllZip (IsField body) lefts fs → map (λ it. it.member) (at_slots one_init k lefts) ≡ map (λ f. f.member) fs
   members_are [] [] k zip = refl
   members_are [] (f ∷ fs) k zip = absurd zip
   members_are (left ∷ lefts) [] k zip = absurd zip
@@ -172,6 +190,14 @@ module _ (setting : Setting) (before : Before) (receiver : Receiver) (asked : As
   full_state whole faults = record { slots = each full body.fields mine; faults = faults; kept = kept; whole = whole }
 
 -- ---- the statements behind the errors
+
+module _ (setting : Setting) (before : Before) (receiver : Receiver) (asked : Asked) (aside : Aside) (body : BodyDecl) where
+  -- the faults end it, and without any it goes on
+  pub stop_settle : (faults : List Fault) (s : State) (ending : List Stmt) (o : Outcome Datum) → ((f : Fault) (fs : List Fault) → go setting before receiver asked aside body ending (Ended f fs) ≡ Ended f fs)
+      → (faults ≡ [] → outcome (go setting before receiver asked aside body ending (Going s aside)) ≡ Some o)
+      → outcome (go setting before receiver asked aside body ending (unless_faults faults s aside)) ≡ Some (settle faults o)
+  stop_settle [] s ending o stays goes = goes refl
+  stop_settle (f ∷ fs) s ending o stays goes = ap outcome (stays f fs)
 
 module _ (setting : Setting) (before : Before) (receiver : Receiver) (asked : Asked) (aside : Aside) (decl : Decl) (all kept : List NestedMeta) where
   abbrev earlier_metas : Earlier

@@ -2,6 +2,10 @@ pub mod Arms
 pub mod Passes
 pub mod Building
 pub mod Units
+pub mod Slots
+pub mod Variants
+pub mod Enums
+pub mod Cells
 pub mod Programs
 pub mod Left
 pub mod Runs

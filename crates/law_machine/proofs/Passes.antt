@@ -1,5 +1,5 @@
 -- A pass of statements over the fields changes each field's slot and adds faults.
-use Rattle.std.proofs.Common.{◌≡◌, ℕ, ◌+◌, zero, suc, Bool, true, false, List, [], ◌∷◌, ◌++◌, length, Option, Some, None, option_map, refl, ap, ap₂, ◌∙◌, sym, arith, append_assoc, append-nil, set, length-append, if◌then◌else◌}
+use Rattle.std.proofs.Common.{◌≡◌, ℕ, ◌+◌, zero, suc, Bool, true, false, List, [], ◌∷◌, ◌++◌, length, Option, Some, None, option_map, refl, ap, ap₂, ◌∙◌, sym, arith, append_assoc, append-nil, set, length-append, true≢false, if◌then◌else◌}
 use Rattle.std.specs.List.{AllZip}
 use Rattle.base_core.specs.declared.text.Text.{Text}
 use Rattle.tok_types.specs.declared.ident.Ident.{Ident}
@@ -15,24 +15,28 @@ use Rattle.codegen_core.specs.Defaults.{fallback as left_fallback}
 use Rattle.codegen_core.specs.Fields.{at_slots, declaration, flatten, check, check_without}
 use Rattle.codegen_core.specs.declared.default_expression.DefaultExpression.{DefaultExpression}
 use Rattle.codegen_core.specs.declared.field.Field.{Field}
-use Rattle.meaning_core.specs.Decl.{BodyDecl, FieldDecl, Shape, Single, Many, Flat, Fallback, fallback, is_flat, is_many, names}
-use Rattle.machine_execute.specs.Setting.{Setting}
-use Rattle.machine_execute.specs.Convert.{Earlier, none}
+use Rattle.meaning_core.specs.Decl.{BodyDecl, FieldDecl, Shape, Single, Many, Flat, Fallback, fallback, has_flat, is_flat, is_many, names}
+use Rattle.machine_steps.specs.Setting.{Setting}
+use Rattle.machine_steps.specs.Convert.{Earlier, none}
 use Rattle.meaning_core.specs.Owners.{unclaimed, each}
 use Rattle.meaning_core.specs.EntryFaults.{read}
 use Rattle.meaning_core.specs.FieldValue.{flat_outcome, flat_faults, missing, missing_by}
 use Rattle.meaning_core.specs.Meaning.{joined}
-use Rattle.machine_execute.specs.State.{Slot, One, Several, State, put, slot_at}
-use Rattle.meaning_core.specs.Walk.{slot_by, field_slot}
-use Rattle.machine_execute.specs.Asked.{Asked}
-use Rattle.machine_execute.specs.Progress.{Aside, Progress, Going}
-use Rattle.machine_execute.specs.Reads.{Before, metas}
-use Rattle.machine_execute.specs.Receivers.{Receiver}
-use Rattle.machine_execute.specs.Slots.{absent, check_missing, read_flat, read_slot}
-use Rattle.machine_execute.specs.Statements.{run_from}
-use Rattle.machine_execute.proofs.Slots.{declared_next}
-use Rattle.machine_execute.proofs.Statements as statement
+use Rattle.machine_steps.specs.State.{Slot, One, Several, State, put, slot_at}
+use Rattle.meaning_core.specs.Walk.{slot_by, field_slot, kept_by}
+use Rattle.machine_steps.specs.Asked.{Asked}
+use Rattle.machine_steps.specs.Progress.{Aside, Progress, Going}
+use Rattle.machine_steps.specs.Reads.{Before, metas}
+use Rattle.machine_steps.specs.Receivers.{Receiver}
+use Rattle.machine_steps.specs.Slots.{absent, check_missing, read_flat, read_slot}
+use Rattle.machine_steps.specs.Statements.{run_from}
+use Rattle.machine_steps.proofs.Slots.{declared_next}
+use Rattle.machine_steps.proofs.Statements as statement
 use Rattle.law_machine.specs.Compiles.{IsField, meant_fallback}
+
+or_false : (b c : Bool) → (if b then true else c) ≡ false → (b ≡ false) × (c ≡ false)
+or_false true c e = absurd (true≢false e)
+or_false false c e = (refl, e)
 
 -- the slot behind those that are done
 pub at_here : (done todo : List Slot) (x : Slot) → slot_at (done ++ x ∷ todo) (length done) ≡ x
@@ -110,12 +114,12 @@ module _ (setting : Setting) (before : Before) (receiver : Receiver) (asked : As
     AreKept (f ∷ fs) = IsKept f × AreKept fs
 
     -- the statements of a field change its slot and add faults
-    abbrev Passes : (ℕ → Field → List Stmt) → (a b : FieldDecl → List NestedMeta → Slot) → (FieldDecl → List NestedMeta → List Fault) → Type 0
+    abbrev pub Passes : (ℕ → Field → List Stmt) → (a b : FieldDecl → List NestedMeta → Slot) → (FieldDecl → List NestedMeta → List Fault) → Type 0
     Passes give a b c =
         (left : Field) (f : FieldDecl) (own_items : List NestedMeta) (done todo : List Slot) (faults : List Fault) → IsField body left f → IsKept f
         → go (give (length done) left) (at_slots_with (done ++ a f own_items ∷ todo) faults) ≡ at_slots_with (done ++ b f own_items ∷ todo) (faults ++ c f own_items)
 
-    run_pass : (give : ℕ → Field → List Stmt) (a b : FieldDecl → List NestedMeta → Slot) (c : FieldDecl → List NestedMeta → List Fault) → Passes give a b c
+    pub run_pass : (give : ℕ → Field → List Stmt) (a b : FieldDecl → List NestedMeta → Slot) (c : FieldDecl → List NestedMeta → List Fault) → Passes give a b c
         → (lefts : List Field) (fs : List FieldDecl) (own_items : ℕ → List NestedMeta) (done : List Slot) (faults : List Fault) → AllZip (IsField body) lefts fs → AreKept fs
         → go (at_slots give (length done) lefts) (at_slots_with (done ++ each a fs own_items) faults) ≡ at_slots_with (done ++ each b fs own_items) (faults ++ joined (each c fs own_items))
     run_pass give a b c passes [] [] own_items done faults zip are = ap (λ x. at_slots_with (done ++ []) x) (sym (append-nil faults))
@@ -138,7 +142,7 @@ module _ (setting : Setting) (before : Before) (receiver : Receiver) (asked : As
 
     -- ---- the flattened fields
 
-    abbrev flat_by : FieldDecl → Shape → List NestedMeta → Slot
+    abbrev pub flat_by : FieldDecl → Shape → List NestedMeta → Slot
     flat_by f Flat own_items = One f.type true (value_of (flat_outcome setting earlier body f all))
     flat_by f Single own_items = slot_by setting earlier f Single own_items
     flat_by f Many own_items = slot_by setting earlier f Many own_items
@@ -192,7 +196,7 @@ module _ (setting : Setting) (before : Before) (receiver : Receiver) (asked : As
     missing_full f Many x own_items = []
     missing_full f Flat x own_items = []
 
-    abbrev check_meant : Bool → Option Fallback → ℕ → Type' → Text → List Stmt
+    abbrev pub check_meant : Bool → Option Fallback → ℕ → Type' → Text → List Stmt
     check_meant true x k t name = []
     check_meant false None k t name = stmt.CheckMissing k t name ∷ []
     check_meant false (Some x) k t name = []
@@ -215,7 +219,7 @@ module _ (setting : Setting) (before : Before) (receiver : Receiver) (asked : As
         ∙ ap (λ q. Going (put (length done) q (state (done ++ x ∷ todo) faults)) aside) (ap (check_missing setting earlier t name) (at_here done todo x) ∙ e)
         ∙ ap (λ xs. at_slots_with xs (faults ++ [])) (put_here done todo x x)
 
-    check_step : (s : Shape) (x : Option Fallback) (f : FieldDecl) (own_items : List NestedMeta) (done todo : List Slot) (faults : List Fault)
+    pub check_step : (s : Shape) (x : Option Fallback) (f : FieldDecl) (own_items : List NestedMeta) (done todo : List Slot) (faults : List Fault)
         → go (check_meant (is_many s) x (length done) f.type f.name) (at_slots_with (done ++ flat_by f s own_items ∷ todo) faults) ≡ at_slots_with (done ++ full_by f s x own_items ∷ todo) (faults ++ missing_full f s x own_items)
     check_step Single None f [] done todo faults =
         let x : Slot = One f.type false None in
@@ -242,15 +246,34 @@ module _ (setting : Setting) (before : Before) (receiver : Receiver) (asked : As
     abbrev pub missing_added : FieldDecl → List NestedMeta → List Fault
     missing_added f own_items = missing setting earlier body f f.shape own_items
 
+    pub check_of : (left : Field) (f : FieldDecl) (k : ℕ) → IsField body left f → check k left ≡ check_meant (is_many f.shape) (fallback body f) k f.type f.name
+    check_of left f k is =
+        check_is left.multiple left.default_expression k left
+        ∙ ap₂ (λ m x. check_meant m x k left.ty.now left.name_in_attr.now) is.many is.fallback
+        ∙ ap₂ (check_meant (is_many f.shape) (fallback body f) k) is.type is.name
+
     check_field : Passes check flat_slot full_slot missing_added
     check_field left f is done todo faults isf kept_is =
         let p = at_slots_with (done ++ flat_slot f is ∷ todo) faults in
-        ap (λ ss. go ss p) (check_is left.multiple left.default_expression (length done) left)
-        ∙ ap₂ (λ m x. go (check_meant m x (length done) left.ty.now left.name_in_attr.now) p) isf.many isf.fallback
-        ∙ ap₂ (λ t n. go (check_meant (is_many f.shape) (fallback body f) (length done) t n) p) isf.type isf.name
+        ap (λ ss. go ss p) (check_of left f (length done) isf)
         ∙ check_step f.shape (fallback body f) f is done todo faults
         ∙ ap (λ x. at_slots_with (done ++ full_slot f is ∷ todo) (faults ++ x)) (missing_is f f.shape is)
 
     pub run_checks : (lefts : List Field) (fs : List FieldDecl) (own_items : ℕ → List NestedMeta) (faults : List Fault) → AllZip (IsField body) lefts fs → AreKept fs
         → go (at_slots check zero lefts) (at_slots_with (each flat_slot fs own_items) faults) ≡ at_slots_with (each full_slot fs own_items) (faults ++ joined (each missing_added fs own_items))
     run_checks lefts fs own_items faults zip are = run_pass check flat_slot full_slot missing_added check_field lefts fs own_items [] faults zip are
+
+  -- ---- what is kept
+
+  are_all : (all : List NestedMeta) (fs : List FieldDecl) → AreKept all (unclaimed body.fields all) fs
+  are_all all [] = tt
+  are_all all (f ∷ fs) = (λ q. refl, are_all all fs)
+
+  pub are_kept : (all : List NestedMeta) (fs : List FieldDecl) (b : Bool) → has_flat fs ≡ b → AreKept all (kept_by setting earlier body b all) fs
+  are_kept all [] b e = tt
+  are_kept all (f ∷ fs) true e = (λ q. refl, are_all all fs)
+  are_kept all (f ∷ fs) false e = let p = or_false (is_flat f.shape) (has_flat fs) e in (λ q. absurd (true≢false (sym q ∙ p.0)), are_kept all fs false p.1)
+
+  pub nothing_kept : (b : Bool) → [] ≡ kept_by setting earlier body b []
+  nothing_kept true = refl
+  nothing_kept false = refl

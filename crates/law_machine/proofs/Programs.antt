@@ -1,47 +1,40 @@
 -- The units of a program read what their declarations mean.
 use Rattle.std.proofs.Common.{◌≡◌, ℕ, zero, suc, ◌==◌, Bool, true, false, List, cond, Option, Some, None, refl, ap, ◌∙◌, sym}
 use mathlib.Core.Path.{fun_ext}
-use Rattle.meta_nested.specs.Cells.{Cells, no_cells}
-use Rattle.meta_nested.specs.declared.nested.NestedMeta.{NestedMeta}
 use Rattle.meta_entries.specs.Entries.{named_entries}
 use Rattle.meta_entries.specs.declared.entry.Entry.{Entry}
-use Rattle.error_fault.specs.Outcome.{Outcome}
-use Rattle.machine_value.specs.declared.value.Value.{Value as Datum}
 use Rattle.codegen_program.specs.declared.program.Derive.TheVariants as derives
 use Rattle.codegen_program.specs.declared.program.«Unit».{«Unit» as Unit'}
-use Rattle.codegen_core.specs.Compiled.{compiled_derive_input, compiled_list}
-use Rattle.machine_execute.specs.Asked.{OnElement}
+use Rattle.codegen_core.specs.Compiled.{compiled_derive_input}
+use Rattle.machine_steps.specs.Asked.{OnElement}
 use Rattle.machine_execute.specs.Elements.{OnInput}
-use Rattle.machine_execute.specs.Machine.{cells_by, earlier_units, is_from_derive_input, or_unread, run_func, setting_of, unit_cells, unit_reads, unit_under, unit_type}
-use Rattle.machine_execute.specs.Reads.{Before, metas}
-use Rattle.machine_execute.specs.Receivers.{declared_style, receiver_of}
-use Rattle.machine_execute.specs.Setting.{Setting}
-use Rattle.meaning_core.specs.Decl.{Decl}
-use Rattle.meaning_core.specs.Declarations.{earlier_decls, meta_cells, meta_decl}
+use Rattle.machine_execute.specs.Machine.{cells_by, earlier_units, is_from_derive_input, run_func, setting_of, unit_reads, unit_under, unit_type}
+use Rattle.machine_steps.specs.Reads.{Before, metas}
+use Rattle.machine_steps.specs.Receivers.{declared_style, receiver_of}
+use Rattle.machine_steps.specs.Setting.{Setting}
+use Rattle.meaning_core.specs.Declarations.{declared_cells, earlier_decls, meta_decl}
 use Rattle.meaning_core.specs.Meaning.{struct_meaning}
+use Rattle.meaning_core.specs.Receivers.{MetaDecl}
 use Rattle.law_machine.specs.Claims.{ProgramIsMeaning}
 use Rattle.law_machine.specs.Compiles.{AreMetaUnits, IsMetaUnit}
-use Rattle.law_machine.proofs.Units.{input_is_meaning, list_is_meaning}
+use Rattle.law_machine.proofs.Cells.{cells_are_meant}
+use Rattle.law_machine.proofs.Units.{input_is_meaning}
 
 module _ (setting : Setting) where
-  cells_are : (before : Before) (unit : Option Unit') (decl : Option Decl) → IsMetaUnit unit decl → cells_by setting before unit ≡ meta_cells setting (metas before) decl
+  cells_are : (before : Before) (unit : Option Unit') (decl : Option MetaDecl) → IsMetaUnit setting.decls unit decl → cells_by setting before unit ≡ declared_cells setting (metas before) decl
   cells_are before None None same = refl
   cells_are before None (Some decl) same = absurd same
   cells_are before (Some unit) None same = absurd same
-  cells_are before (Some unit) (Some decl) (left, compiled, left_is, type_is) =
-      let lists : (List NestedMeta → Outcome Datum) → Cells Datum = λ read. record no_cells { list = λ items. Some (read items) } in
-      let receiver = receiver_of setting (compiled_list left unit.decl) in
-      ap (unit_cells setting before) compiled
-      ∙ ap lists (fun_ext (λ items. ap or_unread (list_is_meaning setting before receiver left.base decl items left_is (sym (ap unit_type compiled) ∙ type_is))))
+  cells_are before (Some unit) (Some decl) same = cells_are_meant setting before unit decl same
 
-  module _ (units : List Unit') (decls : List Decl) (are : AreMetaUnits units decls) where
+  module _ (units : List Unit') (decls : List MetaDecl) (are : AreMetaUnits setting.decls units decls) where
     -- the number at the bound, or one below it
     chosen : (test : Bool) (bound number : ℕ) → metas (earlier_units setting units bound) ≡ earlier_decls setting decls bound
         → (cond test (unit_reads setting units (earlier_units setting units bound) bound) (earlier_units setting units bound number)).cells
-        ≡ cond test (meta_cells setting (earlier_decls setting decls bound) (meta_decl decls bound)) (earlier_decls setting decls bound number)
+        ≡ cond test (declared_cells setting (earlier_decls setting decls bound) (meta_decl decls bound)) (earlier_decls setting decls bound number)
     chosen true bound number same =
         cells_are (earlier_units setting units bound) (unit_under units bound derives.FromMeta) (meta_decl decls bound) (are bound)
-        ∙ ap (λ earlier. meta_cells setting earlier (meta_decl decls bound)) same
+        ∙ ap (λ earlier. declared_cells setting earlier (meta_decl decls bound)) same
     chosen false bound number same = ap (λ earlier. earlier number) same
 
     pub earlier_is : (bound : ℕ) → metas (earlier_units setting units bound) ≡ earlier_decls setting decls bound

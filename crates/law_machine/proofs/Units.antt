@@ -1,5 +1,5 @@
 -- The outcome of a unit is what its declaration means.
-use Rattle.std.proofs.Common.{◌≡◌, zero, Bool, true, false, List, [], ◌∷◌, ◌++◌, map, fold, Some, None, refl, ap, ap₂, ◌∙◌, sym, append_assoc, append-nil, true≢false, if◌then◌else◌}
+use Rattle.std.proofs.Common.{◌≡◌, zero, Bool, true, false, List, [], ◌∷◌, ◌++◌, map, fold, Some, None, refl, ap, ap₂, ◌∙◌, sym, append_assoc, append-nil, if◌then◌else◌}
 use Rattle.std.proofs.lemmas.List.Sums.{fold-append}
 use Rattle.base_core.specs.declared.text.Text.{Text}
 use Rattle.node_make.specs.PathText.{path_text}
@@ -26,41 +26,37 @@ use Rattle.codegen_core.specs.Compiled.{closing, default_of, fields_of, for_item
 use Rattle.codegen_core.specs.declared.from_derive_impl.FromDeriveInputImpl.{FromDeriveInputImpl}
 use Rattle.codegen_core.specs.Fields.{at_slots, checks, declarations, flatten, flattens}
 use Rattle.codegen_core.specs.declared.trait_impl.TraitImpl.{TraitImpl}
-use Rattle.meaning_core.specs.Decl.{Decl, FieldDecl, has_flat, is_flat}
-use Rattle.machine_execute.specs.Setting.{Setting}
-use Rattle.machine_execute.specs.Convert.{Earlier}
+use Rattle.meaning_core.specs.Decl.{Decl, has_flat}
+use Rattle.machine_steps.specs.Setting.{Setting}
+use Rattle.machine_steps.specs.Convert.{Earlier}
 use Rattle.meta_entries.specs.Attributes.{attribute_items, is_named}
 use Rattle.meta_entries.specs.Entries.{items, list_entries, named_entries}
 use Rattle.meta_entries.specs.declared.entry.Entry.{Entry}
 use Rattle.meta_entries.specs.declared.entry.Entry.TheVariants as entry
 use Rattle.meta_entries.proofs.ItemLemmas.{entries-unnamed}
-use Rattle.meaning_core.specs.Owners.{each, own, unclaimed}
+use Rattle.meaning_core.specs.Owners.{each, own}
 use Rattle.meaning_core.specs.EntryFaults.{all_entry_faults}
-use Rattle.machine_execute.specs.Reading.{transformed}
+use Rattle.machine_steps.specs.Reading.{transformed}
 use Rattle.meaning_core.specs.Meaning.{collected_with, field_values, joined, whole_default}
-use Rattle.machine_execute.specs.State.{Slot, State, step, with_faults}
+use Rattle.machine_steps.specs.State.{Slot, State, with_faults}
 use Rattle.meaning_core.specs.EntrySteps.{arms, entry_step, rest}
 use Rattle.meaning_core.specs.Walk.{field_slot, kept_by, state_behind}
 use Rattle.meaning_core.proofs.Clean.{clean_all, nil_left, nil_right}
 use Rattle.meaning_core.proofs.Filters.{walk}
-use Rattle.machine_execute.specs.Asked.{Asked, Items, OnElement, attributes_asked, items_asked}
-use Rattle.machine_execute.specs.Building.{built_style}
+use Rattle.machine_steps.specs.Asked.{Asked, Items, OnElement, attributes_asked, items_asked}
+use Rattle.machine_steps.specs.Building.{built_style}
 use Rattle.machine_execute.specs.Elements.{OnInput}
-use Rattle.machine_execute.specs.Progress.{Aside, Progress, Going, Ended, no_aside, outcome, unless_faults}
-use Rattle.machine_execute.specs.Reads.{Before, metas}
-use Rattle.machine_execute.specs.Receivers.{Receiver, declared_style}
-use Rattle.machine_execute.specs.Statements.{all_do, does, run, run_from}
-use Rattle.machine_execute.specs.Attributes.{on_attribute, on_items, on_meta}
-use Rattle.machine_execute.proofs.Statements as statement
+use Rattle.machine_steps.specs.Progress.{Aside, Progress, Going, no_aside, outcome, unless_faults}
+use Rattle.machine_steps.specs.Reads.{Before, metas}
+use Rattle.machine_steps.specs.Receivers.{Receiver, declared_style}
+use Rattle.machine_steps.specs.Statements.{all_do, does, run, run_from}
+use Rattle.machine_steps.specs.Attributes.{on_attribute, on_items, on_meta}
+use Rattle.machine_steps.proofs.Statements as statement
 use Rattle.law_machine.specs.Claims.{InputIsMeaning, ListIsMeaning}
 use Rattle.law_machine.specs.Compiles.{IsDecl, IsInputDecl}
-use Rattle.law_machine.proofs.Arms.{for_items_is, names_are}
-use Rattle.law_machine.proofs.Building.{AreGood, are_good, behind_default, ended_default, full_state, last, made}
-use Rattle.law_machine.proofs.Passes.{AreKept, at_slots_with, flat_added, flat_slot, full_slot, missing_added, run_checks, run_declarations, run_flattens, with_slots_kept}
-
-or_false : (b c : Bool) → (if b then true else c) ≡ false → (b ≡ false) × (c ≡ false)
-or_false true c e = absurd (true≢false e)
-or_false false c e = (refl, e)
+use Rattle.law_machine.proofs.Arms.{for_items_is, items_fold, names_are}
+use Rattle.law_machine.proofs.Building.{AreGood, are_good, behind_default, ended_default, full_state, last, made, stop_settle}
+use Rattle.law_machine.proofs.Passes.{are_kept, at_slots_with, flat_added, flat_slot, full_slot, missing_added, nothing_kept, run_checks, run_declarations, run_flattens, with_slots_kept}
 
 -- what entries mean, at a type and as a struct that is written in some style
 abbrev written_meaning : Setting → Earlier → Decl → Type' → Style → List Entry → Outcome Datum
@@ -76,10 +72,6 @@ module _ (setting : Setting) (before : Before) (receiver : Receiver) (aside : As
 
   -- ---- items and attributes are entries
 
-  items_fold : (s : State) (is : List NestedMeta) → fold (step setting earlier (arms decl.body) (rest decl.body)) s is ≡ fold (entry_step setting earlier decl.body) s (map entry.Item is)
-  items_fold s [] = refl
-  items_fold s (i ∷ is) = items_fold (step setting earlier (arms decl.body) (rest decl.body) s i) is
-
   faults_fold : (s : State) (fs : List Fault) → fold (entry_step setting earlier decl.body) s (map entry.Fault fs) ≡ with_faults fs s
   faults_fold s [] = ap (λ x. let t : State = record s { faults = x } in t) (sym (append-nil s.faults))
   faults_fold s (f ∷ fs) = faults_fold (with_faults (f ∷ []) s) fs ∙ ap (λ x. let t : State = record s { faults = x } in t) (append_assoc s.faults (f ∷ []) fs)
@@ -92,7 +84,7 @@ module _ (setting : Setting) (before : Before) (receiver : Receiver) (aside : As
     for_items_fold s asked =
         ap (λ it. does setting before receiver it asked (Going s aside)) (for_items_is left decl is_decl)
         ∙ statement.for_items setting before receiver (arms decl.body) (rest decl.body) asked (Going s aside)
-        ∙ ap (λ s. Going s aside) (items_fold s (items_asked asked))
+        ∙ ap (λ s. Going s aside) (items_fold setting earlier decl.body s (items_asked asked))
 
     on_items_fold : (s : State) (o : Outcome (List NestedMeta)) → on_items inner o (Going s aside) ≡ Going (fold (entry_step setting earlier decl.body) s (list_entries o)) aside
     on_items_fold s (Value is) = for_items_fold s (Items is)
@@ -129,26 +121,11 @@ module _ (setting : Setting) (before : Before) (receiver : Receiver) (aside : As
       abbrev kept : List NestedMeta
       kept = kept_by setting earlier decl.body (has_flat decl.body.fields) is
 
-      are_all : (fs : List FieldDecl) (xs : List NestedMeta) → AreKept setting before receiver asked aside decl.body is (unclaimed decl.body.fields is) fs
-      are_all [] xs = tt
-      are_all (f ∷ fs) xs = (λ q. refl, are_all fs xs)
-
-      are_kept : (fs : List FieldDecl) (b : Bool) → has_flat fs ≡ b → AreKept setting before receiver asked aside decl.body is (kept_by setting earlier decl.body b is) fs
-      are_kept [] b e = tt
-      are_kept (f ∷ fs) true e = (λ q. refl, are_all fs is)
-      are_kept (f ∷ fs) false e = let p = or_false (is_flat f.shape) (has_flat fs) e in (λ q. absurd (true≢false (sym q ∙ p.0)), are_kept fs false p.1)
-
-      stop_settle : (faults : List Fault) (s : State) (ending : List Stmt) (o : Outcome Datum) → ((f : Fault) (fs : List Fault) → run_from setting before receiver ending asked (Ended f fs) ≡ Ended f fs)
-          → (faults ≡ [] → outcome (run_from setting before receiver ending asked (Going s aside)) ≡ Some o)
-          → outcome (run_from setting before receiver ending asked (unless_faults faults s aside)) ≡ Some (settle faults o)
-      stop_settle [] s ending o stays goes = goes refl
-      stop_settle (f ∷ fs) s ending o stays goes = ap outcome (stays f fs)
-
       close : outcome (run_from setting before receiver (closing false left) asked (Going (state_behind setting earlier decl.body is (all_entry_faults setting earlier decl.body [] es)) aside)) ≡ Some (written_meaning setting earlier decl receiver.type (built_style receiver asked) es)
       close =
           let lefts = fields_of left in
           let mine = own decl.body.fields is in
-          let are = are_kept decl.body.fields (has_flat decl.body.fields) refl in
+          let are = are_kept setting before receiver asked aside decl.body is decl.body.fields (has_flat decl.body.fields) refl in
           let f1 = all_entry_faults setting earlier decl.body [] es in
           let f2 = joined (each (flat_added setting before receiver asked aside decl.body is kept) decl.body.fields mine) in
           let f3 = joined (each (missing_added setting before receiver asked aside decl.body is kept) decl.body.fields mine) in
@@ -172,30 +149,25 @@ module _ (setting : Setting) (before : Before) (receiver : Receiver) (aside : As
           ∙ ap (run_from setting before receiver behind_checks asked) second
           ∙ ap (run_from setting before receiver ending asked) (statement.check_errors setting before receiver None asked (slots (each (full_slot setting before receiver asked aside decl.body is kept) decl.body.fields mine) ((f1 ++ f2) ++ f3)))
           ∙ ap (λ fs. run_from setting before receiver ending asked (unless_faults fs (state fs) aside)) (append_assoc f1 f2 f3))
-          ∙ stop_settle (f1 ++ (f2 ++ f3)) (state (f1 ++ (f2 ++ f3))) ending
+          ∙ stop_settle setting before receiver asked aside decl.body (f1 ++ (f2 ++ f3)) (state (f1 ++ (f2 ++ f3))) ending
           (transformed setting earlier decl.transform receiver.type (bind (whole_default setting receiver.type decl.body.default) (made setting before receiver asked aside decl is kept)))
           (ended_default setting before receiver asked aside decl is kept left is_decl (default_of false left))
           (λ e. behind_default setting before receiver asked aside decl is kept left is_decl left.default decl.body.default (f1 ++ (f2 ++ f3)) is_decl.default (facts e))
-
-      nothing_kept : (b : Bool) → [] ≡ kept_by setting earlier decl.body b []
-      nothing_kept true = refl
-      nothing_kept false = refl
 
       -- behind the declarations nothing is read yet
       declared : run_from setting before receiver (declarations (fields_of left)) asked (with_slots_kept setting before receiver asked aside decl.body [] [] []) ≡ Going (state_behind setting earlier decl.body [] []) aside
       declared =
           run_declarations setting before receiver asked aside decl.body (fields_of left) decl.body.fields [] is_decl.fields
-          ∙ ap (λ xs. with_slots_kept setting before receiver asked aside decl.body xs (each (field_slot setting earlier) decl.body.fields (λ j. [])) []) (nothing_kept (has_flat decl.body.fields))
+          ∙ ap (λ xs. with_slots_kept setting before receiver asked aside decl.body xs (each (field_slot setting earlier) decl.body.fields (λ j. [])) []) (nothing_kept setting before receiver asked aside decl.body (has_flat decl.body.fields))
 
       walked : Going (fold (entry_step setting earlier decl.body) (state_behind setting earlier decl.body [] []) es) aside ≡ Going (state_behind setting earlier decl.body is (all_entry_faults setting earlier decl.body [] es)) aside
       walked = ap (λ s. Going s aside) (walk setting earlier decl.body [] [] es)
 
 -- the function that reads a list
-pub list_outcome : (setting : Setting) (before : Before) (receiver : Receiver) (left : TraitImpl) (decl : Decl) (list : List NestedMeta) → IsDecl left decl
-    → outcome (run setting before receiver (list_stmts left) (Items list)) ≡ Some (written_meaning setting (metas before) decl receiver.type style.Struct (map entry.Item list))
-list_outcome setting before receiver left decl list is =
-    let asked = Items list in
-    let es = map entry.Item list in
+pub list_outcome : (setting : Setting) (before : Before) (receiver : Receiver) (left : TraitImpl) (decl : Decl) (asked : Asked) → IsDecl left decl
+    → outcome (run setting before receiver (list_stmts left) asked) ≡ Some (written_meaning setting (metas before) decl receiver.type (built_style receiver asked) (map entry.Item (items_asked asked)))
+list_outcome setting before receiver left decl asked is =
+    let es = map entry.Item (items_asked asked) in
     let go : List Stmt → Progress → Progress = λ ss p. run_from setting before receiver ss asked p in
     let start = with_slots_kept setting before receiver asked no_aside decl.body [] [] [] in
     let behind_items = closing false left in
@@ -238,7 +210,7 @@ input_outcome setting before receiver left decl input is =
 
 pub list_is_meaning : ListIsMeaning
 list_is_meaning setting before receiver left decl list is type_is =
-    list_outcome setting before receiver left decl list is
+    list_outcome setting before receiver left decl (Items list) is
     ∙ ap (λ t. Some (written_meaning setting (metas before) decl t style.Struct (map entry.Item list))) type_is
 
 pub input_is_meaning : InputIsMeaning

@@ -1,21 +1,27 @@
--- What options without a fault leave of a declaration of plain fields, and the declaration that they mean.
+-- What options without a fault leave of a declaration, and what they mean by its fields.
 use Rattle.std.specs.Prelude.{◌≡◌, ◌⊎◌, Bool, true, false, ◌&&◌, List, [], Option, Some, None, map, option_and_then}
 use Rattle.std.specs.List.{AllByRecursion}
 use Rattle.std.specs.Option.{option_copied}
 use Rattle.base_core.specs.declared.text.Text.{Text}
 use Rattle.tok_types.specs.Ident.{ident_text}
 use Rattle.node_expr.specs.declared.ty.«Type».{«Type» as Type'}
+use Rattle.node_core.specs.declared.style.Style.{Style}
+use Rattle.node_core.specs.declared.style.Style.TheVariants as style
+use Rattle.body_core.specs.declared.ast.data.«Data».{«Data»}
+use Rattle.body_core.specs.declared.ast.data.«Data».TheVariants as body
 use Rattle.codegen_program.specs.declared.program.«Unit».{«Unit» as Unit'}
-use Rattle.codegen_core.specs.Compiled.{compiled_derive_input, compiled_list, default_of, fields_of}
+use Rattle.codegen_core.specs.Compiled.{compiled_derive_input, compiled_meta, default_of, fields_of}
 use Rattle.codegen_core.specs.Defaults.{custom}
+use Rattle.codegen_core.specs.Variants.{proxy_of, transparent_field}
 use Rattle.codegen_core.specs.declared.default_expression.DefaultExpression.{DefaultExpression}
 use Rattle.codegen_core.specs.declared.default_expression.DefaultExpression.TheVariants as defaults
 use Rattle.codegen_core.specs.declared.field.Field.{Field}
 use Rattle.codegen_core.specs.declared.from_derive_impl.FromDeriveInputImpl.{FromDeriveInputImpl}
 use Rattle.codegen_core.specs.declared.from_meta_impl.FromMetaImpl.{FromMetaImpl}
 use Rattle.codegen_core.specs.declared.trait_impl.TraitImpl.{TraitImpl}
+use Rattle.codegen_core.specs.declared.variant.Variant.{Variant}
 use Rattle.meaning_core.specs.Decl.{Decl, FieldDecl, Shape, Single, Many, Flat, Default, ByType, ByCall}
-use Rattle.law_machine.specs.Compiles.{meant_default}
+use Rattle.law_machine.specs.Compiles.{meant_default, read_variants}
 
 -- the shape by `multiple` and `flatten`
 abbrev pub shape_of : Bool → Bool → Shape
@@ -52,7 +58,6 @@ whole_default left = option_and_then meant_default (default_of false left)
 abbrev pub meant_decl : Type' → List Text → TraitImpl → Decl
 meant_decl type attributes left =
     record {
-      derives = [];
       number = 0;
       name = ident_text left.ident.now;
       type = type;
@@ -80,9 +85,28 @@ pub record IsLeftField (whole : Option Default) (left : Field) : Type 0 where
 abbrev pub IsLeft : TraitImpl → Type 0
 IsLeft left = AllByRecursion (IsLeftField (whole_default left)) (fields_of left)
 
--- the unit of `FromMeta` that options leave of a struct which is read field by field
+-- options leave the members so: what a word gives has none, and no tuple of several is read
+abbrev pub IsLeftOwn : Option Default → Style → List Field → Type 0
+IsLeftOwn whole style.Unit fields = fields ≡ []
+IsLeftOwn whole style.Struct fields = AllByRecursion (IsLeftField whole) fields
+IsLeftOwn whole style.Tuple fields = ⊥
+
+-- what is read as its one member may have any
+abbrev pub IsLeftForm : Option Default → Option Field → Style → List Field → Type 0
+IsLeftForm whole (Some field) style fields = Unit {0}
+IsLeftForm whole None style fields = IsLeftOwn whole style fields
+
+-- the members of a variant inherit nothing
+abbrev pub IsLeftVariant : Variant → Type 0
+IsLeftVariant left = IsLeftForm None (proxy_of left) left.body.style left.body.fields
+
+abbrev pub IsLeftBody : TraitImpl → «Data» Variant Field → Type 0
+IsLeftBody left (body.Struct it) = IsLeftForm (whole_default left) (transparent_field left.transparent it.style it.fields) it.style it.fields
+IsLeftBody left (body.Enum variants) = AllByRecursion IsLeftVariant (read_variants variants)
+
+-- the unit of `FromMeta` that options leave
 abbrev pub IsLeftMeta : Unit' → Type 0
-IsLeftMeta unit = (left : FromMetaImpl) × (unit ≡ compiled_list left unit.decl) × IsLeft left.base
+IsLeftMeta unit = (left : FromMetaImpl) × (unit ≡ compiled_meta left unit.decl) × IsLeftBody left.base left.base.body
 
 -- the unit of `FromDeriveInput` that options leave; none of its defaults comes from the identifier
 abbrev pub IsLeftInput : Unit' → Type 0

@@ -4,3 +4,4 @@ pub mod Left
 pub mod Kinds
 pub use Rattle.meaning_core.specs.Decl
 pub use Rattle.meaning_core.specs.Declarations
+pub use Rattle.meaning_core.specs.Receivers

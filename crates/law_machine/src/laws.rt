@@ -1,6 +1,6 @@
 //! The laws. These functions do nothing: their clauses are the laws.
 
-ghost use Rattle.law_machine.specs.Claims.{InputIsMeaning, InputsHaveOutcomes, ListIsMeaning, ListsHaveOutcomes, ProgramIsMeaning, UnitsCanBeRun};
+ghost use Rattle.law_machine.specs.Claims.{CellsAreMeant, InputIsMeaning, InputsHaveOutcomes, ListIsMeaning, MetaFuncsHaveOutcomes, ProgramIsMeaning, UnitsCanBeRun};
 
 /// `from_list` of a struct gives what the items mean under the declaration, for every host and whatever the
 /// declarations before it read; it never looks for a value that is not there.
@@ -13,15 +13,22 @@ pub fn an_input_is_read_as_meant()
     ensures { InputIsMeaning }
 {}
 
+/// What a unit of `FromMeta` reads of a word, a list, a string, an expression, a whole meta and of no item is what the
+/// declaration means: a struct of any form or an enum, and the callables in the place of these.
+pub fn a_unit_reads_what_is_meant()
+    ensures { CellsAreMeant }
+{}
+
 /// The unit of a program that reads items of a text gives, on any of them, what it means under the declaration, which has
 /// braces and whose fields may have the types of declarations below it.
 pub fn a_program_reads_what_is_meant()
     ensures { ProgramIsMeaning }
 {}
 
-/// `from_list` of a unit that options leave has an outcome on any list, whatever the declarations before it read.
-pub fn a_list_has_an_outcome()
-    ensures { ListsHaveOutcomes }
+/// Each function of a unit of `FromMeta` that options leave has an outcome on whatever it is asked, and whatever the
+/// declarations before it read.
+pub fn a_function_has_an_outcome()
+    ensures { MetaFuncsHaveOutcomes }
 {}
 
 /// So has `from_derive_input` on any item of a text.

@@ -57,7 +57,7 @@ arm_next f fs j (Some k) = let e : suc j + k ≡ j + suc k = omega arith in ap (
 arm_first : (f : FieldDecl) (fs : List FieldDecl) (j : ℕ) → Some (arm j f) ≡ option_map (λ k. arm (j + k) (field_at (f ∷ fs) k)) (Some zero)
 arm_first f fs j = let e : j ≡ j + zero = omega arith in ap (λ m. let x : Option Arm = Some (arm m f) in x) e
 
-arm_from : (fs : List FieldDecl) (n : Text) (j : ℕ) → find_arm (arms_from j fs) n ≡ option_map (λ k. arm (j + k) (field_at fs k)) (owner_named fs n)
+pub arm_from : (fs : List FieldDecl) (n : Text) (j : ℕ) → find_arm (arms_from j fs) n ≡ option_map (λ k. arm (j + k) (field_at fs k)) (owner_named fs n)
 arm_from [] n j = refl
 arm_from (f ∷ fs) n j =
     let next : find_arm (arms_from (suc j) fs) n ≡ option_map (λ k. arm (j + k) (field_at (f ∷ fs) k)) (option_map suc (owner_named fs n)) = arm_from fs n (suc j) ∙ arm_next f fs j (owner_named fs n) in

@@ -1,2 +1,3 @@
 pub mod Filters
 pub mod Clean
+pub mod Owned

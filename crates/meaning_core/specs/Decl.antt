@@ -2,9 +2,8 @@
 use Rattle.std.specs.Prelude.{ℕ, Bool, true, false, cond, not, List, [], ◌∷◌, Option, Some, None}
 use Rattle.base_core.specs.declared.text.Text.{Text}
 use Rattle.node_expr.specs.declared.ty.«Type».{«Type» as Type'}
-use Rattle.machine_steps.specs.Callable.{Callable}
+use Rattle.codegen_program.specs.declared.callable.Callable.{Callable}
 use Rattle.codegen_program.specs.declared.arm.PostfixTransform.{PostfixTransform}
-use Rattle.codegen_program.specs.declared.program.Derive.{Derive}
 
 -- a field has one value, one for each of its items, or what no other field takes
 pub data Shape : Type 0 where
@@ -36,7 +35,6 @@ pub record BodyDecl : Type 0 where
 
 -- a declaration: its number among all, its type, and the names of the attributes that it reads
 pub record Decl : Type 0 where
-  pub derives : List Derive
   pub number : ℕ
   pub name : Text
   pub type : Type'

@@ -3,6 +3,9 @@ pub mod Owners
 pub mod EntryFaults
 pub mod FieldValue
 pub mod Meaning
+pub mod Receivers
+pub mod Variants
+pub mod MetaCells
 pub mod Declarations
 pub mod EntrySteps
 pub mod Walk
