@@ -1,28 +1,33 @@
 -- Functions that the host doesn't offer.
-use Rattle.std.specs.Prelude.{Bool, ◌&&◌, not, if◌then◌else◌, List, [], ◌++◌, flat_map, Option, Some, None, is_some, option_map, slice_get, unwrap_or}
+use Rattle.std.specs.Prelude.{Bool, ◌&&◌, not, cond, if◌then◌else◌, List, [], ◌++◌, flat_map, Option, Some, None, is_some, option_map, slice_get, unwrap_or}
 use Rattle.std.specs.List.{list_any}
 use Rattle.tok_types.specs.declared.span.Span.{Span}
 use Rattle.node_expr.specs.declared.ty.«Type».{«Type» as Type'}
 use Rattle.node_span.specs.Spanned.{expr_span, path_span}
 use Rattle.node_core.specs.declared.data.Field.{Field}
+use Rattle.node_core.specs.declared.data.Variant.{Variant}
 use Rattle.node_core.specs.declared.derive.DeriveInput.{DeriveInput}
 use Rattle.law_spans.specs.Erased.{erased_path}
-use Rattle.machine_forms.specs.Callable.{Callable}
+use Rattle.codegen_program.specs.declared.callable.Callable.{Callable}
 use Rattle.codegen_program.specs.declared.arm.Arm.{Arm}
 use Rattle.codegen_program.specs.declared.arm.PostfixTransform.{PostfixTransform}
 use Rattle.codegen_program.specs.declared.init.DefaultSource.TheVariants as sources
 use Rattle.codegen_program.specs.declared.init.Init.{Init}
+use Rattle.codegen_program.specs.declared.program.FuncName.{FuncName}
+use Rattle.codegen_program.specs.declared.program.FuncName.TheVariants as func
 use Rattle.codegen_program.specs.declared.program.Program.{Program}
 use Rattle.codegen_program.specs.declared.program.«Unit».{«Unit» as Unit'}
 use Rattle.machine_forms.specs.HostSays.{HostSays, erased_decls, erased_place}
 use Rattle.machine_forms.specs.Use.{Use}
 use Rattle.machine_forms.specs.Use.TheVariants as use_at
+use Rattle.machine_forms.specs.Calls.{word_variant}
 use Rattle.machine_forms.specs.Convert.{element}
 use Rattle.machine_forms.specs.Machine.{setting_of}
+use Rattle.machine_forms.specs.Receivers.{variants_of}
 use Rattle.machine_forms.specs.Reading.{transform_use}
 use Rattle.machine_forms.specs.Setting.{called, without_places}
-use Rattle.machine_forms.specs.Asks.{Ask, Read, Whole, Member, Transform, is_from_ident}
-use Rattle.machine_fit.specs.Fields.{struct_fields}
+use Rattle.machine_forms.specs.Asks.{Ask, Read, Whole, Member, Transform, Called, is_from_ident, unit_asks}
+use Rattle.machine_fit.specs.Fields.{slot_fields}
 use Rattle.machine_forms.specs.Forms.{fallback_call}
 use Rattle.machine_forms.specs.Places.{places_from, refused_if, refused_unless}
 use Rattle.machine_fit.specs.Types.{decl_type}
@@ -72,13 +77,28 @@ module _ (host : HostSays) (program : Program) where
   unoffered_member init None = []
   unoffered_member init (Some field) = unoffered use_at.Default field.ty (fallback_call init.fallback)
 
-  -- what a unit asks, whose receiver is this type and has these fields
-  abbrev pub unoffered_ask : Type' → List Field → Ask → List Span
-  unoffered_ask type fields (Read arm) = unoffered_read arm (slice_get fields arm.slot)
-  unoffered_ask type fields (Whole (sources.Explicit callable)) = unoffered use_at.Default type (Some callable)
-  unoffered_ask type fields (Member init) = unoffered_member init (slice_get fields init.slot)
-  unoffered_ask type fields (Transform post) = unoffered_post type post
-  unoffered_ask type fields _ = []
+  -- a callable in the place of a function; the closure of a variant is none
+  abbrev pub unoffered_call : Type' → List Variant → Callable → FuncName → List Span
+  unoffered_call type variants callable func.FromWord = cond (is_some (word_variant callable variants)) [] (unoffered use_at.FromWord type (Some callable))
+  unoffered_call type variants callable func.FromNone = unoffered use_at.FromNone type (Some callable)
+  unoffered_call type variants callable func.FromExpr = unoffered use_at.FromExpr type (Some callable)
+  unoffered_call type variants callable _ = []
+
+  -- what a unit asks whose receiver is this type and has these variants, and whose slots have these fields
+  abbrev pub unoffered_ask : Type' → List Variant → List Field → Ask → List Span
+  unoffered_ask type variants fields (Read arm) = unoffered_read arm (slice_get fields arm.slot)
+  unoffered_ask type variants fields (Whole (sources.Explicit callable)) = unoffered use_at.Default type (Some callable)
+  unoffered_ask type variants fields (Member init) = unoffered_member init (slice_get fields init.slot)
+  unoffered_ask type variants fields (Transform post) = unoffered_post type post
+  unoffered_ask type variants fields (Called callable at) = unoffered_call type variants callable at
+  unoffered_ask type variants fields _ = []
+
+  -- what a unit asks that asks all this
+  abbrev pub unoffered_asks : DeriveInput → List Ask → List Span
+  unoffered_asks decl asks = flat_map (unoffered_ask (decl_type decl) (variants_of decl.body) (slot_fields asks decl.body)) asks
+
+  abbrev pub unoffered_unit : DeriveInput → Unit' → List Span
+  unoffered_unit decl unit = unoffered_asks decl (unit_asks unit)
 
   -- an identifier is asked for the receiver, and makes none
   abbrev pub lacks_ident : DeriveInput → List Ask → Bool
@@ -88,7 +108,7 @@ module _ (host : HostSays) (program : Program) where
   abbrev pub unknown_callables_in : List Unit' → DeriveInput → List Span
   unknown_callables_in units decl =
       refused_if (lacks_ident decl (asks_of units)) decl.ident.span
-      ++ flat_map (unoffered_ask (decl_type decl) (struct_fields decl.body)) (asks_of units)
+      ++ flat_map (unoffered_unit decl) units
 
   abbrev pub unknown_callables : List Span
   unknown_callables = places_from (λ number decl. unknown_callables_in (units_of program.units number) decl) 0 program.decls

@@ -1,5 +1,5 @@
 -- Types that don't fit their places.
-use Rattle.std.specs.Prelude.{ℕ, Bool, true, false, ◌&&◌, ◌||◌, not, List, [], ◌∷◌, ◌++◌, flat_map, map, Option, Some, None}
+use Rattle.std.specs.Prelude.{ℕ, ◌+◌, Bool, true, false, ◌&&◌, ◌||◌, not, List, [], ◌∷◌, ◌++◌, flat_map, get_or, map, Option, Some, None}
 use Rattle.std.specs.List.{list_any, list_all}
 use Rattle.tok_types.specs.declared.span.Span.{Span}
 use Rattle.node_expr.specs.declared.ty.«Type».{«Type» as Type'}
@@ -18,6 +18,9 @@ use Rattle.machine_forms.specs.HostSays.{HostSays}
 use Rattle.machine_forms.specs.Made.{named_type}
 use Rattle.machine_forms.specs.Asks.{Ask, Read, SlotAsks, is_whole_default, slot_asks, unit_asks}
 use Rattle.machine_forms.specs.Places.{places_from, refused_if, refused_unless}
+use Rattle.machine_fit.specs.declared.fields.FieldsAt.{FieldsAt}
+use Rattle.machine_fit.specs.declared.fields.FieldsAt.TheVariants as fields_at
+use Rattle.machine_fit.specs.Fields.{places_in}
 use Rattle.machine_fit.specs.Fits.{field_fits, has_default, type_fits}
 use Rattle.machine_forms.specs.Units.{asks_of, units_of}
 
@@ -25,10 +28,18 @@ use Rattle.machine_forms.specs.Units.{asks_of, units_of}
 abbrev pub decl_type : DeriveInput → Type'
 decl_type decl = named_type decl.ident.text
 
--- what each of the units asks of slots; a declaration without units has fields too, of which nothing is asked
-abbrev pub readings : List Unit' → List SlotAsks
-readings [] = slot_asks [] ∷ []
-readings (unit ∷ units) = slot_asks (unit_asks unit) ∷ map (λ unit. slot_asks (unit_asks unit)) units
+-- what a unit asks of the fields of a declaration: of its slots, and where it reads fields
+pub record FieldAsks : Type 0 where
+  pub slots : SlotAsks
+  pub places : List FieldsAt
+
+abbrev pub field_asks : «Data» → List Ask → FieldAsks
+field_asks it asks = record { slots = slot_asks asks; places = places_in it asks }
+
+-- the same of each of the units; a declaration without units has fields too, of which nothing is asked
+abbrev pub readings : «Data» → List Unit' → List FieldAsks
+readings it [] = field_asks it [] ∷ []
+readings it (unit ∷ units) = field_asks it (unit_asks unit) ∷ map (λ unit. field_asks it (unit_asks unit)) units
 
 module _ (host : HostSays) (program : Program) where
   -- the type of a slot fits what a unit asks of it
@@ -36,21 +47,29 @@ module _ (host : HostSays) (program : Program) where
   fits_asks here slot type asks =
       field_fits host program here (asks.read slot) (asks.many slot) type && (not (asks.default slot) || has_default host program type)
 
-  -- a field of a struct, whose slot has the field's number
-  abbrev pub unfit_slot : ℕ → List SlotAsks → ℕ → Field → List Span
-  unfit_slot here asks slot field = refused_unless (list_all (fits_asks here slot field.ty) asks) (type_span field.ty)
+  -- the type of the field of this number among those that are read there fits
+  abbrev pub fits_at : ℕ → ℕ → Type' → SlotAsks → FieldsAt → Bool
+  fits_at here number type asks (fields_at.Slots first) = fits_asks here (first + number) type asks
+  fits_at here number type asks fields_at.Alone = type_fits host program here true type
+  fits_at here number type asks fields_at.Nowhere = type_fits host program here false type
 
-  -- a field that has no slot
-  abbrev pub unfit_field : ℕ → Field → List Span
-  unfit_field here field = refused_unless (type_fits host program here false field.ty) (type_span field.ty)
+  -- The fields of a struct, or of the variant of the number, by what a unit asks of them.
+  abbrev pub fits_unit : ℕ → ℕ → ℕ → Type' → FieldAsks → Bool
+  fits_unit here variant number type asks = fits_at here number type asks.slots (get_or asks.places variant fields_at.Nowhere)
 
-  abbrev pub unfit_variant : ℕ → Variant → List Span
-  unfit_variant here variant = flat_map (unfit_field here) (field_list variant.fields)
+  abbrev pub unfit_field : ℕ → List FieldAsks → ℕ → ℕ → Field → List Span
+  unfit_field here asks variant number field = refused_unless (list_all (fits_unit here variant number field.ty) asks) (type_span field.ty)
 
-  abbrev pub unfit_members : ℕ → List SlotAsks → «Data» → List Span
-  unfit_members here asks (body.Struct it) = places_from (unfit_slot here asks) 0 (field_list it.fields)
-  unfit_members here asks (body.Enum it) = flat_map (unfit_variant here) it.variants
-  unfit_members here asks (body.Union it) = flat_map (unfit_field here) it.fields.named
+  abbrev pub unfit_fields : ℕ → List FieldAsks → ℕ → List Field → List Span
+  unfit_fields here asks variant fields = places_from (unfit_field here asks variant) 0 fields
+
+  abbrev pub unfit_variant : ℕ → List FieldAsks → ℕ → Variant → List Span
+  unfit_variant here asks number variant = unfit_fields here asks number (field_list variant.fields)
+
+  abbrev pub unfit_members : ℕ → List FieldAsks → «Data» → List Span
+  unfit_members here asks (body.Struct it) = unfit_fields here asks 0 (field_list it.fields)
+  unfit_members here asks (body.Enum it) = places_from (unfit_variant here asks) 0 it.variants
+  unfit_members here asks (body.Union it) = unfit_fields here asks 0 it.fields.named
 
   -- the type that a transform takes, at the transform's path
   abbrev pub unfit_taken : ℕ → PostfixTransform → Option Type' → List Span
@@ -73,7 +92,7 @@ module _ (host : HostSays) (program : Program) where
   abbrev pub unknown_types_in : List Unit' → ℕ → DeriveInput → List Span
   unknown_types_in units number decl =
       refused_if (lacks_default decl (asks_of units)) decl.ident.span
-      ++ unfit_members number (readings units) decl.body
+      ++ unfit_members number (readings decl.body units) decl.body
       ++ flat_map (unfit_ask number) (asks_of units)
 
   abbrev pub unknown_types : List Span

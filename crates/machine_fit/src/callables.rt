@@ -1,22 +1,23 @@
 //! Functions that the host doesn't offer.
 
-ghost use Rattle.std.specs.Prelude.{◌≡◌, ◌++◌, IfOk, OnOk, flat_map, length, map};
+ghost use Rattle.std.specs.Prelude.{◌≡◌, ◌++◌, IfOk, OnOk, flat_map, length, map, slice_get};
 ghost use Rattle.std.specs.Option.{option_copied};
 ghost use Rattle.std.specs.List.{list_any};
 ghost use Rattle.machine_forms.specs.Asks as asked;
 ghost use Rattle.machine_fit.specs.Callables as spec;
-ghost use Rattle.machine_fit.specs.Fields.{struct_fields};
-ghost use Rattle.machine_fit.specs.Types.{decl_type};
 ghost use Rattle.machine_forms.specs.Units.{AreGroups};
 ghost use Rattle.machine_forms.specs.Reading.{transform_use as use_of};
 ghost use Rattle.machine_forms.specs.Setting.{called as called_by};
 
 use crate::checker::Checker;
+use crate::fields::{slot_fields, variants_of};
 use base_core::{Items, Mem, TryClone};
-use codegen_program::{Arm, DefaultSource, Init, PostfixTransform, Unit};
-use machine_forms::{Ask, Callable, Host, Place, Use, asks_of, fallback_call, named_type};
+use codegen_program::{Arm, DefaultSource, FuncName, Init, PostfixTransform, Unit};
+use machine_forms::{
+    Ask, Callable, Host, Place, Use, asks_of, fallback_call, named_type, push_unit, word_variant,
+};
 use machine_rows::element_among;
-use node_core::{Data, DeriveInput, Field};
+use node_core::{DeriveInput, Field, Variant};
 use node_expr::Type;
 use node_span::Spanned;
 use std::alloc::Global;
@@ -48,8 +49,28 @@ impl<H: Host> Checker<'_, H> {
         if self.lacks_ident(decl, asks.as_slice())? {
             places.push(decl.ident.span)?;
         }
+        self.push_units(places, decl, units)
+    }
+
+    fn push_units(&self, places: &mut Items<Span>, decl: &DeriveInput, units: &[&Unit]) -> Mem<()>
+        ensures { OnOk result (places.new ≡ places.old ++ flat_map (spec.unoffered_unit (H.says self.now.host.now) self.now.program.now decl.now) (map (λ unit. unit.now) units.now)) }
+    {
+        for unit in units {
+            self.push_unit_of(places, decl, unit)?;
+        }
+        Ok(())
+    }
+
+    /// Adds the functions that a unit of the declaration asks.
+    fn push_unit_of(&self, places: &mut Items<Span>, decl: &DeriveInput, unit: &Unit) -> Mem<()>
+        ensures { OnOk result (places.new ≡ places.old ++ spec.unoffered_unit (H.says self.now.host.now) self.now.program.now decl.now unit.now) }
+    {
+        let mut asks = Items::new(self.alloc);
+        push_unit(&mut asks, unit)?;
         let ty = named_type(self.alloc, decl.ident.text.as_str())?;
-        self.push_unoffered(places, &ty, slots_of(&decl.body), asks.as_slice())
+        let fields = slot_fields(self.alloc, asks.as_slice(), &decl.body)?;
+        let variants = variants_of(&decl.body);
+        self.push_unoffered(places, &ty, variants, fields.as_slice(), asks.as_slice())
     }
 
     /// Whether an identifier is asked for the receiver, and makes none.
@@ -72,18 +93,19 @@ impl<H: Host> Checker<'_, H> {
         Ok(self.host.offers(&self.program.decls, callable, &place))
     }
 
-    /// Adds the functions that are asked by a receiver of this type with these fields.
+    /// Adds the functions that are asked by a receiver of this type with these variants, whose slots have these fields.
     fn push_unoffered(
         &self,
         places: &mut Items<Span>,
         ty: &Type,
-        fields: &[Field],
+        variants: &[Variant],
+        fields: &[&Field],
         asks: &[Ask<'_>],
     ) -> Mem<()>
-        ensures { OnOk result (places.new ≡ places.old ++ flat_map (spec.unoffered_ask (H.says self.now.host.now) self.now.program.now ty.now fields.now) (map asked.seen asks.now)) }
+        ensures { OnOk result (places.new ≡ places.old ++ flat_map (spec.unoffered_ask (H.says self.now.host.now) self.now.program.now ty.now variants.now (map (λ field. field.now) fields.now)) (map asked.seen asks.now)) }
     {
         for ask in asks {
-            self.push_ask_of(places, ty, fields, *ask)?;
+            self.push_ask_of(places, ty, variants, fields, *ask)?;
         }
         Ok(())
     }
@@ -92,18 +114,42 @@ impl<H: Host> Checker<'_, H> {
         &self,
         places: &mut Items<Span>,
         ty: &Type,
-        fields: &[Field],
+        variants: &[Variant],
+        fields: &[&Field],
         ask: Ask<'_>,
     ) -> Mem<()>
-        ensures { OnOk result (places.new ≡ places.old ++ spec.unoffered_ask (H.says self.now.host.now) self.now.program.now ty.now fields.now (asked.seen ask.entry)) }
+        ensures { OnOk result (places.new ≡ places.old ++ spec.unoffered_ask (H.says self.now.host.now) self.now.program.now ty.now variants.now (map (λ field. field.now) fields.now) (asked.seen ask.entry)) }
     {
         match ask {
-            Ask::Read(arm) => self.push_read(places, arm, fields.get(arm.slot as usize)),
+            Ask::Read(arm) => self.push_read(places, arm, field_at(fields, arm.slot)),
             Ask::Whole(DefaultSource::Explicit(callable)) => {
                 self.push_call(places, Use::Default, ty, Some(callable))
             }
-            Ask::Member(init) => self.push_member(places, init, fields.get(init.slot as usize)),
+            Ask::Member(init) => self.push_member(places, init, field_at(fields, init.slot)),
             Ask::Transform(post) => self.push_post(places, ty, post),
+            Ask::Called(callable, at) => self.push_called(places, ty, variants, callable, at),
+            _ => Ok(()),
+        }
+    }
+
+    /// Looks at a callable in the place of a function. The closure of a variant is none.
+    fn push_called(
+        &self,
+        places: &mut Items<Span>,
+        ty: &Type,
+        variants: &[Variant],
+        callable: &Callable,
+        at: FuncName,
+    ) -> Mem<()>
+        ensures { OnOk result (places.new ≡ places.old ++ spec.unoffered_call (H.says self.now.host.now) self.now.program.now ty.now variants.now callable.now at) }
+    {
+        match at {
+            FuncName::FromWord => match word_variant(self.alloc, callable, variants)? {
+                Some(_) => Ok(()),
+                None => self.push_call(places, Use::FromWord, ty, Some(callable)),
+            },
+            FuncName::FromNone => self.push_call(places, Use::FromNone, ty, Some(callable)),
+            FuncName::FromExpr => self.push_call(places, Use::FromExpr, ty, Some(callable)),
             _ => Ok(()),
         }
     }
@@ -225,14 +271,11 @@ fn asks_ident(asks: &[Ask<'_>]) -> bool
     false
 }
 
-/// The fields of a struct, which have the slots of these numbers.
-fn slots_of(body: &Data) -> &[Field]
-    ensures { result.now ≡ struct_fields body.now }
+/// The field that has the slot.
+fn field_at<'f>(fields: &[&'f Field], slot: u32) -> Option<&'f Field>
+    ensures { option_copied result ≡ slice_get (map (λ field. field.now) fields.now) slot }
 {
-    match body {
-        Data::Struct(it) => it.fields.as_slice(),
-        _ => &[],
-    }
+    fields.get(slot as usize).copied()
 }
 
 /// What a transform calls.

@@ -8,8 +8,10 @@
 
 mod callables;
 mod checker;
+mod fields;
 mod fits;
 mod fitting;
+mod reading;
 mod slots;
 mod types;
 

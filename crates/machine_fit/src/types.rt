@@ -5,11 +5,13 @@ ghost use Rattle.std.specs.Option.{option_copied};
 ghost use Rattle.std.specs.List.{list_all, list_any};
 ghost use Rattle.machine_forms.specs.Asks as asked;
 ghost use Rattle.machine_forms.specs.Places.{places_from};
-ghost use Rattle.machine_fit.specs.Slots.{seen_slots};
+ghost use Rattle.machine_fit.specs.Slots.{seen_reading, seen_slots};
 ghost use Rattle.machine_fit.specs.Types as spec;
 ghost use Rattle.machine_forms.specs.Units.{AreGroups};
 
 use crate::checker::Checker;
+use crate::fields::{FieldsAt, place_at};
+use crate::reading::Reading;
 use crate::slots::Slots;
 use base_core::{Items, Mem};
 use codegen_program::{PostfixTransform, Unit};
@@ -17,7 +19,7 @@ use machine_forms::{Ask, Host, asks_of, named_type, push_unit};
 use node_core::{Data, DeriveInput, Field, Variant};
 use node_expr::Type;
 use node_span::Spanned;
-use std::alloc::Global;
+use std::alloc::{AllocError, Global};
 use tok_types::Span;
 
 impl<H: Host> Checker<'_, H> {
@@ -52,7 +54,7 @@ impl<H: Host> Checker<'_, H> {
         if self.lacks_default(decl, asks.as_slice())? {
             places.push(decl.ident.span)?;
         }
-        let readings = readings_of(self.alloc, units)?;
+        let readings = readings_of(self.alloc, &decl.body, units)?;
         self.push_members(places, number, readings.as_slice(), &decl.body)?;
         self.push_taken(places, number, asks.as_slice())
     }
@@ -72,59 +74,107 @@ impl<H: Host> Checker<'_, H> {
         &self,
         places: &mut Items<Span>,
         here: usize,
-        readings: &[Slots],
+        readings: &[Reading],
         body: &Data,
     ) -> Mem<()>
-        ensures { OnOk result (places.new ≡ places.old ++ spec.unfit_members (H.says self.now.host.now) self.now.program.now here (map seen_slots readings.now) body.now) }
+        ensures { OnOk result (places.new ≡ places.old ++ spec.unfit_members (H.says self.now.host.now) self.now.program.now here (map seen_reading readings.now) body.now) }
     {
         match body {
-            Data::Struct(it) => self.push_slots(places, here, readings, it.fields.as_slice()),
-            Data::Enum(it) => self.push_variants(places, here, it.variants.as_slice()),
-            Data::Union(it) => self.push_fields(places, here, it.fields.named.as_slice()),
+            Data::Struct(it) => self.push_fields(places, here, readings, 0, it.fields.as_slice()),
+            Data::Enum(it) => self.push_variants(places, here, readings, it.variants.as_slice()),
+            Data::Union(it) => {
+                self.push_fields(places, here, readings, 0, it.fields.named.as_slice())
+            }
         }
     }
 
-    /// Adds the types of fields that don't fit what the units ask of the fields' slots, which have the fields' numbers.
-    fn push_slots(
+    fn push_variants(
         &self,
         places: &mut Items<Span>,
         here: usize,
-        readings: &[Slots],
-        fields: &[Field],
+        readings: &[Reading],
+        variants: &[Variant],
     ) -> Mem<()>
-        ensures { OnOk result (places.new ≡ places.old ++ places_from (spec.unfit_slot (H.says self.now.host.now) self.now.program.now here (map seen_slots readings.now)) 0 fields.now) }
+        ensures { OnOk result (places.new ≡ places.old ++ places_from (spec.unfit_variant (H.says self.now.host.now) self.now.program.now here (map seen_reading readings.now)) 0 variants.now) }
     {
-        for slot in 0..fields.len() {
-            self.push_slot(places, here, readings, slot, &fields[slot])?;
+        for number in 0..variants.len() {
+            let fields = variants[number].fields.as_slice();
+            self.push_fields(places, here, readings, number, fields)?;
         }
         Ok(())
     }
 
-    fn push_slot(
+    /// Adds the types that don't fit what the units ask of the fields of a struct, or of the variant of the number.
+    fn push_fields(
         &self,
         places: &mut Items<Span>,
         here: usize,
-        readings: &[Slots],
-        slot: usize,
+        readings: &[Reading],
+        variant: usize,
+        fields: &[Field],
+    ) -> Mem<()>
+        ensures { OnOk result (places.new ≡ places.old ++ spec.unfit_fields (H.says self.now.host.now) self.now.program.now here (map seen_reading readings.now) variant fields.now) }
+    {
+        for number in 0..fields.len() {
+            self.push_field(places, here, readings, variant, number, &fields[number])?;
+        }
+        Ok(())
+    }
+
+    fn push_field(
+        &self,
+        places: &mut Items<Span>,
+        here: usize,
+        readings: &[Reading],
+        variant: usize,
+        number: usize,
         field: &Field,
     ) -> Mem<()>
-        ensures { OnOk result (places.new ≡ places.old ++ spec.unfit_slot (H.says self.now.host.now) self.now.program.now here (map seen_slots readings.now) slot field.now) }
+        ensures { OnOk result (places.new ≡ places.old ++ spec.unfit_field (H.says self.now.host.now) self.now.program.now here (map seen_reading readings.now) variant number field.now) }
     {
-        if self.fits_readings(here, readings, slot, &field.ty)? {
+        if self.fits_readings(here, readings, variant, number, &field.ty)? {
             return Ok(());
         }
         places.push(field.ty.spanned())
     }
 
-    fn fits_readings(&self, here: usize, readings: &[Slots], slot: usize, ty: &Type) -> Mem<bool>
-        ensures { IfOk result (λ fits. fits ≡ list_all (spec.fits_asks (H.says self.now.host.now) self.now.program.now here slot ty.now) (map seen_slots readings.now)) }
+    fn fits_readings(
+        &self,
+        here: usize,
+        readings: &[Reading],
+        variant: usize,
+        number: usize,
+        ty: &Type,
+    ) -> Mem<bool>
+        ensures { IfOk result (λ fits. fits ≡ list_all (spec.fits_unit (H.says self.now.host.now) self.now.program.now here variant number ty.now) (map seen_reading readings.now)) }
     {
-        for asks in readings {
-            if !self.fits_asks(here, slot, ty, asks)? {
+        for reading in readings {
+            if !self.fits_reading(here, reading, variant, number, ty)? {
                 return Ok(false);
             }
         }
         Ok(true)
+    }
+
+    /// Whether the type of a field fits what a unit asks of it.
+    fn fits_reading(
+        &self,
+        here: usize,
+        reading: &Reading,
+        variant: usize,
+        number: usize,
+        ty: &Type,
+    ) -> Mem<bool>
+        ensures { IfOk result (λ fits. fits ≡ spec.fits_unit (H.says self.now.host.now) self.now.program.now here variant number ty.now (seen_reading reading.now)) }
+    {
+        match place_at(reading.places.as_slice(), variant) {
+            FieldsAt::Slots(first) => {
+                let slot = first.checked_add(number).ok_or(AllocError)?;
+                self.fits_asks(here, slot, ty, &reading.slots)
+            }
+            FieldsAt::Alone => self.type_fits(here, true, ty),
+            FieldsAt::Nowhere => self.type_fits(here, false, ty),
+        }
     }
 
     /// Whether the type of a slot fits what a unit asks of it.
@@ -138,34 +188,6 @@ impl<H: Host> Checker<'_, H> {
             return Ok(true);
         }
         self.has_default(ty)
-    }
-
-    fn push_variants(&self, places: &mut Items<Span>, here: usize, variants: &[Variant]) -> Mem<()>
-        ensures { OnOk result (places.new ≡ places.old ++ flat_map (spec.unfit_variant (H.says self.now.host.now) self.now.program.now here) variants.now) }
-    {
-        for variant in variants {
-            self.push_fields(places, here, variant.fields.as_slice())?;
-        }
-        Ok(())
-    }
-
-    /// Adds the types of fields, which have no slots, that don't fit.
-    fn push_fields(&self, places: &mut Items<Span>, here: usize, fields: &[Field]) -> Mem<()>
-        ensures { OnOk result (places.new ≡ places.old ++ flat_map (spec.unfit_field (H.says self.now.host.now) self.now.program.now here) fields.now) }
-    {
-        for field in fields {
-            self.push_field(places, here, field)?;
-        }
-        Ok(())
-    }
-
-    fn push_field(&self, places: &mut Items<Span>, here: usize, field: &Field) -> Mem<()>
-        ensures { OnOk result (places.new ≡ places.old ++ spec.unfit_field (H.says self.now.host.now) self.now.program.now here field.now) }
-    {
-        if self.type_fits(here, false, &field.ty)? {
-            return Ok(());
-        }
-        places.push(field.ty.spanned())
     }
 
     /// Adds the transforms that take a type which doesn't fit.
@@ -220,27 +242,27 @@ impl<H: Host> Checker<'_, H> {
     }
 }
 
-/// What each of the units asks of slots. A declaration without units has fields too, of which nothing is asked.
-fn readings_of(alloc: Global, units: &[&Unit]) -> Mem<Items<Slots>>
-    ensures { IfOk result (λ readings. map seen_slots readings ≡ spec.readings (map (λ unit. unit.now) units.now)) }
+/// What each of the units asks of the fields. A declaration without units has fields too, of which nothing is asked.
+fn readings_of(alloc: Global, body: &Data, units: &[&Unit]) -> Mem<Items<Reading>>
+    ensures { IfOk result (λ readings. map seen_reading readings ≡ spec.readings body.now (map (λ unit. unit.now) units.now)) }
 {
     if units.is_empty() {
-        return Items::of(alloc, Slots::of(alloc, &[])?);
+        return Items::of(alloc, Reading::of(alloc, body, &[])?);
     }
     let mut readings = Items::new(alloc);
     for unit in units {
-        readings.push(reading_of(alloc, unit)?)?;
+        readings.push(reading_of(alloc, body, unit)?)?;
     }
     Ok(readings)
 }
 
-/// What a unit asks of slots.
-fn reading_of(alloc: Global, unit: &Unit) -> Mem<Slots>
-    ensures { IfOk result (λ reading. seen_slots reading ≡ asked.slot_asks (asked.unit_asks unit.now)) }
+/// What a unit asks of the fields.
+fn reading_of(alloc: Global, body: &Data, unit: &Unit) -> Mem<Reading>
+    ensures { IfOk result (λ reading. seen_reading reading ≡ spec.field_asks body.now (asked.unit_asks unit.now)) }
 {
     let mut asks = Items::new(alloc);
     push_unit(&mut asks, unit)?;
-    Slots::of(alloc, asks.as_slice())
+    Reading::of(alloc, body, asks.as_slice())
 }
 
 /// Whether the default of the receiver's type is asked for.

@@ -15,12 +15,12 @@ use Rattle.codegen_program.specs.declared.init.Fallback.{Fallback}
 use Rattle.codegen_program.specs.declared.init.Fallback.TheVariants as fallbacks
 use Rattle.codegen_program.specs.declared.program.Program.{Program}
 use Rattle.codegen_program.specs.declared.program.«Unit».{«Unit» as Unit'}
-use Rattle.machine_steps.specs.Callable.{Callable}
+use Rattle.codegen_program.specs.declared.callable.Callable.{Callable}
 use Rattle.node_core.specs.Bodies.{field_list}
 use Rattle.codegen_core.specs.Forms.{form_if, generated_call, generated_path, is_generic}
 use Rattle.codegen_core.specs.declared.form.Unsupported.{Unsupported}
 use Rattle.codegen_core.specs.declared.form.Form.TheVariants as form
-use Rattle.machine_forms.specs.Asks.{Ask, Read, Whole, Member, Transform}
+use Rattle.machine_forms.specs.Asks.{Ask, Read, Whole, Member, Transform, Called}
 use Rattle.machine_forms.specs.Places.{places_from}
 use Rattle.machine_forms.specs.Units.{units_of, asks_of}
 
@@ -71,6 +71,7 @@ generated_ask (Read arm) = generated_callable arm.with ++ generated_post arm.pos
 generated_ask (Whole (sources.Explicit callable)) = generated_callable (Some callable)
 generated_ask (Member init) = generated_callable (fallback_call init.fallback)
 generated_ask (Transform post) = generated_path post.function
+generated_ask (Called callable at) = generated_callable (Some callable)
 generated_ask _ = []
 
 -- what a declaration shows itself: at its identifier, and its fields

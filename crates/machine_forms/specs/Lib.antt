@@ -5,7 +5,7 @@ pub mod Names
 pub mod Places
 pub mod Refusals
 pub mod Units
-pub use Rattle.machine_steps.specs.Callable
+pub use Rattle.machine_steps.specs.Calls
 pub use Rattle.machine_steps.specs.Convert
 pub use Rattle.machine_steps.specs.Decls
 pub use Rattle.machine_steps.specs.Defaults

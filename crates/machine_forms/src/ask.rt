@@ -5,7 +5,8 @@ ghost use Rattle.machine_forms.specs.Asks as spec;
 
 use base_core::{Items, Mem};
 use codegen_program::{
-    Arm, DefaultSource, Fallback, Init, MAX_NESTING, PostfixTransform, Stmt, Unit,
+    Arm, Callable, DefaultSource, Fallback, FuncName, Init, MAX_NESTING, PostfixTransform, Stmt,
+    Unit, VariantArm, VariantForm,
 };
 use std::alloc::AllocError;
 
@@ -24,6 +25,12 @@ pub enum Ask<'p> {
     Member(&'p Init),
     /// What was built is handed on.
     Transform(&'p PostfixTransform),
+    /// The receiver is read as its one field is.
+    Alone,
+    /// A variant is read.
+    Variant(&'p VariantArm<Stmt>),
+    /// The callable answers in the place of the function.
+    Called(&'p Callable, FuncName),
 }
 
 /// What may be asked of a slot.
@@ -72,6 +79,9 @@ fn push_stmt<'p>(asks: &mut Items<Ask<'p>>, stmt: &'p Stmt, nesting: usize) -> M
         Stmt::SetDefault { from } => asks.push(Ask::Whole(from)),
         Stmt::Build { inits, .. } => push_members(asks, inits.as_slice()),
         Stmt::Transform { post } => asks.push(Ask::Transform(post)),
+        Stmt::Delegate { .. } => asks.push(Ask::Alone),
+        Stmt::Variants { arms, .. } => push_variants(asks, arms.as_slice(), nesting),
+        Stmt::Call { callable, at } => asks.push(Ask::Called(callable, *at)),
         Stmt::DeclareErrors
         | Stmt::DeclareOne { .. }
         | Stmt::DeclareBuffer
@@ -82,10 +92,34 @@ fn push_stmt<'p>(asks: &mut Items<Ask<'p>>, stmt: &'p Stmt, nesting: usize) -> M
         | Stmt::CheckShape { .. }
         | Stmt::ReadBody { .. }
         | Stmt::ReadGenerics { .. }
-        | Stmt::Delegate { .. }
-        | Stmt::Variants { .. }
-        | Stmt::UnitNames { .. }
-        | Stmt::Call { .. } => Ok(()),
+        | Stmt::UnitNames { .. } => Ok(()),
+    }
+}
+
+/// Adds that variants are read by these arms, each before what its statements ask.
+#[cycle(asks)]
+fn push_variants<'p>(
+    asks: &mut Items<Ask<'p>>,
+    arms: &'p [VariantArm<Stmt>],
+    nesting: usize,
+) -> Mem<()>
+    ensures { OnOk result (map spec.seen asks.new ≡ map spec.seen asks.old ++ spec.asks_of_arms arms.now) }
+{
+    for arm in arms {
+        asks.push(Ask::Variant(arm))?;
+        push_form(asks, &arm.form, nesting)?;
+    }
+    Ok(())
+}
+
+/// Adds what the statements of a variant ask.
+#[cycle(asks)]
+fn push_form<'p>(asks: &mut Items<Ask<'p>>, form: &'p VariantForm<Stmt>, nesting: usize) -> Mem<()>
+    ensures { OnOk result (map spec.seen asks.new ≡ map spec.seen asks.old ++ spec.asks_of_form form.now) }
+{
+    match form {
+        VariantForm::Unit | VariantForm::Transparent { .. } => Ok(()),
+        VariantForm::Struct(stmts) => push_inside(asks, stmts.as_slice(), nesting),
     }
 }
 
@@ -119,7 +153,7 @@ fn push_members<'p>(asks: &mut Items<Ask<'p>>, inits: &'p [Init]) -> Mem<()>
 }
 
 impl Ask<'_> {
-    /// The slot of which this is asked.
+    /// The slot of which this is asked. The one field as which a receiver is read counts as the first slot.
     pub fn slot(&self, what: Asked) -> Option<u32>
         ensures { result ≡ spec.asked_slot what (spec.seen self.now) }
     {
@@ -129,6 +163,7 @@ impl Ask<'_> {
                 Some(arm.slot)
             }
             (Asked::Read, Ask::Flatten(slot)) => Some(*slot),
+            (Asked::Read, Ask::Alone) => Some(0),
             (Asked::Default, Ask::Member(init)) if is_trait(&init.fallback) => Some(init.slot),
             _ => None,
         }

@@ -180,6 +180,7 @@ fn push_ask(places: &mut Items<Unsupported>, ask: Ask<'_>) -> Mem<()>
         Ask::Whole(DefaultSource::Explicit(callable)) => push_call(places, Some(callable)),
         Ask::Member(init) => push_call(places, fallback_call(&init.fallback)),
         Ask::Transform(post) => push_generated_path(&post.function, places),
+        Ask::Called(callable, _) => push_call(places, Some(callable)),
         _ => Ok(()),
     }
 }

@@ -12,7 +12,7 @@ mod units;
 pub use ask::{Ask, Asked, push_unit};
 pub use codegen_core::{Form, Unsupported};
 pub use forms::{fallback_call, push_declared_forms, unsupported_forms};
-pub use machine_steps::{Callable, Host, Place, Use, named_type};
+pub use machine_steps::{Callable, Host, Place, Use, named_type, word_variant};
 pub use names::{duplicate_names, repeated_names};
 pub use places::{earliest, earliest_form};
 pub use refusals::Refusals;

@@ -1,9 +1,14 @@
 use Rattle.std.proofs.Common.{◌≡◌, ◌++◌, drop, flat_map, map}
+use Rattle.std.specs.Borrow.{Bor}
+use Rattle.node_core.specs.declared.data.Field.{Field}
 use Rattle.machine_forms.specs.Asks.{seen}
 use Rattle.machine_fit.specs.Callables.{unoffered_ask}
 use Rattle.machine_fit.proofs.checker.Checker.push_unoffered.Given as goal
 
 abbrev pub invariant-loop-ask : goal.invariant-loop-ask
 invariant-loop-ask g l =
-    l.initial.places ++ flat_map (unoffered_ask (g.H.Host.says l.self.host.now) l.self.program.now l.ty l.fields) (map seen l.asks)
-    ≡ l.places ++ flat_map (unoffered_ask (g.H.Host.says l.self.host.now) l.self.program.now l.ty l.fields) (map seen (drop l.ask-index l.asks))
+    l.initial.places
+    ++ flat_map (unoffered_ask (g.H.Host.says l.self.host.now) l.self.program.now l.ty l.variants (map (λ (field : Bor Field). field.now) l.fields)) (map seen l.asks)
+    ≡ l.places
+    ++ flat_map (unoffered_ask (g.H.Host.says l.self.host.now) l.self.program.now l.ty l.variants (map (λ (field : Bor Field). field.now) l.fields))
+    (map seen (drop l.ask-index l.asks))

@@ -1,7 +1,10 @@
-use Rattle.std.proofs.Common.{◌≡◌, ◌++◌, drop, flat_map}
+use Rattle.std.proofs.Common.{◌≡◌, ◌++◌, drop, map}
+use Rattle.machine_forms.specs.Places.{places_from}
+use Rattle.machine_fit.specs.Slots.{seen_reading}
 use Rattle.machine_fit.specs.Types.{unfit_variant}
 use Rattle.machine_fit.proofs.checker.Checker.push_variants.Given as goal
 
-abbrev pub invariant-loop-variant : goal.invariant-loop-variant
-invariant-loop-variant g l =
-    l.initial.places ++ flat_map (unfit_variant (g.H.Host.says l.self.host.now) l.self.program.now l.here) l.variants ≡ l.places ++ flat_map (unfit_variant (g.H.Host.says l.self.host.now) l.self.program.now l.here) (drop l.variant-index l.variants)
+abbrev pub invariant-loop-number : goal.invariant-loop-number
+invariant-loop-number g l =
+    l.initial.places ++ places_from (unfit_variant (g.H.Host.says l.self.host.now) l.self.program.now l.here (map seen_reading l.readings)) 0 l.variants
+    ≡ l.places ++ places_from (unfit_variant (g.H.Host.says l.self.host.now) l.self.program.now l.here (map seen_reading l.readings)) l.number (drop l.number l.variants)
