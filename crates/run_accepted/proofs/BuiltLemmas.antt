@@ -1,6 +1,7 @@
 -- What a declaration has whose forms can all be run.
-use Rattle.std.proofs.Common.{◌≡◌, Bool, true, false, cond, List, [], ◌∷◌, ◌++◌, flat_map, refl}
-use Rattle.std.specs.List.{All, AllByRecursion}
+use Rattle.std.proofs.Common.{◌≡◌, Bool, true, false, cond, List, [], ◌∷◌, ◌++◌, flat_map, refl, ap, sym, ◌∙◌}
+use Rattle.std.specs.Prelude.{◌||◌}
+use Rattle.std.specs.List.{All, AllByRecursion, list_any}
 use Rattle.std.proofs.lemmas.List.Elements.{All-from_recursion}
 use Rattle.tok_types.specs.declared.span.Span.{Span}
 use Rattle.node_core.specs.Meta.{path_of_meta}
@@ -8,9 +9,13 @@ use Rattle.node_core.specs.declared.derive.DeriveInput.{DeriveInput}
 use Rattle.node_span.specs.Spanned.{meta_span}
 use Rattle.options_rows.specs.Entries.{items, option_entries}
 use Rattle.options_rows.specs.Values.{word_of}
+use Rattle.codegen_program.specs.Traits.{is_input}
+use Rattle.codegen_program.specs.declared.program.Derive.{Derive}
+use Rattle.codegen_program.specs.declared.program.Derive.TheVariants as derive
+use Rattle.options_rows.specs.Members.{body_fields}
 use Rattle.run_accepted.specs.Derives.{derives_of}
 use Rattle.run_accepted.specs.declared.derives.Derived.{Derived}
-use Rattle.run_accepted.specs.Unbuilt.{IsBuilt, body_places, derive_places, has_named_fields, is_compiled, is_unbuilt_word, option_places, part_places, unbuilt, unbuilt_in}
+use Rattle.run_accepted.specs.Unbuilt.{IsBuilt, IsBuiltUnder, body_places, derive_places, derives_input, field_places, has_named_fields, input_places, is_unbuilt_word, option_places, places_under, unbuilt, unbuilt_in}
 
 none-left : {A : Type 0} (xs ys : List A) → xs ++ ys ≡ [] → xs ≡ []
 none-left [] ys is = refl
@@ -24,7 +29,7 @@ each-none : {A B : Type 0} (f : A → List B) (xs : List A) → flat_map f xs �
 each-none f [] is = tt
 each-none f (x ∷ xs) is = (none-left (f x) (flat_map f xs) is, each-none f xs (none-right (f x) (flat_map f xs) is))
 
-each-weaker : {A : Type 0} (P Q : A → Type 0) → ((x : A) → P x → Q x) → (xs : List A) → AllByRecursion P xs → AllByRecursion Q xs
+pub each-weaker : {A : Type 0} (P Q : A → Type 0) → ((x : A) → P x → Q x) → (xs : List A) → AllByRecursion P xs → AllByRecursion Q xs
 each-weaker P Q weaker [] are = tt
 each-weaker P Q weaker (x ∷ xs) are = (weaker x are.0, each-weaker P Q weaker xs are.1)
 
@@ -41,34 +46,65 @@ told-unless false span is = cc
 pub all_built : (decls : List DeriveInput) → unbuilt decls ≡ [] → All IsBuilt decls
 all_built decls is = All-from_recursion IsBuilt decls (each-none unbuilt_in decls is)
 
+-- ---- derives
+
+-- what is told where one of two facts holds is told where the second does
+at-second : (one other : Bool) (places : List Span) → cond (one || other) places [] ≡ [] → cond other places [] ≡ []
+at-second true true places is = is
+at-second true false places is = refl
+at-second false other places is = is
+
+-- a derive of which nothing is told, one of those among which `FromDeriveInput` may be
+one_built : (decl : DeriveInput) (it : Derive) (span : Span) (rest : Bool) → derive_places (record { derive = it; span = span }) ≡ []
+    → cond (is_input it || rest) (input_places decl) [] ≡ [] → IsBuiltUnder decl it
+one_built decl derive.FromMeta span rest none is = tt
+one_built decl derive.FromAttributes span rest none is = cc
+one_built decl derive.FromDeriveInput span rest none is = is
+one_built decl derive.FromField span rest none is = cc
+one_built decl derive.FromTypeParam span rest none is = cc
+one_built decl derive.FromVariant span rest none is = cc
+
+all_under : (decl : DeriveInput) (derives : List Derived) → AllByRecursion (λ it. derive_places it ≡ []) derives → places_under derives decl ≡ []
+    → AllByRecursion (λ it. IsBuiltUnder decl it.derive) derives
+all_under decl [] none is = tt
+all_under decl (it ∷ derives) none is = (
+  one_built decl it.derive it.span (list_any (λ it. is_input it.derive) derives) none.0 is,
+  all_under decl derives none.1 (at-second (is_input it.derive) (list_any (λ it. is_input it.derive) derives) (input_places decl) is),
+)
+
 module _ (decl : DeriveInput) (built : IsBuilt decl) where
   abbrev of_derives : List Span
   of_derives = flat_map derive_places (derives_of decl.attrs)
 
+  abbrev of_input : List Span
+  of_input = places_under (derives_of decl.attrs) decl
+
+  -- it can be run under each of its derives
+  pub built_under : All (λ it. IsBuiltUnder decl it.derive) (derives_of decl.attrs)
+  built_under =
+      All-from_recursion (λ it. IsBuiltUnder decl it.derive) (derives_of decl.attrs)
+      (all_under decl (derives_of decl.attrs) (each-none derive_places (derives_of decl.attrs) (none-left of_derives of_input built)) (none-right of_derives of_input built))
+
+  -- items of a text can be read as it, where `FromDeriveInput` is derived
+  pub input_built : derives_input (derives_of decl.attrs) ≡ true → input_places decl ≡ []
+  input_built is = ap (λ test. cond test (input_places decl) []) (sym is) ∙ none-right of_derives of_input built
+
+-- ---- items of a text
+
+module _ (decl : DeriveInput) (built : input_places decl ≡ []) where
   abbrev of_options : List Span
   of_options = flat_map option_places (items (option_entries decl.attrs))
 
-  first_three : body_places decl ++ of_derives ++ of_options ≡ []
-  first_three = none-left (body_places decl ++ of_derives ++ of_options) (part_places (derives_of decl.attrs) decl.body) built
-
-  first_two : body_places decl ++ of_derives ≡ []
-  first_two = none-left (body_places decl ++ of_derives) of_options first_three
+  first_two : body_places decl ++ of_options ≡ []
+  first_two = none-left (body_places decl ++ of_options) (flat_map field_places (body_fields decl.body)) built
 
   -- it is a struct with braces
   pub named : has_named_fields decl.body ≡ true
-  named = told-unless (has_named_fields decl.body) decl.ident.span (none-left (body_places decl) of_derives first_two)
-
-  -- each of its derives is compiled
-  pub compiled : All (λ it. is_compiled it.derive ≡ true) (derives_of decl.attrs)
-  compiled =
-      let P : Derived → Type 0 = λ it. is_compiled it.derive ≡ true in
-      All-from_recursion P (derives_of decl.attrs)
-      (each-weaker (λ it. derive_places it ≡ []) P (λ it. told-unless (is_compiled it.derive) it.span) (derives_of decl.attrs)
-      (each-none derive_places (derives_of decl.attrs) (none-right (body_places decl) of_derives first_two)))
+  named = told-unless (has_named_fields decl.body) decl.ident.span (none-left (body_places decl) of_options first_two)
 
   -- no item is of an option that no unit has a part for
   pub no_words : AllByRecursion (λ item. is_unbuilt_word (word_of (path_of_meta item)) ≡ false) (items (option_entries decl.attrs))
   no_words =
       each-weaker (λ item. option_places item ≡ []) (λ item. is_unbuilt_word (word_of (path_of_meta item)) ≡ false)
       (λ item. told-not (is_unbuilt_word (word_of (path_of_meta item))) (meta_span item)) (items (option_entries decl.attrs))
-      (each-none option_places (items (option_entries decl.attrs)) (none-right (body_places decl ++ of_derives) of_options first_three))
+      (each-none option_places (items (option_entries decl.attrs)) (none-right (body_places decl) of_options first_two))

@@ -1,7 +1,8 @@
--- The options of a declaration whose forms can all be run are those of a plain struct.
+-- The options of a plain declaration, and what they compile to.
 use Rattle.std.proofs.Common.{◌≡◌, ◌∙◌, ℕ, Bool, true, false, cond, List, [], ◌∷◌, ◌++◌, map, codes, Option, Some, None, refl, sym, ap, subst, inl, inr}
 use Rattle.std.specs.Prelude.{◌||◌, ◌⊎◌, is_some}
 use Rattle.std.specs.List.{AllByRecursion}
+use Rattle.std.proofs.lemmas.List.Elements.{recursion_from_All}
 use Rattle.std.specs.Option.{option_copied, option_or}
 use Rattle.std.specs.Str.{bytes_eq}
 use Rattle.base_core.specs.declared.text.Text.{Text}
@@ -44,8 +45,9 @@ use Rattle.options_core.specs.CoreOptions.{core_name_of, core_table, same_core, 
 use Rattle.options_core.specs.declared.names.MetaName.{MetaName}
 use Rattle.options_core.specs.Stages.{container_options, core_with_body, fdi_reader, good_fields, meta_reader, options_of}
 use Rattle.options_core.specs.InputField.{InputField}
-use Rattle.run_accepted.specs.Unbuilt.{IsBuilt, are_named, has_named_fields, is_unbuilt_word}
-use Rattle.run_accepted.proofs.BuiltLemmas.{named, no_words}
+use Rattle.run_accepted.specs.Plain.{IsPlainDecl, is_other_word}
+use Rattle.run_accepted.specs.Unbuilt.{are_named, has_named_fields, input_places, is_unbuilt_word}
+use Rattle.run_accepted.proofs.BuiltLemmas.{each-weaker, named, no_words}
 use Rattle.run_accepted.specs.Steps.{HasBraces, IsPlainCore}
 
 -- braces
@@ -82,25 +84,29 @@ none-behind : (a b : Bool) → (a || b) ≡ false → a ≡ false
 none-behind true b is = cc
 none-behind false b is = refl
 
--- a word that units have a part for is not `transparent`
-other_name : (word : Text) → is_unbuilt_word word ≡ false → same_core transparent.name (core_name_of word) ≡ false
+-- another word is not `transparent`
+other_name : (word : Text) → bytes_eq word (codes "transparent") ≡ false → same_core transparent.name (core_name_of word) ≡ false
 other_name word is =
     name_is (λ name. same_core transparent.name name ≡ false) (core_table []) _ word
-    (inr refl, (inr refl, (inr refl, (inr refl, (inr refl, (inr refl, (inl (none-behind (bytes_eq word (codes "transparent")) _ is), (inr refl, tt))))))))
+    (inr refl, (inr refl, (inr refl, (inr refl, (inr refl, (inr refl, (inl is, (inr refl, tt))))))))
     refl
 
--- each item is of an option that units have a part for
-abbrev AreBuilt : List Meta → Type 0
-AreBuilt items = AllByRecursion (λ item. is_unbuilt_word (word_of (path_of_meta item)) ≡ false) items
+-- each item is of another word
+abbrev AreOther : List Meta → Type 0
+AreOther items = AllByRecursion (λ item. bytes_eq (word_of (path_of_meta item)) (codes "transparent") ≡ false) items
+
+-- no item is of an option by which metas are read otherwise than field by field
+abbrev ArePlain : List Meta → Type 0
+ArePlain items = AllByRecursion (λ item. is_other_word (word_of (path_of_meta item)) ≡ false) items
 
 -- where no later item sets `transparent`, one of another word sets it no more
-none_more : (word : Text) (item : Meta) (later : List Span) → is_unbuilt_word word ≡ false → later ≡ []
+none_more : (word : Text) (item : Meta) (later : List Span) → bytes_eq word (codes "transparent") ≡ false → later ≡ []
     → cond (same_core transparent.name (core_name_of word)) (list_of (value_of (present_of item))) [] ++ later ≡ []
 none_more word item later is none =
     let P : Bool → Type 0 = λ test. cond test (list_of (value_of (present_of item))) [] ++ later ≡ [] in
     subst P (sym (other_name word is)) none
 
-input_sets_none : (items : List Meta) → AreBuilt items
+input_sets_none : (items : List Meta) → AreOther items
     → values (same_core transparent.name) present_of (core_items (outer_items (map fdi_named items))) ≡ []
 input_sets_none [] are = refl
 input_sets_none (item ∷ items) are =
@@ -112,14 +118,23 @@ input_sets_none (item ∷ items) are =
     outer_table _ word (inr later, (inr later, (inr later, tt)))
     (none_more word item _ are.0 later))
 
-pub input_is_plain : (rules : Rules) (decl : DeriveInput) → IsBuilt decl → IsPlainCore (options_of (fdi_reader rules decl) decl).base.container
+-- no word of either list is `transparent`
+first_word : (item : Meta) (rest : Bool) → (bytes_eq (word_of (path_of_meta item)) (codes "transparent") || rest) ≡ false
+    → bytes_eq (word_of (path_of_meta item)) (codes "transparent") ≡ false
+first_word item rest is = none-behind (bytes_eq (word_of (path_of_meta item)) (codes "transparent")) rest is
+
+pub input_is_plain : (rules : Rules) (decl : DeriveInput) → input_places decl ≡ [] → IsPlainCore (options_of (fdi_reader rules decl) decl).base.container
 input_is_plain rules decl built =
     record {
       braces = has_braces decl.body _ (named decl built);
-      alone = ap (first_of None) (input_sets_none (items (option_entries decl.attrs)) (no_words decl built));
+      alone =
+          let its = items (option_entries decl.attrs) in
+          ap (first_of None)
+          (input_sets_none its (each-weaker (λ item. is_unbuilt_word (word_of (path_of_meta item)) ≡ false)
+          (λ item. bytes_eq (word_of (path_of_meta item)) (codes "transparent") ≡ false) (λ item. first_word item _) its (no_words decl built)));
     }
 
-meta_sets_none : (items : List Meta) → AreBuilt items
+meta_sets_none : (items : List Meta) → AreOther items
     → values (same_core transparent.name) present_of (meta_core_items (map meta_named items)) ≡ []
 meta_sets_none [] are = refl
 meta_sets_none (item ∷ items) are =
@@ -131,6 +146,9 @@ meta_sets_none (item ∷ items) are =
 
 -- ---- the options of `FromMeta`
 
+plain_words : (decl : DeriveInput) → IsPlainDecl decl → ArePlain (items (option_entries decl.attrs))
+plain_words decl plain = recursion_from_All (λ item. is_other_word (word_of (path_of_meta item)) ≡ false) (items (option_entries decl.attrs)) plain.words
+
 module _ (rules : Rules) where
   -- a struct with braces keeps its fields
   pub struct_core : (core : Core) (it : «Data») → has_named_fields it ≡ true → core_with_body rules core it ≡ core_with core (good_fields rules core (body_fields it))
@@ -138,18 +156,22 @@ module _ (rules : Rules) where
   struct_core core (node.Enum it) is = cc
   struct_core core (node.Union it) is = cc
 
-  pub meta_core_is : (decl : DeriveInput) → IsBuilt decl
+  pub meta_core_is : (decl : DeriveInput) → IsPlainDecl decl
       → (options_of (meta_reader rules decl) decl).base
       ≡ core_with (container_options (meta_reader rules decl) decl).base
       (good_fields rules (container_options (meta_reader rules decl) decl).base (body_fields decl.body))
-  meta_core_is decl built = struct_core (container_options (meta_reader rules decl) decl).base decl.body (named decl built)
+  meta_core_is decl plain = struct_core (container_options (meta_reader rules decl) decl).base decl.body plain.braces
 
-  meta_is_plain : (decl : DeriveInput) → IsBuilt decl → IsPlainCore (options_of (meta_reader rules decl) decl).base
-  meta_is_plain decl built =
-      subst IsPlainCore (sym (meta_core_is decl built))
+  meta_is_plain : (decl : DeriveInput) → IsPlainDecl decl → IsPlainCore (options_of (meta_reader rules decl) decl).base
+  meta_is_plain decl plain =
+      subst IsPlainCore (sym (meta_core_is decl plain))
       (record {
-        braces = has_braces decl.body _ (named decl built);
-        alone = ap (first_of None) (meta_sets_none (items (option_entries decl.attrs)) (no_words decl built));
+        braces = has_braces decl.body _ plain.braces;
+        alone =
+            let its = items (option_entries decl.attrs) in
+            ap (first_of None)
+            (meta_sets_none its (each-weaker (λ item. is_other_word (word_of (path_of_meta item)) ≡ false)
+            (λ item. bytes_eq (word_of (path_of_meta item)) (codes "transparent") ≡ false) (λ item. first_word item _) its (plain_words decl plain)));
       })
 
 -- ---- what is called
@@ -158,17 +180,15 @@ none-rest : (a b : Bool) → (a || b) ≡ false → b ≡ false
 none-rest true b is = cc
 none-rest false b is = is
 
--- a word that units have a part for is of no option that names a callable
+-- such a word is of no option that names a callable
 record CallsNothing (word : Text) : Type 0 where
   word_option : same_meta from_word.name (meta_name_of word) ≡ false
   none_option : same_meta from_none.name (meta_name_of word) ≡ false
   expr_option : same_meta from_expr.name (meta_name_of word) ≡ false
 
-calls_nothing : (word : Text) → is_unbuilt_word word ≡ false → CallsNothing word
+calls_nothing : (word : Text) → is_other_word word ≡ false → CallsNothing word
 calls_nothing word is =
-    let after_transparent = none-rest (bytes_eq word (codes "transparent")) _ is in
-    let after_supports = none-rest (bytes_eq word (codes "supports")) _ after_transparent in
-    let at_word = none-rest (bytes_eq word (codes "from_ident")) _ after_supports in
+    let at_word = none-rest (bytes_eq word (codes "transparent")) _ is in
     let at_none = none-rest (bytes_eq word (codes "from_word")) _ at_word in
     let at_expr = none-rest (bytes_eq word (codes "from_none")) _ at_none in
     record {
@@ -187,8 +207,8 @@ calls_nothing word is =
     }
 
 module _ {A : Type 0} (name : MetaName) (read : Meta → Outcome A)
-    (other : (word : Text) → is_unbuilt_word word ≡ false → same_meta name (meta_name_of word) ≡ false) where
-  option_unset : (items : List Meta) → AreBuilt items → values (same_meta name) read (map meta_named items) ≡ []
+    (other : (word : Text) → is_other_word word ≡ false → same_meta name (meta_name_of word) ≡ false) where
+  option_unset : (items : List Meta) → ArePlain items → values (same_meta name) read (map meta_named items) ≡ []
   option_unset [] are = refl
   option_unset (item ∷ items) are =
       ap (λ test. cond test (list_of (value_of (read item))) [] ++ values (same_meta name) read (map meta_named items)) (other (word_of (path_of_meta item)) are.0)
@@ -213,18 +233,18 @@ left_is_plain left core same plain = (has_named core.ident left.body core.body s
 
 -- ---- the unit of `FromMeta`
 
-pub meta_is_listed : (rules : Rules) (decl : DeriveInput) (left : FromMetaImpl) → IsBuilt decl → IsMetaImpl left (options_of (meta_reader rules decl) decl)
+pub meta_is_listed : (rules : Rules) (decl : DeriveInput) (left : FromMetaImpl) → IsPlainDecl decl → IsMetaImpl left (options_of (meta_reader rules decl) decl)
     → IsListed left
-meta_is_listed rules decl left built is =
+meta_is_listed rules decl left plain is =
     let its = items (option_entries decl.attrs) in
-    let are = no_words decl built in
+    let are = plain_words decl plain in
     let options = options_of (meta_reader rules decl) decl in
     let unset : options.from_word ≡ None =
     ap (first_of None) (option_unset from_word.name from_word.read (λ word not. (calls_nothing word not).word_option) its are) in
     let worded : body_word options.base.body ≡ None =
-    ap (λ (core : Core). body_word core.body) (meta_core_is rules decl built) ∙ no_word decl.body _ in
+    ap (λ (core : Core). body_word core.body) (meta_core_is rules decl plain) ∙ no_word decl.body _ in
     record {
-      plain = left_is_plain left.base options.base is.base (meta_is_plain rules decl built);
+      plain = left_is_plain left.base options.base is.base (meta_is_plain rules decl plain);
       word = is.word ∙ ap (λ set. option_or set (body_word options.base.body)) unset ∙ worded;
       none = is.none ∙ ap (first_of None) (option_unset from_none.name from_none.read (λ word not. (calls_nothing word not).none_option) its are);
       expr = is.expr ∙ ap (first_of None) (option_unset from_expr.name from_expr.read (λ word not. (calls_nothing word not).expr_option) its are);

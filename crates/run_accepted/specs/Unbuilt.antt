@@ -27,6 +27,20 @@ use Rattle.run_accepted.specs.declared.derives.Derived.{Derived}
 abbrev pub place_if : Bool → Span → List Span
 place_if test span = if test then span ∷ [] else []
 
+-- derives
+
+-- units are made of these derives
+abbrev pub is_compiled : Derive → Bool
+is_compiled derive.FromMeta = true
+is_compiled derive.FromAttributes = false
+is_compiled derive.FromDeriveInput = true
+is_compiled derive.FromField = false
+is_compiled derive.FromTypeParam = false
+is_compiled derive.FromVariant = false
+
+abbrev pub derive_places : Derived → List Span
+derive_places it = if is_compiled it.derive then [] else it.span ∷ []
+
 -- bodies
 
 abbrev pub are_named : Fields → Bool
@@ -44,33 +58,11 @@ has_named_fields (body.Union it) = false
 abbrev pub body_places : DeriveInput → List Span
 body_places decl = if has_named_fields decl.body then [] else decl.ident.span ∷ []
 
--- derives
-
--- units are made of these derives
-abbrev pub is_compiled : Derive → Bool
-is_compiled derive.FromMeta = true
-is_compiled derive.FromAttributes = false
-is_compiled derive.FromDeriveInput = true
-is_compiled derive.FromField = false
-is_compiled derive.FromTypeParam = false
-is_compiled derive.FromVariant = false
-
-abbrev pub derive_places : Derived → List Span
-derive_places it = if is_compiled it.derive then [] else it.span ∷ []
-
 -- options of the declaration itself
 
--- the words of the options that no unit has a part for
+-- the words of the options of `FromDeriveInput` that no unit has a part for
 abbrev pub unbuilt_words : List (List ℕ)
-unbuilt_words =
-    codes "transparent"
-    ∷ codes "supports"
-    ∷ codes "from_ident"
-    ∷ codes "from_word"
-    ∷ codes "from_none"
-    ∷ codes "from_expr"
-    ∷ codes "derive_syn_parse"
-    ∷ []
+unbuilt_words = codes "transparent" ∷ codes "supports" ∷ codes "from_ident" ∷ []
 
 abbrev pub is_unbuilt_word : List ℕ → Bool
 is_unbuilt_word word = list_any (bytes_eq word) unbuilt_words
@@ -94,23 +86,24 @@ name_places (Some ident) = place_if (is_part_name (ident_text ident)) ident.span
 abbrev pub field_places : Field → List Span
 field_places field = name_places field.ident
 
+-- declarations
+
+-- where items of a text can't be read as the declaration: its body, its options, its fields
+abbrev pub input_places : DeriveInput → List Span
+input_places decl =
+    body_places decl ++ flat_map option_places (items (option_entries decl.attrs)) ++ flat_map field_places (body_fields decl.body)
+
 -- `FromDeriveInput` is among the derives
 abbrev pub derives_input : List Derived → Bool
 derives_input derives = list_any (λ it. is_input it.derive) derives
 
--- where `FromDeriveInput` is derived, the fields that take a part of the item
-abbrev pub part_places : List Derived → «Data» → List Span
-part_places derives it = if derives_input derives then flat_map field_places (body_fields it) else []
+-- the same, where they are to be read as it
+abbrev pub places_under : List Derived → DeriveInput → List Span
+places_under derives decl = if derives_input derives then input_places decl else []
 
--- declarations
-
--- where a declaration is of a form that no run reads yet: its body, its derives, its options, its fields
+-- where a declaration is of a form that no run reads yet: its derives, and what stands against reading items of a text as it
 abbrev pub unbuilt_in : DeriveInput → List Span
-unbuilt_in decl =
-    body_places decl
-    ++ flat_map derive_places (derives_of decl.attrs)
-    ++ flat_map option_places (items (option_entries decl.attrs))
-    ++ part_places (derives_of decl.attrs) decl.body
+unbuilt_in decl = flat_map derive_places (derives_of decl.attrs) ++ places_under (derives_of decl.attrs) decl
 
 -- the same of declarations in order
 abbrev pub unbuilt : List DeriveInput → List Span
@@ -119,3 +112,9 @@ unbuilt decls = flat_map unbuilt_in decls
 -- each form that the declaration has can be run
 abbrev pub IsBuilt : DeriveInput → Type 0
 IsBuilt decl = unbuilt_in decl ≡ []
+
+-- where it derives this, it can be run so
+abbrev pub IsBuiltUnder : DeriveInput → Derive → Type 0
+IsBuiltUnder decl derive.FromMeta = Unit {0}
+IsBuiltUnder decl derive.FromDeriveInput = input_places decl ≡ []
+IsBuiltUnder decl _ = ⊥

@@ -15,9 +15,9 @@ use tok_types::Span;
 
 /// Where the declarations have forms that no run reads yet.
 ///
-/// Of each declaration these are, in this order: its name, where it is no struct with braces; each derive but `FromMeta`
-/// and `FromDeriveInput`; each item of its own options `transparent`, `supports`, `from_ident`, `from_word`, `from_none`,
-/// `from_expr` and `derive_syn_parse`; and under `FromDeriveInput` each field that takes a part of the item, as `ident`.
+/// Of each declaration these are, in this order: each derive but `FromMeta` and `FromDeriveInput`; and under
+/// `FromDeriveInput` its name, where it is no struct with braces, each item of its own options `transparent`, `supports` and
+/// `from_ident`, and each field that takes a part of the item, as `ident`.
 pub fn unbuilt(alloc: Global, decls: &[DeriveInput]) -> Mem<Items<Span>>
     ensures places { IfOk result (λ it. it ≡ spec.unbuilt decls.now) }
     ensures none { IfOk result (λ it. it ≡ [] → All spec.IsBuilt decls.now) }
@@ -42,10 +42,28 @@ fn push_unbuilt(alloc: Global, decl: &DeriveInput, spans: &mut Items<Span>) -> M
     ensures { OnOk result (spans.new ≡ spans.old ++ spec.unbuilt_in decl.now) }
 {
     let derives = derives_of(alloc, decl.attrs.as_slice())?;
-    push_body(decl, spans)?;
     push_derives(derives.as_slice(), spans)?;
+    if derives_input(derives.as_slice()) {
+        return push_input(alloc, decl, spans);
+    }
+    Ok(())
+}
+
+fn derives_input(derives: &[Derived]) -> bool
+    ensures { result ≡ spec.derives_input derives.now }
+{
+    derives
+        .iter()
+        .any(|it| it.derive == Derive::FromDeriveInput)
+}
+
+/// Adds the places where items of a text can't be read as the declaration.
+fn push_input(alloc: Global, decl: &DeriveInput, spans: &mut Items<Span>) -> Mem<()>
+    ensures { OnOk result (spans.new ≡ spans.old ++ spec.input_places decl.now) }
+{
+    push_body(decl, spans)?;
     push_options(alloc, decl.attrs.as_slice(), spans)?;
-    push_parts(derives.as_slice(), &decl.body, spans)
+    push_parts(&decl.body, spans)
 }
 
 /// Adds the place of the name, where the body is no struct with braces.

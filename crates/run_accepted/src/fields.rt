@@ -5,28 +5,15 @@ ghost use Rattle.tok_types.specs.Ident.{ident_text};
 ghost use Rattle.options_rows.specs.Members.{body_fields};
 ghost use Rattle.run_accepted.specs.Unbuilt as spec;
 
-use crate::Derived;
 use base_core::{Items, Mem};
-use codegen_program::Derive;
 use node_core::{Data, Field};
 use tok_types::{Ident, Span};
 
-/// Adds the names of the fields that take a part of the item, where `FromDeriveInput` is derived.
-pub(crate) fn push_parts(derives: &[Derived], body: &Data, spans: &mut Items<Span>) -> Mem<()>
-    ensures { OnOk result (spans.new ≡ spans.old ++ spec.part_places derives.now body.now) }
+/// Adds the names of the fields that take a part of the item.
+pub(crate) fn push_parts(body: &Data, spans: &mut Items<Span>) -> Mem<()>
+    ensures { OnOk result (spans.new ≡ spans.old ++ flat_map spec.field_places (body_fields body.now)) }
 {
-    if derives_input(derives) {
-        return push_fields(body_fields(body), spans);
-    }
-    Ok(())
-}
-
-fn derives_input(derives: &[Derived]) -> bool
-    ensures { result ≡ spec.derives_input derives.now }
-{
-    derives
-        .iter()
-        .any(|it| it.derive == Derive::FromDeriveInput)
+    push_fields(body_fields(body), spans)
 }
 
 /// The fields of a struct.

@@ -62,14 +62,5 @@ fn push_item(item: &Meta, spans: &mut Items<Span>) -> Mem<()>
 fn is_unbuilt_word(word: &str) -> bool
     ensures { result ≡ spec.is_unbuilt_word word.now }
 {
-    matches!(
-        word,
-        "transparent"
-            | "supports"
-            | "from_ident"
-            | "from_word"
-            | "from_none"
-            | "from_expr"
-            | "derive_syn_parse"
-    )
+    matches!(word, "transparent" | "supports" | "from_ident")
 }

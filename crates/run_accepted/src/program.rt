@@ -1,10 +1,10 @@
 //! Declarations compiled to a program.
 
-ghost use Rattle.std.specs.Prelude.{◌≡◌, ◌≤◌, ◌<◌, ◌^◌, ◌++◌, ◌∷◌, [], true, length, map, List, IfOk};
+ghost use Rattle.std.specs.Prelude.{◌≡◌, ◌≤◌, ◌<◌, ◌^◌, ◌++◌, ◌∷◌, [], length, map, List, IfOk};
 ghost use Rattle.std.specs.List.{All};
 ghost use Rattle.run_accepted.specs.Attributes.{without_attributes};
 ghost use Rattle.run_accepted.specs.Derives.{derives_of};
-ghost use Rattle.run_accepted.specs.Unbuilt.{IsBuilt, is_compiled};
+ghost use Rattle.run_accepted.specs.Unbuilt.{IsBuilt, IsBuiltUnder};
 ghost use Rattle.run_accepted.specs.Compiled as spec;
 ghost use Rattle.run_accepted.specs.Pairs.{Pair, pair, pairs_from, pairs_of};
 ghost use Rattle.run_accepted.specs.Steps as steps;
@@ -95,8 +95,7 @@ fn push_unit(
     table: &RenameTable,
     units: &mut Items<Unit>,
 ) -> Result<(), CompileFail>
-    requires built { IsBuilt decl.now }
-    requires compiled { is_compiled derive ≡ true }
+    requires { IsBuiltUnder decl.now derive }
     ensures { (before : List Pair) → steps.AreUnits table.now before units.old
         → steps.Leaves table.now (before ++ pair number decl.now derive ∷ []) units.new result }
 {

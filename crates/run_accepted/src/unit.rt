@@ -1,8 +1,8 @@
 //! What one derive of a declaration compiles to.
 
-ghost use Rattle.std.specs.Prelude.{◌≡◌, ◌<◌, ◌^◌, ◌↔◌, true, length, IsTrue, IfOk};
+ghost use Rattle.std.specs.Prelude.{◌≡◌, ◌<◌, ◌^◌, ◌↔◌, [], length, IsTrue, IfOk};
 ghost use Rattle.codegen_core.specs.Compiled.{fields_of};
-ghost use Rattle.run_accepted.specs.Unbuilt.{IsBuilt, is_compiled};
+ghost use Rattle.run_accepted.specs.Unbuilt.{IsBuiltUnder, input_places};
 ghost use Rattle.run_accepted.specs.Compiled as spec;
 ghost use Rattle.run_accepted.specs.Steps as steps;
 
@@ -25,8 +25,7 @@ pub(crate) fn unit_under(
     derive: Derive,
     table: &RenameTable,
 ) -> Result<Unit, CompileFail>
-    requires built { IsBuilt decl.now }
-    requires compiled { is_compiled derive ≡ true }
+    requires { IsBuiltUnder decl.now derive }
     ensures { steps.MakesUnit table.now number decl.now derive result }
 {
     match derive {
@@ -57,7 +56,7 @@ fn input_unit(
     number: u32,
     table: &RenameTable,
 ) -> Result<Unit, CompileFail>
-    requires { IsBuilt decl.now }
+    requires { input_places decl.now ≡ [] }
     ensures { steps.MakesUnit table.now number decl.now Derive.FromDeriveInput result }
 {
     match FdiOptions::new(alloc, decl, table) {
