@@ -1,5 +1,5 @@
 -- What is accepted can be run, as options leave it.
-use Rattle.std.proofs.Common.{◌≡◌, ◌∙◌, ℕ, Bool, true, List, [], ◌∷◌, map, Some, None, option_map, slice_get, IsTrue, All, refl, sym, ap, subst}
+use Rattle.std.proofs.Common.{◌≡◌, ◌∙◌, ℕ, Bool, true, List, [], map, Some, None, option_map, slice_get, IsTrue, All, refl, sym, ap, subst}
 use Rattle.std.specs.List.{AllByRecursion}
 use Rattle.std.proofs.lemmas.List.Elements.{recursion_from_All}
 use Rattle.std.proofs.lemmas.Option.{slice_get-map}
@@ -10,7 +10,6 @@ use Rattle.node_core.specs.declared.data.«Data».{«Data»}
 use Rattle.node_core.specs.declared.data.«Data».TheVariants as body
 use Rattle.node_core.specs.declared.derive.DeriveInput.{DeriveInput}
 use Rattle.codegen_core.specs.Compiled.{compiled_list}
-use Rattle.codegen_program.specs.declared.program.Derive.TheVariants as derive
 use Rattle.codegen_program.specs.declared.program.Program.{Program}
 use Rattle.meaning_core.specs.HostSays.{HostSays}
 use Rattle.meaning_core.specs.Decls.{member_name}
@@ -19,25 +18,28 @@ use Rattle.law_asks.specs.Places.{earliest, earliest_of}
 use Rattle.law_asks.specs.Refusals.{first_in_text}
 use Rattle.law_asks.specs.Units.{is_receiver}
 use Rattle.law_asks.specs.MachineFormsRefusals.{Refusals}
-use Rattle.law_asks.specs.Unsupported.{Unsupported}
+use Rattle.codegen_core.specs.declared.form.Unsupported.{Unsupported}
 use Rattle.law_asks.specs.Unfitness.{refusals}
 use Rattle.meaning_core.specs.Decl.{Decl}
 use Rattle.machine_steps.specs.Machine.{unit_type}
 use Rattle.run_accepted.specs.Attributes.{without_attributes}
 use Rattle.run_source.specs.Members.{body_fields}
 use Rattle.node_core.specs.Bodies.{field_list}
-use Rattle.run_source.specs.Stages.{meta_reader, options_of}
-use Rattle.run_accepted.specs.Unbuilt.{IsBuilt, are_named, has_named_fields}
+use Rattle.machine_steps.specs.Receivers.{variants_of}
+use Rattle.run_source.specs.Stages.{container_options, meta_reader, options_of}
+use Rattle.run_accepted.specs.Plain.{IsPlainDecl}
+use Rattle.run_accepted.specs.Unbuilt.{are_named, has_named_fields}
 use Rattle.run_source.specs.Values.{Rules}
-use Rattle.run_accepted.proofs.BuiltLemmas.{named}
+use Rattle.run_accepted.proofs.BuiltLemmas.{input_built}
 use Rattle.run_accepted.specs.Accepted.{IsAccepted}
 use Rattle.run_accepted.proofs.FitLemmas.{no_rows}
 use Rattle.run_accepted.proofs.PlainLemmas.{listed_unit, meta_is_listed}
 use Rattle.run_accepted.proofs.ListLemmas.{at_place}
 use Rattle.run_accepted.proofs.PlaceLemmas.{none_first}
-use Rattle.law_options.specs.Meant.{meant_items}
-use Rattle.law_options.specs.Texts.{input_decl, item_decls}
-use Rattle.law_options.proofs.Declared.{input_options_are, item_options_are}
+use Rattle.law_options.specs.Meant.{meant_decl}
+use Rattle.law_options.specs.Texts.{input_decl, meta_decls}
+use Rattle.law_options.proofs.Declared.{decl_is, input_options_are, meta_own, meta_whole_is}
+use Rattle.law_options.proofs.Metas.{plain_meant}
 use Rattle.law_options.proofs.Idents.{no_ident}
 use Rattle.law_asks.specs.Compiles.{IsInputUnit}
 use Rattle.law_asks.specs.LawFitsClaims.{AreSound, has_names}
@@ -87,7 +89,7 @@ named_are (body.Struct it) named have = listed_are it.fields named have
 named_are (body.Enum it) named have = absurd cc
 named_are (body.Union it) named have = absurd cc
 
-module _ (host : HostSays) (rules : Rules) (decls : List DeriveInput) (program : Program) (built : All IsBuilt decls) (idents : All HasTextFields decls)
+module _ (host : HostSays) (rules : Rules) (decls : List DeriveInput) (program : Program) (plain : All IsPlainDecl decls) (idents : All HasTextFields decls)
     (is : IsAccepted host rules decls program) where
   known : ((refusals host program).unknown_types ≡ []) × ((refusals host program).unknown_callables ≡ [])
   known = none_unknown (refusals host program) is.fits
@@ -98,7 +100,7 @@ module _ (host : HostSays) (rules : Rules) (decls : List DeriveInput) (program :
 
   module _ (number : ℕ) (decl : DeriveInput) (stands : slice_get decls number ≡ Some decl) where
     is_named : has_named_fields decl.body ≡ true
-    is_named = named decl (at_place IsBuilt decls number decl built stands)
+    is_named = (at_place IsPlainDecl decls number decl plain stands).braces
 
     have_idents : AllByRecursion IsTextField (body_fields decl.body)
     have_idents = named_are decl.body is_named (at_place HasTextFields decls number decl idents stands)
@@ -107,20 +109,21 @@ module _ (host : HostSays) (rules : Rules) (decls : List DeriveInput) (program :
     names_differ = members_differ decls is.sound.single number decl stands is_named have_idents
 
   -- items are read as a declaration that can be run
-  items_sound : AreSound host program (item_decls rules decls)
+  items_sound : AreSound host program (meta_decls rules decls)
   items_sound number it found =
       let (made, same) = item_made rules decls program.units is.sound.options is.sound.compiled.units number it found in
       let decl = made.decl in
-      let meant = meant_items number (derive.FromMeta ∷ []) (options_of (meta_reader rules decl) decl) in
+      let options = options_of (meta_reader rules decl) decl in
+      let meant = meant_decl number [] options.base in
       let bare = bare_at number decl made.stands in
       let whole = items_are rules number decl (is_named number decl made.stands) (have_idents number decl made.stands) (names_differ number decl made.stands) made.faultless in
       let (left, left_is, compiled) = made.made in
-      let listed = compiled ∙ listed_unit left number (meta_is_listed rules decl left (at_place IsBuilt decls number decl built made.stands) left_is) in
+      let is_listed = meta_is_listed rules decl left (at_place IsPlainDecl decls number decl plain made.stands) left_is in
+      let listed = compiled ∙ listed_unit left number is_listed in
       let met =
       items_are_met host program made.unit meant (without_attributes decl) left made.among made.numbered (listed ∙ ap (compiled_list left) (sym made.numbered))
-      (item_options_are rules decl left number (derive.FromMeta ∷ []) left_is) known.0 known.1 bare whole in
-      let P : Decl → Type 0 = λ some. (some.number ≡ number) × IsSound host program some true in
-      subst P (sym same) (refl, sound_by host program (without_attributes decl) meant true bare whole met)
+      (decl_is left.base options.base number [] left_is.base (meta_whole_is rules (container_options (meta_reader rules decl) decl).base decl.body (meta_own rules decl) refl)) known.0 known.1 bare whole in
+      (meant, same ∙ plain_meant left options left_is is_listed number (variants_of decl.body), refl, sound_by host program (without_attributes decl) meant true bare whole met)
 
   -- items of a text are read as a declaration that can be run
   input_sound : (number : ℕ) (decl : DeriveInput) → slice_get decls number ≡ Some decl → IsTrue (is_receiver program.units number)
@@ -132,10 +135,11 @@ module _ (host : HostSays) (rules : Rules) (decls : List DeriveInput) (program :
       let bare = bare_at number own made.stands in
       let whole = input_is rules number own (is_named number own made.stands) (have_idents number own made.stands) (names_differ number own made.stands) made.faultless in
       let (left, left_is, compiled) = made.made in
+      let input = input_built own (at_place IsPlainDecl decls number own plain made.stands).built (made.derives refl) in
       let unit_is : IsInputUnit made.unit meant = (
         left,
         compiled,
-        input_options_are rules own left number (derive.FromDeriveInput ∷ []) left_is (left_is.ident ∙ no_ident rules own (at_place IsBuilt decls number own built made.stands)),
+        input_options_are rules own left number left_is (left_is.ident ∙ no_ident rules own input),
         ap unit_type compiled ∙ ap (λ ident. named_type ident.text) left_is.base.ident,
       ) in
       let met =
@@ -144,10 +148,10 @@ module _ (host : HostSays) (rules : Rules) (decls : List DeriveInput) (program :
       subst P (two_at decls number own decl made.stands stands) (sound_by host program (without_attributes own) meant (has_names meant.attributes) bare whole met)
 
   all_sound : AreNamed program.decls
-      × AreSound host program (item_decls rules decls)
+      × AreSound host program (meta_decls rules decls)
       × ((number : ℕ) (decl : DeriveInput) → slice_get decls number ≡ Some decl → IsTrue (is_receiver program.units number)
       → IsSound host program (input_decl rules number decl) (has_names (input_decl rules number decl).attributes))
   all_sound = (subst AreNamed (sym is.sound.compiled.bare) (names_are decls is.sound.single), items_sound, input_sound)
 
 pub accepted_is_sound : AcceptedIsSound
-accepted_is_sound host rules decls program built idents is = all_sound host rules decls program built idents is
+accepted_is_sound host rules decls program plain idents is = all_sound host rules decls program plain idents is

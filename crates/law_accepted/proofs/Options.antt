@@ -14,7 +14,6 @@ use Rattle.node_core.specs.declared.derive.DeriveInput.{DeriveInput}
 use Rattle.node_make.specs.PathText.{path_text}
 use Rattle.error_fault.specs.Outcome.{Value, faults_of, on_value, settle, value_of}
 use Rattle.error_fault.specs.declared.fault.Fault.{Fault}
-use Rattle.codegen_program.specs.declared.program.Derive.{Derive}
 use Rattle.codegen_program.specs.declared.program.Derive.TheVariants as derive
 use Rattle.meaning_core.specs.Decls.{member_name}
 use Rattle.meaning_core.specs.Made.{named_type}
@@ -34,7 +33,7 @@ use Rattle.run_accepted.specs.Unbuilt.{are_named, has_named_fields}
 use Rattle.run_accepted.proofs.PlainLemmas.{struct_core}
 use Rattle.run_source.specs.Values.{Rules}
 use Rattle.run_source.specs.Walk.{all_faults}
-use Rattle.law_options.specs.Meant.{fields_in, meant_decl, meant_field, meant_items}
+use Rattle.law_options.specs.Meant.{fields_in, meant_decl, meant_field}
 use Rattle.law_options.specs.Texts.{input_decl}
 use Rattle.law_asks.specs.Sound.{Differ, IsFieldOf, named_fields, named_of}
 use Rattle.law_asks.specs.Asked.{IsOf}
@@ -105,9 +104,9 @@ kept (body.Union it) goods is = cc
 
 module _ (decl : DeriveInput) (named : has_named_fields decl.body ≡ true) (have : AllByRecursion IsTextField (body_fields decl.body)) (differ : Differ (map member_name (body_fields decl.body))) where
   -- what a container means that keeps the fields of the declaration
-  pub meant_is : (number : ℕ) (derives : List Derive) (names : List Text) (core : Core) (goods : List InputField) → core.ident ≡ decl.ident
-      → core.body ≡ with_fields (start_body decl.body) goods → AllZip Keeps (body_fields decl.body) goods → IsOf (without_attributes decl) (meant_decl number derives names core)
-  meant_is number derives names core goods ident same keep =
+  pub meant_is : (number : ℕ) (names : List Text) (core : Core) (goods : List InputField) → core.ident ≡ decl.ident
+      → core.body ≡ with_fields (start_body decl.body) goods → AllZip Keeps (body_fields decl.body) goods → IsOf (without_attributes decl) (meant_decl number names core)
+  meant_is number names core goods ident same keep =
       let bare : List Field = map field_without (body_fields decl.body) in
       let fields_same : fields_in core.body ≡ goods = ap fields_in same ∙ kept decl.body goods named in
       let are : AllZip IsFieldOf bare (map meant_field (fields_in core.body)) =
@@ -149,15 +148,15 @@ module _ (rules : Rules) (number : ℕ) (decl : DeriveInput) (named : has_named_
       let core = set.base.container in
       let goods = good_fields rules core (body_fields decl.body) in
       let whole = options_of (fdi_reader rules decl) decl in
-      meant_is decl named have differ number (derive.FromDeriveInput ∷ []) (map path_text whole.base.attr_names.0) whole.base.container goods refl refl
+      meant_is decl named have differ number (map path_text whole.base.attr_names.0) whole.base.container goods refl refl
       (goods_are rules core (body_fields decl.body) (no_field_faults (fdi_reader rules decl) decl none))
 
-  pub items_are : faults_under rules decl derive.FromMeta ≡ [] → IsOf (without_attributes decl) (meant_items number (derive.FromMeta ∷ []) (options_of (meta_reader rules decl) decl))
+  pub items_are : faults_under rules decl derive.FromMeta ≡ [] → IsOf (without_attributes decl) (meant_decl number [] (options_of (meta_reader rules decl) decl).base)
   items_are none =
       let set = container_options (meta_reader rules decl) decl in
       let core = set.base in
       let goods = good_fields rules core (body_fields decl.body) in
       let whole = options_of (meta_reader rules decl) decl in
       let same = struct_core rules core decl.body named in
-      meant_is decl named have differ number (derive.FromMeta ∷ []) [] whole.base goods (ap (λ (core : Core). core.ident) same) (ap (λ (core : Core). core.body) same)
+      meant_is decl named have differ number [] whole.base goods (ap (λ (core : Core). core.ident) same) (ap (λ (core : Core). core.body) same)
       (goods_are rules core (body_fields decl.body) (no_field_faults (meta_reader rules decl) decl none))

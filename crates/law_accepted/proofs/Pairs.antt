@@ -1,47 +1,33 @@
 -- Declarations with their derives: those whose options have no faults, and the units that are made of them.
-use Rattle.std.proofs.Common.{◌≡◌, ◌∙◌, ◌==◌, ◌&&◌, ℕ, zero, suc, Bool, true, false, List, [], ◌∷◌, flat_map, slice_get, Option, Some, None, if◌then◌else◌, IsTrue, All, Contains, refl, sym, subst₂, eqb-true}
-use Rattle.std.specs.List.{AllByRecursion, AllZip}
-use Rattle.std.specs.Option.{option_or}
+use Rattle.std.proofs.Common.{◌≡◌, ◌∙◌, ◌==◌, ◌&&◌, ℕ, zero, suc, Bool, true, false, List, [], ◌∷◌, flat_map, slice_get, Some, None, if◌then◌else◌, IsTrue, All, Contains, refl, sym, subst₂, eqb-true}
+use Rattle.std.specs.List.{AllZip}
 use Rattle.std.proofs.lemmas.Bool.{and_parts}
 use Rattle.std.proofs.lemmas.List.Elements.{All-from_recursion}
 use Rattle.std.proofs.lemmas.Option.{none-some, same_Some}
 use Rattle.node_core.specs.declared.derive.DeriveInput.{DeriveInput}
-use Rattle.error_fault.specs.declared.fault.Fault.{Fault}
 use Rattle.codegen_program.specs.declared.program.Derive.{Derive}
 use Rattle.codegen_program.specs.declared.program.Derive.TheVariants as derive
 use Rattle.codegen_program.specs.declared.program.«Unit».{«Unit» as Unit'}
 use Rattle.codegen_program.specs.Traits.{is_input}
 use Rattle.law_asks.specs.Units.{is_of, is_receiver}
-use Rattle.meaning_core.specs.Decl.{Decl}
+use Rattle.meaning_core.specs.Receivers.{MetaDecl}
 use Rattle.meaning_core.specs.Declarations.{meta_decl}
 use Rattle.run_accepted.specs.Compiled.{IsUnit, IsUnitUnder}
-use Rattle.run_accepted.specs.Pairs.{Pair, faults_under, pair, pairs_from, rejected, rejected_with}
+use Rattle.run_accepted.specs.Derives.{derives_of}
+use Rattle.run_accepted.specs.Pairs.{Pair, faults_under, pair, pairs_from, rejected}
+use Rattle.run_accepted.specs.Unbuilt.{derives_input}
 use Rattle.run_source.specs.Stages.{meta_reader, options_of}
 use Rattle.run_source.specs.Values.{Rules}
-use Rattle.run_accepted.specs.declared.rejected.Rejected.{Rejected}
-use Rattle.law_options.specs.Meant.{meant_items}
-use Rattle.law_options.specs.Texts.{item_decls, pair_decls}
+use Rattle.machine_steps.specs.Receivers.{variants_of}
+use Rattle.law_options.specs.Meant.{meant_meta}
+use Rattle.law_options.specs.Texts.{meta_decls, pair_decls}
 use Rattle.run_accepted.proofs.ListLemmas.{at_place, opposite}
 use Rattle.run_accepted.proofs.UnitLemmas.{Stands, all_stand, derive_is, number_is}
-use Rattle.run_source.proofs.ReceiverLemmas.{first_passes}
+use Rattle.law_options.proofs.Clear.{IsFaultless, each_faultless}
+use Rattle.run_source.proofs.ReceiverLemmas.{Derives, all_derive, first_passes}
 use Rattle.law_accepted.proofs.Lists.{contained}
 
 -- ---- pairs
-
--- nothing is wrong with the options of a pair
-abbrev IsFaultless : Rules → Pair → Type 0
-IsFaultless rules it = faults_under rules it.decl it.derive ≡ []
-
-none_with : (decl : DeriveInput) (derive : Derive) (faults : List Fault) (later : Option Rejected) → option_or (rejected_with decl derive faults) later ≡ None
-    → (faults ≡ []) × (later ≡ None)
-none_with decl derive [] later none = (refl, none)
-none_with decl derive (fault ∷ more) later none = absurd cc
-
-each_faultless : (rules : Rules) (pairs : List Pair) → rejected rules pairs ≡ None → AllByRecursion (IsFaultless rules) pairs
-each_faultless rules [] none = tt
-each_faultless rules (it ∷ pairs) none =
-    let both = none_with it.decl it.derive (faults_under rules it.decl it.derive) (rejected rules pairs) none in
-    (both.0, each_faultless rules pairs both.1)
 
 all_faultless : (rules : Rules) (pairs : List Pair) → rejected rules pairs ≡ None → All (IsFaultless rules) pairs
 all_faultless rules pairs none = All-from_recursion (IsFaultless rules) pairs (each_faultless rules pairs none)
@@ -52,6 +38,7 @@ all_faultless rules pairs none = All-from_recursion (IsFaultless rules) pairs (e
 pub record IsMade (rules : Rules) (decls : List DeriveInput) (units : List Unit') (number : ℕ) (under : Derive) : Type 0 where
   pub decl : DeriveInput
   pub stands : slice_get decls number ≡ Some decl
+  pub derives : is_input under ≡ true → derives_input (derives_of decl.attrs) ≡ true
   pub faultless : faults_under rules decl under ≡ []
   pub unit : Unit'
   pub among : Contains units unit
@@ -76,14 +63,14 @@ module _ (rules : Rules) where
   -- ---- items
 
   -- the pair is of this number, and what its options mean under `FromMeta` is the declaration
-  abbrev IsItem : ℕ → Decl → Pair → Type 0
+  abbrev IsItem : ℕ → MetaDecl → Pair → Type 0
   IsItem number found it =
-      (it.number ≡ number) × (it.derive ≡ derive.FromMeta) × (found ≡ meant_items it.number (derive.FromMeta ∷ []) (options_of (meta_reader rules it.decl) it.decl))
+      (it.number ≡ number) × (it.derive ≡ derive.FromMeta) × (found ≡ meant_meta it.number (variants_of it.decl.body) (options_of (meta_reader rules it.decl) it.decl))
 
-  module _ (number : ℕ) (found : Decl) where
+  module _ (number : ℕ) (found : MetaDecl) where
     chosen : (at : ℕ) (decl : DeriveInput) (unit : Unit') (pairs : List Pair) (units : List Unit') (test : Bool) → (at == number) ≡ test
         → IsUnitUnder rules at decl derive.FromMeta unit
-        → (if test && true then Some (meant_items at (derive.FromMeta ∷ []) (options_of (meta_reader rules decl) decl)) else meta_decl (flat_map (pair_decls rules) pairs) number)
+        → (if test then Some (meant_meta at (variants_of decl.body) (options_of (meta_reader rules decl) decl)) else meta_decl (flat_map (pair_decls rules) pairs) number)
         ≡ Some found
         → (meta_decl (flat_map (pair_decls rules) pairs) number ≡ Some found → IsAt rules pairs units (IsItem number found))
         → IsAt rules (pair at decl derive.FromMeta ∷ pairs) (unit ∷ units) (IsItem number found)
@@ -128,6 +115,7 @@ module _ (rules : Rules) where
         record {
           decl = it.decl;
           stands = at_place (Stands decls) (pairs_from 0 decls) at.place it (all_stand decls) at.of_pair;
+          derives = at_place Derives (pairs_from 0 decls) at.place it (all_derive decls) at.of_pair;
           faultless = at_place (IsFaultless rules) (pairs_from 0 decls) at.place it (all_faultless rules (pairs_from 0 decls) none) at.of_pair;
           unit = at.unit;
           among = contained units at.place at.unit at.of_unit;
@@ -136,19 +124,19 @@ module _ (rules : Rules) where
         }
 
     -- what is made of the declaration of a number under `FromMeta`, by whose options items are read as this
-    abbrev pub IsItemMade : ℕ → Decl → Type 0
+    abbrev pub IsItemMade : ℕ → MetaDecl → Type 0
     IsItemMade number found =
-        (it : IsMade rules decls units number derive.FromMeta) × (found ≡ meant_items number (derive.FromMeta ∷ []) (options_of (meta_reader rules it.decl) it.decl))
+        (it : IsMade rules decls units number derive.FromMeta) × (found ≡ meant_meta number (variants_of it.decl.body) (options_of (meta_reader rules it.decl) it.decl))
 
-    renamed : (number at : ℕ) (found : Decl) (it : Derive) → at ≡ number → it ≡ derive.FromMeta → (made : IsMade rules decls units at it)
-        → found ≡ meant_items at (derive.FromMeta ∷ []) (options_of (meta_reader rules made.decl) made.decl) → IsItemMade number found
+    renamed : (number at : ℕ) (found : MetaDecl) (it : Derive) → at ≡ number → it ≡ derive.FromMeta → (made : IsMade rules decls units at it)
+        → found ≡ meant_meta at (variants_of made.decl.body) (options_of (meta_reader rules made.decl) made.decl) → IsItemMade number found
     renamed number at found it same under made is =
         let P : ℕ → Derive → Type 0 = λ n d.
-        (some : IsMade rules decls units n d) × (found ≡ meant_items n (derive.FromMeta ∷ []) (options_of (meta_reader rules some.decl) some.decl)) in
+        (some : IsMade rules decls units n d) × (found ≡ meant_meta n (variants_of some.decl.body) (options_of (meta_reader rules some.decl) some.decl)) in
         subst₂ P same under (made, is)
 
     -- a declaration that items are read as has its unit
-    pub item_made : (number : ℕ) (found : Decl) → meta_decl (item_decls rules decls) number ≡ Some found → IsItemMade number found
+    pub item_made : (number : ℕ) (found : MetaDecl) → meta_decl (meta_decls rules decls) number ≡ Some found → IsItemMade number found
     unfolding made_at
     item_made number found is =
         let at = item_at number found (pairs_from 0 decls) units zip is in

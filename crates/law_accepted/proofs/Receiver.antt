@@ -14,7 +14,7 @@ use Rattle.run_accepted.specs.Attributes.{without_attributes}
 use Rattle.run_source.specs.Values.{Rules}
 use Rattle.run_accepted.specs.Accepted.{IsAccepted}
 use Rattle.run_accepted.proofs.FitLemmas.{has_receiver}
-use Rattle.law_options.specs.Texts.{input_decl, item_decls}
+use Rattle.law_options.specs.Texts.{input_decl, meta_decls}
 use Rattle.law_asks.specs.Reads.{OnValue}
 use Rattle.law_asks.proofs.Declared.{declared_fits}
 use Rattle.law_accepted.specs.Claims.{AcceptedFits}
@@ -29,11 +29,11 @@ last_receives host rules decls program is =
     subst (λ n. IsTrue (is_receiver program.units (n - 1))) count has.1
 
 pub accepted_fits : AcceptedFits
-accepted_fits host rules decls program last subject lawful built idents is stands =
+accepted_fits host rules decls program last subject lawful plain idents is stands =
     let here = length decls - 1 in
     let meant = input_decl rules here last in
-    let items = item_decls rules decls in
-    let (named, items_sound, inputs_sound) = accepted_is_sound host rules decls program built idents is in
+    let items = meta_decls rules decls in
+    let (named, items_sound, inputs_sound) = accepted_is_sound host rules decls program plain idents is in
     let fits = declared_fits host program items meant subject lawful named items_sound (inputs_sound here last stands (last_receives host rules decls program is)) in
     let P : List DeriveInput → Type 0 = λ bare.
     OnValue (FitsAmong bare here) (let setting : Setting = record { host = host; decls = bare } in declared_meaning setting items meant subject) in

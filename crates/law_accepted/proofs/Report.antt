@@ -9,12 +9,11 @@ use Rattle.codegen_program.specs.declared.program.Program.{Program}
 use Rattle.machine_value.specs.declared.value.Value.{Value as Datum}
 use Rattle.meaning_core.specs.HostSays.{HostSays}
 use Rattle.run_accepted.specs.Attributes.{without_attributes}
-use Rattle.run_accepted.specs.Unbuilt.{IsBuilt}
+use Rattle.run_accepted.specs.Plain.{IsPlainDecl}
 use Rattle.run_source.specs.Values.{Rules}
 use Rattle.law_options.specs.Texts.{text_meaning}
 use Rattle.run_accepted.specs.Accepted.{IsAccepted}
 use Rattle.run_source.specs.Meaning.{item_meaning}
-use Rattle.run_source.proofs.RunLemmas.{is_built}
 use Rattle.meaning_core.specs.Decls.{FitsAmong}
 use Rattle.meaning_core.specs.Lawful.{IsLawful}
 use Rattle.law_asks.specs.Reads.{OnValue}
@@ -23,7 +22,7 @@ use Rattle.law_fields.proofs.Items.{spelled_items}
 use Rattle.law_accepted.specs.Claims.{ReportFits}
 use Rattle.law_accepted.proofs.Receiver.{accepted_fits}
 
-module _ (host : HostSays) (rules : Rules) (decls : List DeriveInput) (program : Program) (lawful : IsLawful host) (built : All IsBuilt decls) (have : All HasTextFields decls)
+module _ (host : HostSays) (rules : Rules) (decls : List DeriveInput) (program : Program) (lawful : IsLawful host) (plain : All IsPlainDecl decls) (have : All HasTextFields decls)
     (is : IsAccepted host rules decls program) where
   abbrev FitsLast : Outcome Datum → Type 0
   FitsLast = OnValue (FitsAmong (map without_attributes decls) (length decls - 1))
@@ -33,7 +32,7 @@ module _ (host : HostSays) (rules : Rules) (decls : List DeriveInput) (program :
   last_fits subject None outcome stands is_meant = absurd (none-some outcome is_meant)
   last_fits subject (Some last) outcome stands is_meant =
       subst FitsLast (same_Some (text_meaning host rules decls (length decls - 1) last subject) outcome is_meant)
-      (accepted_fits host rules decls program last subject lawful built have is stands)
+      (accepted_fits host rules decls program last subject lawful plain have is stands)
 
   -- what each of the subjects means fits it
   each_fits : (outcomes : List (Outcome Datum)) (subjects : List DeriveInput) → map Some outcomes ≡ map (item_meaning host rules decls) subjects → AllByRecursion FitsLast outcomes
@@ -45,10 +44,9 @@ module _ (host : HostSays) (rules : Rules) (decls : List DeriveInput) (program :
       (last_fits subject (slice_get decls (length decls - 1)) outcome refl first, each_fits outcomes subjects rest)
 
 pub report_fits : ReportFits
-report_fits host rules first second report lawful is =
+report_fits host rules first second report lawful is plain =
     let decls = report.declarations in
     let (tokens, spelled, items) = is.read.is_first in
-    let built = is_built decls is.run.is_program.built in
     let have = spelled_items 0 first tokens decls spelled.0 items in
     All-from_recursion (OnValue (FitsAmong (map without_attributes decls) (length decls - 1))) report.outcomes
-    (each_fits host rules decls report.program lawful built have is.run.is_program.accepted report.outcomes report.subjects is.run.are_outcomes)
+    (each_fits host rules decls report.program lawful plain have is.run.is_program.accepted report.outcomes report.subjects is.run.are_outcomes)

@@ -7,9 +7,9 @@ use Rattle.meaning_core.specs.HostSays.{HostSays}
 use Rattle.meaning_core.specs.Lawful.{IsLawful}
 use Rattle.law_asks.specs.Units.{is_receiver}
 use Rattle.run_accepted.specs.Attributes.{without_attributes}
-use Rattle.run_accepted.specs.Unbuilt.{IsBuilt}
+use Rattle.run_accepted.specs.Plain.{IsPlainDecl}
 use Rattle.run_source.specs.Values.{Rules}
-use Rattle.law_options.specs.Texts.{input_decl, item_decls, text_meaning}
+use Rattle.law_options.specs.Texts.{input_decl, meta_decls, text_meaning}
 use Rattle.run_accepted.specs.Accepted.{IsAccepted}
 use Rattle.run_source.specs.Source.{IsReport}
 use Rattle.run_source.specs.declared.report.Report.{Report}
@@ -22,9 +22,9 @@ use Rattle.law_asks.specs.Sound.{AreNamed, IsSound}
 abbrev pub AcceptedIsSound : Type 0
 AcceptedIsSound =
     (host : HostSays) (rules : Rules) (decls : List DeriveInput) (program : Program)
-    → All IsBuilt decls → All HasTextFields decls → IsAccepted host rules decls program
+    → All IsPlainDecl decls → All HasTextFields decls → IsAccepted host rules decls program
     → AreNamed program.decls
-    × AreSound host program (item_decls rules decls)
+    × AreSound host program (meta_decls rules decls)
     × ((number : ℕ) (decl : DeriveInput) → slice_get decls number ≡ Some decl → IsTrue (is_receiver program.units number)
     → IsSound host program (input_decl rules number decl) (has_names (input_decl rules number decl).attributes))
 
@@ -32,13 +32,13 @@ AcceptedIsSound =
 abbrev pub AcceptedFits : Type 0
 AcceptedFits =
     (host : HostSays) (rules : Rules) (decls : List DeriveInput) (program : Program) (last subject : DeriveInput)
-    → IsLawful host → All IsBuilt decls → All HasTextFields decls → IsAccepted host rules decls program
+    → IsLawful host → All IsPlainDecl decls → All HasTextFields decls → IsAccepted host rules decls program
     → slice_get decls (length decls - 1) ≡ Some last
     → OnValue (FitsAmong (map without_attributes decls) (length decls - 1)) (text_meaning host rules decls (length decls - 1) last subject)
 
--- The values among the outcomes of a report fit the last of its declarations, by the laws of the host.
+-- The values among the outcomes of a report of plain declarations fit the last of them, by the laws of the host.
 abbrev pub ReportFits : Type 0
 ReportFits =
     (host : HostSays) (rules : Rules) (first second : List ℕ) (report : Report)
-    → IsLawful host → IsReport host rules first second report
+    → IsLawful host → IsReport host rules first second report → All IsPlainDecl report.declarations
     → All (OnValue (FitsAmong (map without_attributes report.declarations) (length report.declarations - 1))) report.outcomes

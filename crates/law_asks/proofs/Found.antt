@@ -6,6 +6,7 @@ use Rattle.std.proofs.lemmas.List.Elements.{All-cons, All-contains, All-nil, Con
 use Rattle.std.proofs.lemmas.List.Folds.{list_any_at}
 use Rattle.std.proofs.lemmas.Option.{none-some, same_Some}
 use Rattle.tok_types.specs.declared.span.Span.{Span}
+use Rattle.node_expr.specs.declared.ty.«Type».{«Type» as Type'}
 use Rattle.node_span.specs.Spanned.{type_span}
 use Rattle.node_core.specs.declared.data.Field.{Field}
 use Rattle.node_core.specs.declared.data.Fields.{Fields}
@@ -18,13 +19,14 @@ use Rattle.codegen_program.specs.declared.program.Program.{Program}
 use Rattle.codegen_program.specs.declared.program.«Unit».{«Unit» as Unit'}
 use Rattle.node_core.specs.Bodies.{field_list}
 use Rattle.law_fits.specs.HostSays.{HostSays}
-use Rattle.machine_forms.specs.Asks.{Ask, SlotAsks, Whole, is_whole_default, slot_asks, unit_asks}
+use Rattle.machine_forms.specs.Asks.{Ask, Whole, is_whole_default, slot_asks, unit_asks}
 use Rattle.machine_forms.specs.Places.{places_from, refused_if, refused_unless}
+use Rattle.machine_forms.specs.Receivers.{variants_of}
 use Rattle.machine_forms.specs.Units.{asks_of, is_of, units_of}
-use Rattle.law_fits.specs.Callables.{lacks_ident, unknown_callables, unknown_callables_in, unoffered_ask}
-use Rattle.law_fits.specs.Fields.{struct_fields}
+use Rattle.law_fits.specs.Callables.{lacks_ident, unknown_callables, unknown_callables_in, unoffered_ask, unoffered_unit}
+use Rattle.law_fits.specs.Fields.{slot_fields}
 use Rattle.law_fits.specs.Fits.{has_default}
-use Rattle.law_fits.specs.Types.{decl_type, fits_asks, lacks_default, readings, unfit_ask, unfit_members, unfit_slot, unknown_types, unknown_types_in}
+use Rattle.law_fits.specs.Types.{FieldAsks, decl_type, field_asks, fits_asks, fits_unit, lacks_default, readings, unfit_ask, unfit_field, unfit_fields, unfit_members, unknown_types, unknown_types_in}
 use Rattle.law_fits.proofs.Clean.{nil_left, nil_right, not_nil}
 use Rattle.law_fits.specs.Sound.{named_fields, named_of}
 use Rattle.law_asks.proofs.Units.{contains-head, contains-map, contains-tail}
@@ -100,12 +102,12 @@ among_asks (first ∷ units) unit ask (zero, lt, is) among =
 among_asks (first ∷ units) unit ask (suc at, lt, is) among =
     Contains-append_right (unit_asks first) (asks_of units) ask (among_asks units unit ask (at, omega (arith, lt), is) among)
 
-abbrev reading : Unit' → SlotAsks
-reading unit = slot_asks (unit_asks unit)
+abbrev reading : «Data» → Unit' → FieldAsks
+reading it unit = field_asks it (unit_asks unit)
 
-among_readings : (units : List Unit') (unit : Unit') → Contains units unit → Contains (readings units) (reading unit)
-among_readings [] unit (at, lt, is) = absurd (omega (arith, lt))
-among_readings (first ∷ units) unit among = contains-map reading (first ∷ units) unit among
+among_readings : (it : «Data») (units : List Unit') (unit : Unit') → Contains units unit → Contains (readings it units) (reading it unit)
+among_readings it [] unit (at, lt, is) = absurd (omega (arith, lt))
+among_readings it (first ∷ units) unit among = contains-map (reading it) (first ∷ units) unit among
 
 -- ---- the fields of a struct
 
@@ -114,17 +116,26 @@ named_are (fields.Named it) named is = same_Some it.named named is
 named_are (fields.Unnamed it) named is = absurd (none-some named is)
 named_are fields.Unit named is = absurd (none-some named is)
 
-fields_are : (it : «Data») (named : List Field) → named_fields it ≡ Some named → struct_fields it ≡ named
-fields_are (body.Struct it) named is = named_are it.fields named is
-fields_are (body.Enum it) named is = absurd (none-some named is)
-fields_are (body.Union it) named is = absurd (none-some named is)
+fields_are : (asks : List Ask) (it : «Data») (named : List Field) → named_fields it ≡ Some named → slot_fields asks it ≡ named
+fields_are asks (body.Struct it) named is = named_are it.fields named is
+fields_are asks (body.Enum it) named is = absurd (none-some named is)
+fields_are asks (body.Union it) named is = absurd (none-some named is)
 
-module _ (host : HostSays) (program : Program) (number : ℕ) (asks : List SlotAsks) where
-  slots_none : (it : «Data») (named : List Field) → named_fields it ≡ Some named → unfit_members host program number asks it ≡ []
-      → places_from (unfit_slot host program number asks) 0 (struct_fields it) ≡ []
-  slots_none (body.Struct it) named is none = none
-  slots_none (body.Enum it) named is none = absurd (none-some named is)
-  slots_none (body.Union it) named is none = absurd (none-some named is)
+module _ (host : HostSays) (program : Program) (number : ℕ) where
+  fields_none : (asks : List FieldAsks) (it : «Data») (named : List Field) → named_fields it ≡ Some named → unfit_members host program number asks it ≡ []
+      → unfit_fields host program number asks 0 named ≡ []
+  fields_none asks (body.Struct it) named is none = subst (λ its. unfit_fields host program number asks 0 its ≡ []) (named_are it.fields named is) none
+  fields_none asks (body.Enum it) named is none = absurd (none-some named is)
+  fields_none asks (body.Union it) named is none = absurd (none-some named is)
+
+  -- the fields of a struct have the slots of their numbers
+  at_slot : (it : «Data») (named : List Field) → named_fields it ≡ Some named → (slot : ℕ) (type : Type') (asks : List Ask)
+      → fits_unit host program number 0 slot type (field_asks it asks) ≡ true → fits_asks host program number slot type (slot_asks asks) ≡ true
+  at_slot (body.Struct it) named is slot type asks fit =
+      let same : 0 + slot ≡ slot = omega arith in
+      subst (λ n. fits_asks host program number n type (slot_asks asks) ≡ true) same fit
+  at_slot (body.Enum it) named is slot type asks fit = absurd (none-some named is)
+  at_slot (body.Union it) named is slot type asks fit = absurd (none-some named is)
 
 has_by : (asked has : Bool) → asked ≡ true → (asked && not has) ≡ false → has ≡ true
 has_by true true e none = refl
@@ -152,8 +163,11 @@ module _ (host : HostSays) (program : Program) (number : ℕ) (unit : Unit') (de
     abbrev default_place : List Span
     default_place = refused_if (lacks_default host program declared (asks_of mine)) declared.ident.span
 
+    abbrev asked : List FieldAsks
+    asked = readings declared.body mine
+
     abbrev member_places : List Span
-    member_places = unfit_members host program number (readings mine) declared.body
+    member_places = unfit_members host program number asked declared.body
 
     abbrev ask_places : List Span
     ask_places = flat_map (unfit_ask host program number) (asks_of mine)
@@ -171,32 +185,36 @@ module _ (host : HostSays) (program : Program) (number : ℕ) (unit : Unit') (de
         (if_none (lacks_default host program declared (asks_of mine)) declared.ident.span
         (nil_left default_place member_places (nil_left (default_place ++ member_places) ask_places types_none)))
 
-    slot_none : (slot : ℕ) (field : Field) → slice_get named slot ≡ Some field → unfit_slot host program number (readings mine) slot field ≡ []
+    slot_none : (slot : ℕ) (field : Field) → slice_get named slot ≡ Some field → unfit_field host program number asked 0 slot field ≡ []
     slot_none slot field is =
         let same : 0 + slot ≡ slot = omega arith in
-        subst (λ n. unfit_slot host program number (readings mine) n field ≡ []) same
-        (places_none (unfit_slot host program number (readings mine)) 0 named slot field
-        (subst (λ its. places_from (unfit_slot host program number (readings mine)) 0 its ≡ []) (fields_are declared.body named is_struct)
-        (slots_none host program number (readings mine) declared.body named is_struct
-        (nil_right default_place member_places (nil_left (default_place ++ member_places) ask_places types_none))))
+        subst (λ n. unfit_field host program number asked 0 n field ≡ []) same
+        (places_none (unfit_field host program number asked 0) 0 named slot field
+        (fields_none host program number asked declared.body named is_struct
+        (nil_right default_place member_places (nil_left (default_place ++ member_places) ask_places types_none)))
         is)
 
     pub fits : (slot : ℕ) (field : Field) → slice_get named slot ≡ Some field → fits_asks host program number slot field.ty (slot_asks (unit_asks unit)) ≡ true
     fits slot field is =
-        All-contains (λ asks. fits_asks host program number slot field.ty asks ≡ true) (readings mine) (reading unit)
-        (every (fits_asks host program number slot field.ty) (readings mine)
-        (unless_none (list_all (fits_asks host program number slot field.ty) (readings mine)) (type_span field.ty) (slot_none slot field is)))
-        (among_readings mine unit is_mine)
+        let fits_here = fits_unit host program number 0 slot field.ty in
+        at_slot host program number declared.body named is_struct slot field.ty (unit_asks unit)
+        (All-contains (λ asks. fits_here asks ≡ true) asked (reading declared.body unit)
+        (every fits_here asked (unless_none (list_all fits_here asked) (type_span field.ty) (slot_none slot field is)))
+        (among_readings declared.body mine unit is_mine))
 
-  pub offered : unknown_callables host program ≡ [] → (ask : Ask) → Contains (unit_asks unit) ask → unoffered_ask host program (decl_type declared) named ask ≡ []
+  pub offered : unknown_callables host program ≡ [] → (ask : Ask) → Contains (unit_asks unit) ask
+      → unoffered_ask host program (decl_type declared) (variants_of declared.body) named ask ≡ []
   offered callables ask among =
       let same : 0 + number ≡ number = omega arith in
       let none : unknown_callables_in host program mine declared ≡ [] =
       subst (λ n. unknown_callables_in host program (units_of program.units n) declared ≡ []) same
       (places_none (λ number decl. unknown_callables_in host program (units_of program.units number) decl) 0 program.decls number declared callables found) in
-      subst (λ its. unoffered_ask host program (decl_type declared) its ask ≡ []) (fields_are declared.body named is_struct)
-      (All-contains (λ ask. unoffered_ask host program (decl_type declared) (struct_fields declared.body) ask ≡ []) (asks_of mine) ask
-      (each_none (unoffered_ask host program (decl_type declared) (struct_fields declared.body)) (asks_of mine)
-      (nil_right (refused_if (lacks_ident host program declared (asks_of mine)) declared.ident.span)
-      (flat_map (unoffered_ask host program (decl_type declared) (struct_fields declared.body)) (asks_of mine)) none))
-      (among_asks mine unit ask is_mine among))
+      let asks = unit_asks unit in
+      let own : unoffered_unit host program declared unit ≡ [] =
+      All-contains (λ unit. unoffered_unit host program declared unit ≡ []) mine unit
+      (each_none (unoffered_unit host program declared) mine
+      (nil_right (refused_if (lacks_ident host program declared (asks_of mine)) declared.ident.span) (flat_map (unoffered_unit host program declared) mine) none))
+      is_mine in
+      let unoffered = λ (its : List Field) (ask : Ask). unoffered_ask host program (decl_type declared) (variants_of declared.body) its ask in
+      subst (λ its. unoffered its ask ≡ []) (fields_are asks declared.body named is_struct)
+      (All-contains (λ ask. unoffered (slot_fields asks declared.body) ask ≡ []) asks ask (each_none (unoffered (slot_fields asks declared.body)) asks own) among)

@@ -10,4 +10,3 @@ pub use Rattle.machine_forms.specs.Places
 pub use Rattle.machine_forms.specs.Refusals
 pub use Rattle.machine_forms.specs.Units
 pub use Rattle.machine_forms.specs.declared.refusals.Refusals as MachineFormsRefusals
-pub use Rattle.codegen_core.specs.declared.form.Unsupported

@@ -1,7 +1,7 @@
 -- What a lawful host answers fits the type for which it is asked.
 use Rattle.std.proofs.Common.{◌≡◌, Some}
 use Rattle.node_expr.specs.declared.ty.«Type».{«Type» as Type'}
-use Rattle.law_cells.specs.Callable.{Callable}
+use Rattle.codegen_program.specs.declared.callable.Callable.{Callable}
 use Rattle.codegen_program.specs.declared.program.Program.{Program}
 use Rattle.meaning_core.specs.Decls.{Fits}
 use Rattle.law_spans.specs.Erased.{erased_type}

@@ -1,7 +1,6 @@
 pub mod Sound
 pub mod Earlier
 pub mod Claims
-pub use Rattle.law_cells.specs.Callable
 pub use Rattle.law_cells.specs.Reads
 pub use Rattle.law_cells.specs.Use
 pub use Rattle.machine_fit.specs.Callables

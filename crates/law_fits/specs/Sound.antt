@@ -13,7 +13,7 @@ use Rattle.node_core.specs.declared.data.«Data».TheVariants as body
 use Rattle.node_core.specs.declared.derive.DeriveInput.{DeriveInput}
 use Rattle.syn_grammar.specs.Depth.{type_depth}
 use Rattle.syn_grammar.specs.Grammar.{max_depth}
-use Rattle.law_cells.specs.Callable.{Callable}
+use Rattle.codegen_program.specs.declared.callable.Callable.{Callable}
 use Rattle.codegen_program.specs.declared.arm.PostfixTransform.{PostfixTransform}
 use Rattle.codegen_program.specs.declared.program.Program.{Program}
 use Rattle.machine_rows.specs.Rows.{row_of}

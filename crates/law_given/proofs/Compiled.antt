@@ -1,12 +1,10 @@
 -- What declarations compile to is a program that options give.
-use Rattle.std.proofs.Common.{◌≡◌, ◌∙◌, ℕ, suc, List, [], ◌∷◌, map, slice_get, Option, Some, None, option_map, All, get_or, refl, sym, ap, subst, arith}
+use Rattle.std.proofs.Common.{◌≡◌, ◌∙◌, ℕ, suc, List, [], ◌∷◌, map, slice_get, Some, None, option_map, All, get_or, refl, sym, ap, subst, arith}
 use Rattle.std.specs.List.{AllByRecursion, AllZip}
-use Rattle.std.specs.Option.{option_or}
 use Rattle.std.proofs.lemmas.List.{get_or_default}
 use Rattle.std.proofs.lemmas.List.Elements.{All-append, All-from_recursion, All-map, All-nil, recursion_from_All}
 use Rattle.std.proofs.lemmas.Option.{slice_get-map}
 use Rattle.node_core.specs.declared.derive.DeriveInput.{DeriveInput}
-use Rattle.error_fault.specs.declared.fault.Fault.{Fault}
 use Rattle.codegen_program.specs.declared.program.Derive.{Derive}
 use Rattle.codegen_program.specs.declared.program.Derive.TheVariants as derive
 use Rattle.codegen_program.specs.declared.program.«Unit».{«Unit» as Unit'}
@@ -14,11 +12,11 @@ use Rattle.law_options.specs.Values.{Rules}
 use Rattle.run_accepted.specs.Attributes.{without_attributes}
 use Rattle.run_accepted.specs.Compiled.{IsUnit, IsUnitUnder}
 use Rattle.run_accepted.specs.Derives.{derives_of}
-use Rattle.run_accepted.specs.Pairs.{Pair, faults_under, pair, pairs_from, pairs_of, rejected, rejected_with}
-use Rattle.run_accepted.specs.Unbuilt.{IsBuilt}
-use Rattle.run_accepted.specs.declared.rejected.Rejected.{Rejected}
+use Rattle.run_accepted.specs.Pairs.{Pair, faults_under, pair, pairs_from, pairs_of, rejected}
+use Rattle.run_accepted.specs.Plain.{IsPlainDecl}
 use Rattle.run_accepted.proofs.ListLemmas.{at_place}
 use Rattle.run_accepted.proofs.UnitLemmas.{Stands, all_stand, number_is}
+use Rattle.law_options.proofs.Clear.{none_with}
 use Rattle.law_given.specs.Claims.{CompiledIsGiven}
 use Rattle.law_given.specs.Given.{HasFewFields, IsBare, IsGivenUnit, NamesDerive, NamesNoGenerated}
 use Rattle.law_given.proofs.Bare.{is_bare}
@@ -51,28 +49,23 @@ all_name number (decl ∷ decls) =
 record IsOf (decls : List DeriveInput) (it : Pair) : Type 0 where
   stands : Stands decls it
   named : Names it
-  built : IsBuilt it.decl
+  built : IsPlainDecl it.decl
   few : HasFewFields it.decl
 
-of_all : (decls : List DeriveInput) → All IsBuilt decls → All HasFewFields decls → (pairs : List Pair)
+of_all : (decls : List DeriveInput) → All IsPlainDecl decls → All HasFewFields decls → (pairs : List Pair)
     → AllByRecursion (Stands decls) pairs → AllByRecursion Names pairs → AllByRecursion (IsOf decls) pairs
 of_all decls built few [] stand name = tt
 of_all decls built few (it ∷ pairs) stand name = (
   record {
     stands = stand.0;
     named = name.0;
-    built = at_place IsBuilt decls it.number it.decl built stand.0;
+    built = at_place IsPlainDecl decls it.number it.decl built stand.0;
     few = at_place HasFewFields decls it.number it.decl few stand.0;
   },
   of_all decls built few pairs stand.1 name.1,
 )
 
 -- ---- units
-
-none_with : (decl : DeriveInput) (derive : Derive) (faults : List Fault) (later : Option Rejected)
-    → option_or (rejected_with decl derive faults) later ≡ None → (faults ≡ []) × (later ≡ None)
-none_with decl derive [] later none = (refl, none)
-none_with decl derive (fault ∷ more) later none = absurd cc
 
 module _ (rules : Rules) where
   derive_is : (number : ℕ) (decl : DeriveInput) (it : Derive) (unit : Unit') → IsUnitUnder rules number decl it unit → unit.derive ≡ it

@@ -6,21 +6,29 @@ use Rattle.node_core.specs.declared.derive.DeriveInput.{DeriveInput}
 use Rattle.codegen_program.specs.declared.program.Derive.{Derive}
 use Rattle.codegen_program.specs.declared.program.Derive.TheVariants as derive
 use Rattle.codegen_program.specs.declared.program.«Unit».{«Unit» as Unit'}
-use Rattle.codegen_core.specs.Compiled.{compiled_derive_input, compiled_list, fields_of}
+use Rattle.node_core.specs.declared.style.Style.{Style}
+use Rattle.node_core.specs.declared.style.Style.TheVariants as style
+use Rattle.body_core.specs.declared.ast.data.«Data».{«Data»}
+use Rattle.body_core.specs.declared.ast.data.«Data».TheVariants as body
+use Rattle.codegen_core.specs.Compiled.{HasNamedFields, IsPlain, compiled_derive_input, compiled_meta, fields_of, struct_fields}
+use Rattle.codegen_core.specs.Variants.{transparent_field}
 use Rattle.codegen_core.specs.Defaults.{fallback as falls}
 use Rattle.codegen_core.specs.declared.default_expression.DefaultExpression.{DefaultExpression}
 use Rattle.codegen_core.specs.declared.default_expression.DefaultExpression.TheVariants as defaults
 use Rattle.codegen_core.specs.declared.field.Field.{Field}
 use Rattle.codegen_core.specs.declared.trait_impl.TraitImpl.{TraitImpl}
+use Rattle.codegen_core.specs.declared.variant.Variant.{Variant}
 use Rattle.law_options.specs.Values.{Rules}
 use Rattle.run_accepted.specs.Compiled.{IsUnitUnder}
-use Rattle.run_accepted.specs.Unbuilt.{IsBuilt}
-use Rattle.run_accepted.proofs.PlainLemmas.{listed_unit, meta_is_listed}
+use Rattle.run_accepted.specs.Plain.{IsPlainDecl}
+use Rattle.run_accepted.specs.Unbuilt.{IsBuiltUnder}
+use Rattle.run_accepted.proofs.PlainLemmas.{meta_is_listed}
 use Rattle.run_accepted.proofs.UnitLemmas.{number_is}
 use Rattle.law_machine.specs.Compiles.{IsDecl, IsField, meant_fallback}
 use Rattle.law_machine.specs.Decl.{BodyDecl, Decl, FieldDecl, Shape, Single, Many, Flat, Default, ByType, ByCall, fallback_by, is_flat, is_many, skip_fallback}
-use Rattle.law_machine.specs.Left.{IsLeft, IsLeftDefault, IsLeftField, IsLeftUnit}
-use Rattle.law_options.proofs.Declared.{input_options_are, item_options_are}
+use Rattle.law_machine.specs.Left.{IsLeft, IsLeftBody, IsLeftDefault, IsLeftField, IsLeftForm, IsLeftUnit, whole_default}
+use Rattle.law_options.proofs.Declared.{decl_is, input_options_are, meta_own, meta_whole_is}
+use Rattle.run_accepted.specs.Stages.{container_options, meta_reader, options_of}
 use Rattle.law_options.proofs.Idents.{no_ident}
 
 -- ---- fields
@@ -73,21 +81,34 @@ pub is_left : (left : TraitImpl) (decl : Decl) → IsDecl left decl → IsLeft l
 is_left left decl is =
     subst (λ whole. AllByRecursion (IsLeftField whole) (fields_of left)) (sym is.default) (fields_are decl.body (fields_of left) decl.body.fields is.fields)
 
+-- so is its body, where it is a struct that is read field by field
+plain_is_left : (left : TraitImpl) (it : «Data» Variant Field) → left.body ≡ it → IsPlain left → IsLeft left → IsLeftBody left it
+plain_is_left left (body.Struct it) same plain is =
+    let styled : it.style ≡ style.Struct = let P : «Data» Variant Field → Type 0 = λ some. HasNamedFields some in subst P same plain.0 in
+    let P : Bool → Type 0 = λ transparent. IsLeftForm (whole_default left) (transparent_field transparent it.style it.fields) it.style it.fields in
+    let Q : Style → Type 0 = λ how. IsLeftForm (whole_default left) (transparent_field false how it.fields) how it.fields in
+    let R : «Data» Variant Field → Type 0 = λ some. AllByRecursion (IsLeftField (whole_default left)) (struct_fields some) in
+    subst P (sym plain.1) (subst Q (sym styled) (subst R same is))
+plain_is_left left (body.Enum variants) same plain is =
+    absurd (let P : «Data» Variant Field → Type 0 = λ some. HasNamedFields some in subst P same plain.0)
+
 -- ---- units
 
 module _ (rules : Rules) where
-  pub unit_is_left : (number : ℕ) (decl : DeriveInput) (it : Derive) (unit : Unit') → IsBuilt decl
+  pub unit_is_left : (number : ℕ) (decl : DeriveInput) (it : Derive) (unit : Unit') → IsPlainDecl decl → IsBuiltUnder decl it
       → IsUnitUnder rules number decl it unit → IsLeftUnit unit
-  unit_is_left number decl derive.FromMeta unit built (left, is, compiled) =
+  unit_is_left number decl derive.FromMeta unit plain built (left, is, compiled) =
       let own = number_is rules number decl derive.FromMeta unit (left, is, compiled) in
-      let listed = compiled ∙ listed_unit left number (meta_is_listed rules decl left built is) in
-      inl (left, listed ∙ ap (compiled_list left) (sym own), is_left left.base _ (item_options_are rules decl left number [] is))
-  unit_is_left number decl derive.FromDeriveInput unit built (left, is, compiled) =
+      let listed = meta_is_listed rules decl left plain is in
+      let options = options_of (meta_reader rules decl) decl in
+      let kept = meta_whole_is rules (container_options (meta_reader rules decl) decl).base decl.body (meta_own rules decl) refl in
+      inl (left, compiled ∙ ap (compiled_meta left) (sym own), plain_is_left left.base left.base.body refl listed.plain (is_left left.base _ (decl_is left.base options.base number [] is.base kept)))
+  unit_is_left number decl derive.FromDeriveInput unit plain built (left, is, compiled) =
       let own = number_is rules number decl derive.FromDeriveInput unit (left, is, compiled) in
       let ident : left.from_ident ≡ false = is.ident ∙ no_ident rules decl built in
-      let meant = input_options_are rules decl left number [] is ident in
+      let meant = input_options_are rules decl left number is ident in
       inr (left, compiled ∙ ap (compiled_derive_input left) (sym own), is_left left.base _ meant.base, ident)
-  unit_is_left number decl derive.FromAttributes unit built is = absurd is
-  unit_is_left number decl derive.FromField unit built is = absurd is
-  unit_is_left number decl derive.FromTypeParam unit built is = absurd is
-  unit_is_left number decl derive.FromVariant unit built is = absurd is
+  unit_is_left number decl derive.FromAttributes unit plain built is = absurd is
+  unit_is_left number decl derive.FromField unit plain built is = absurd is
+  unit_is_left number decl derive.FromTypeParam unit plain built is = absurd is
+  unit_is_left number decl derive.FromVariant unit plain built is = absurd is

@@ -27,7 +27,7 @@ use Rattle.run_accepted.specs.Attributes.{body_without, field_without, fields_wi
 use Rattle.run_accepted.specs.Compiled.{IsUnitUnder}
 use Rattle.run_accepted.specs.Pairs.{faults_under}
 use Rattle.run_accepted.specs.MemberViews.{IsImpl}
-use Rattle.run_accepted.specs.Unbuilt.{IsBuilt}
+use Rattle.run_accepted.specs.Plain.{IsPlainDecl}
 use Rattle.run_accepted.proofs.ListLemmas.{at_place}
 use Rattle.run_accepted.proofs.PlainLemmas.{listed_unit, meta_core_is, meta_is_listed}
 use Rattle.law_given.specs.Claims.{GivenIsOfDeclarations}
@@ -86,7 +86,7 @@ module _ (rules : Rules) (decl : DeriveInput) (few : HasFewFields decl) where
         krate = unusual (option_copied left.krate);
       }
 
-  owned : (number : ℕ) (it : Derive) (unit : Unit') → IsBuilt decl → faults_under rules decl it ≡ [] → IsUnitUnder rules number decl it unit
+  owned : (number : ℕ) (it : Derive) (unit : Unit') → IsPlainDecl decl → faults_under rules decl it ≡ [] → IsUnitUnder rules number decl it unit
       → IsOfDeclaration (without_attributes decl) unit
   owned number derive.FromMeta unit built none (left, is, compiled) =
       let set = container_options (meta_reader rules decl) decl in

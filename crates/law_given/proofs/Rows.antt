@@ -16,18 +16,18 @@ use Rattle.law_options.specs.Members.{body_fields}
 use Rattle.law_options.specs.Values.{Rules}
 use Rattle.run_accepted.specs.Compiled.{IsProgram}
 use Rattle.run_accepted.specs.Pairs.{pairs_from, rejected}
-use Rattle.run_accepted.specs.Unbuilt.{IsBuilt}
+use Rattle.run_accepted.specs.Plain.{IsPlainDecl}
 use Rattle.law_given.specs.Given.{HasFewFields, IsBare, IsGiven, NamesNoGenerated}
 use Rattle.law_given.specs.Owned.{Slot, member_of, numbered, slots_of}
 use Rattle.law_given.proofs.Compiled.{compiled_is_given}
 use Rattle.law_given.proofs.Owned.{given_is_of_declarations}
 
 -- what two declarations compile to is given
-pub two_compiled : (rules : Rules) (one other : DeriveInput) (program : Program) → IsBuilt one → IsBuilt other → HasFewFields one → HasFewFields other
+pub two_compiled : (rules : Rules) (one other : DeriveInput) (program : Program) → IsPlainDecl one → IsPlainDecl other → HasFewFields one → HasFewFields other
     → All NamesNoGenerated program.units → rejected rules (pairs_from 0 (one ∷ other ∷ [])) ≡ None
     → IsProgram rules (one ∷ other ∷ []) program → IsGiven program
 two_compiled rules one other program built also few too plain none is =
-    compiled_is_given rules (one ∷ other ∷ []) program (All-from_recursion IsBuilt (one ∷ other ∷ []) (built, (also, tt)))
+    compiled_is_given rules (one ∷ other ∷ []) program (All-from_recursion IsPlainDecl (one ∷ other ∷ []) (built, (also, tt)))
     (All-from_recursion HasFewFields (one ∷ other ∷ []) (few, (too, tt))) plain none is
 
 -- a unit of the first declaration behind one of the second is not

@@ -1,5 +1,5 @@
 -- A unit that options give can be run, and where the program fits its host, the receiver can.
-use Rattle.std.proofs.Common.{◌≡◌, ◌∙◌, ◌<◌, ◌+◌, ◌-◌, ◌==◌, ◌&&◌, ℕ, Bool, true, false, cond, nat_lt, length, slice_get, Some, None, refl, sym, ap, arith}
+use Rattle.std.proofs.Common.{◌≡◌, ◌∙◌, ◌<◌, ◌+◌, ◌-◌, ◌==◌, ◌&&◌, ℕ, Bool, true, false, cond, nat_lt, length, slice_get, Some, None, refl, sym, ap, subst, arith}
 use Rattle.std.specs.List.{list_any}
 use Rattle.std.proofs.lemmas.Bool.{and_parts}
 use Rattle.std.proofs.lemmas.Bool.Decides.{Decides-ltb, nat_tests}
@@ -17,6 +17,10 @@ use Rattle.law_options.specs.Unfitness.{refusals, unfitness}
 use Rattle.law_options.specs.Units.{is_of, is_receiver as is_received}
 use Rattle.machine_execute.specs.Elements.{OnInput}
 use Rattle.run_accepted.proofs.FitLemmas.{no_rows}
+use Rattle.run_accepted.specs.Plain.{IsPlainDecl}
+use Rattle.run_accepted.specs.Unbuilt.{IsBuiltUnder}
+use Rattle.run_accepted.specs.declared.derives.Derived.{Derived}
+use Rattle.run_accepted.proofs.BuiltLemmas.{built_under}
 use Rattle.run_accepted.proofs.ListLemmas.{at_place}
 use Rattle.law_machine.specs.Kinds.{IsOfKind}
 use Rattle.law_machine.specs.Left.{IsLeftUnit}
@@ -24,15 +28,21 @@ use Rattle.law_machine.proofs.Runs.{units_can_be_run}
 use Rattle.run_source.specs.Receiver.{is_receiver, receiver}
 use Rattle.run_source.proofs.ReceiverLemmas.{first_passes}
 use Rattle.law_given.specs.Claims.{FitCanRun, GivenHasOutcome}
-use Rattle.law_given.specs.Given.{IsGiven, IsGivenUnit}
+use Rattle.law_given.specs.Given.{IsGiven, IsGivenUnit, NamesDerive}
 use Rattle.law_given.proofs.Left.{unit_is_left}
 
 -- ---- a unit
 
+-- a declaration that names the derive can be run so
+built_so : (decl : DeriveInput) (it : Derive) → IsPlainDecl decl → NamesDerive decl it → IsBuiltUnder decl it
+built_so decl it plain (place, one, within, at, same) =
+    let P : Derived → Type 0 = λ some. IsBuiltUnder decl some.derive in
+    subst (IsBuiltUnder decl) same (subst P at (built_under decl plain.built place one within))
+
 pub left_at : (program : Program) (number : ℕ) (unit : Unit') → IsGiven program → slice_get program.units number ≡ Some unit → IsLeftUnit unit
 left_at program number unit given at =
     let is = at_place (IsGivenUnit program.decls) program.units number unit given.units at in
-    unit_is_left is.rules unit.decl is.written unit.derive unit is.built is.compiled
+    unit_is_left is.rules unit.decl is.written unit.derive unit is.built (built_so is.written unit.derive is.built is.named) is.compiled
 
 pub given_has_outcome : GivenHasOutcome
 given_has_outcome host program number unit element given at kind =

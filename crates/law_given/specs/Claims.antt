@@ -9,7 +9,7 @@ use Rattle.law_options.specs.Values.{Rules}
 use Rattle.run_accepted.specs.Accepted.{IsAccepted}
 use Rattle.run_accepted.specs.Compiled.{IsProgram}
 use Rattle.run_accepted.specs.Pairs.{pairs_from, rejected}
-use Rattle.run_accepted.specs.Unbuilt.{IsBuilt}
+use Rattle.run_accepted.specs.Plain.{IsPlainDecl}
 use Rattle.machine_execute.specs.Elements.{Element, HasOutcome}
 use Rattle.law_machine.specs.Kinds.{IsOfKind}
 use Rattle.law_machine.specs.Left.{IsLeftUnit}
@@ -30,13 +30,13 @@ FitCanRun = (host : HostSays) (program : Program) → IsGiven program → unfitn
 -- what declarations compile to whose options have no faults is such a program, where no function has a generated name
 abbrev pub CompiledIsGiven : Type 0
 CompiledIsGiven =
-    (rules : Rules) (decls : List DeriveInput) (program : Program) → All IsBuilt decls → All HasFewFields decls
+    (rules : Rules) (decls : List DeriveInput) (program : Program) → All IsPlainDecl decls → All HasFewFields decls
     → All NamesNoGenerated program.units → rejected rules (pairs_from 0 decls) ≡ None → IsProgram rules decls program → IsGiven program
 
 -- so is the program of declarations that can be run with a host
 abbrev pub AcceptedIsGiven : Type 0
 AcceptedIsGiven =
-    (host : HostSays) (rules : Rules) (decls : List DeriveInput) (program : Program) → All IsBuilt decls → All HasFewFields decls
+    (host : HostSays) (rules : Rules) (decls : List DeriveInput) (program : Program) → All IsPlainDecl decls → All HasFewFields decls
     → IsAccepted host rules decls program → IsGiven program
 
 -- each unit of it is one that options without a fault leave, and is of the declaration of its number

@@ -13,7 +13,7 @@ use Rattle.run_accepted.specs.Attributes.{without_attributes}
 use Rattle.run_accepted.specs.Compiled.{IsUnitUnder}
 use Rattle.run_accepted.specs.Derives.{derives_of}
 use Rattle.run_accepted.specs.Pairs.{faults_under}
-use Rattle.run_accepted.specs.Unbuilt.{IsBuilt}
+use Rattle.run_accepted.specs.Plain.{IsPlainDecl}
 use Rattle.run_accepted.specs.declared.derives.Derived.{Derived}
 
 -- no attribute stands on the declaration or in it
@@ -40,7 +40,7 @@ pub record IsGivenUnit (decls : List DeriveInput) (unit : Unit') : Type 0 where
   pub rules : Rules
   pub stands : slice_get decls unit.decl ≡ Some (without_attributes written)
   pub named : NamesDerive written unit.derive
-  pub built : IsBuilt written
+  pub built : IsPlainDecl written
   pub faultless : faults_under rules written unit.derive ≡ []
   pub compiled : IsUnitUnder rules unit.decl written unit.derive unit
   pub plain : NamesNoGenerated unit

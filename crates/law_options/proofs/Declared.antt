@@ -10,7 +10,6 @@ use Rattle.node_core.specs.declared.data.«Data».{«Data» as NodeData}
 use Rattle.node_core.specs.declared.data.«Data».TheVariants as node
 use Rattle.node_core.specs.Bodies.{field_list}
 use Rattle.node_core.specs.declared.derive.DeriveInput.{DeriveInput}
-use Rattle.codegen_program.specs.declared.program.Derive.{Derive}
 use Rattle.codegen_core.specs.Compiled.{struct_fields}
 use Rattle.codegen_core.specs.Defaults.{fallback as falls, source}
 use Rattle.codegen_core.specs.declared.default_expression.DefaultExpression.{DefaultExpression as Shown}
@@ -31,13 +30,13 @@ use Rattle.run_accepted.specs.Core.{Core}
 use Rattle.run_accepted.specs.InputField.{InputField}
 use Rattle.run_accepted.specs.Body.{Body, start_body, with_fields, with_variants}
 use Rattle.run_accepted.specs.CoreOptions.{default, same_core}
-use Rattle.run_accepted.specs.ContainerOptions.{core_items, fdi_named, from_ident_of, meta_core_items, meta_named, outer_items}
+use Rattle.options_core.specs.ContainerOptions.{core_items, fdi_named, from_ident_of, meta_core_items, meta_named, outer_items}
 use Rattle.run_accepted.specs.Stages.{container_options, core_with_body, fdi_reader, good_fields, good_variants, meta_reader}
 use Rattle.run_accepted.specs.MemberViews as views
 use Rattle.run_accepted.specs.MemberViews.{AreDefaults, IsBody, IsImpl}
 use Rattle.law_machine.specs.Compiles.{IsDecl, IsField, meant_default, meant_fallback}
 use Rattle.law_machine.proofs.Left.{flat_is, many_is}
-use Rattle.law_options.specs.Claims.{InputOptionsAreMeant, ItemOptionsAreMeant}
+use Rattle.law_options.specs.Claims.{InputOptionsAreMeant}
 use Rattle.law_options.specs.Meant.{fields_in, meant_decl, meant_field, own_default}
 use Rattle.law_options.proofs.Fields.{Falls, IsLeft, fields_are}
 use Rattle.law_options.proofs.Owns.{IsOwnIfAny, all-append, first_default, replaced_default}
@@ -97,7 +96,7 @@ module _ (body : BodyDecl) where
         fallback = fallback_is it.ident (meant_field it) body.default left.default_expression it.default refl is.default left_so.default;
       }
 
-  all_are : (lefts : List Field) (its : List InputField) → AllZip views.IsField lefts its → AllByRecursion (IsLeft body.default) its
+  pub all_are : (lefts : List Field) (its : List InputField) → AllZip views.IsField lefts its → AllByRecursion (IsLeft body.default) its
       → AllZip (IsField body) lefts (map meant_field its)
   all_are [] [] zip are = tt
   all_are [] (it ∷ its) zip are = absurd zip
@@ -111,12 +110,12 @@ module _ (body : BodyDecl) where
   body_is ty (container.Enum lefts) (container.Struct it) is are = absurd is
   body_is ty (container.Enum lefts) (container.Enum variants) is are = tt
 
-decl_is : (left : TraitImpl) (core : Core) (number : ℕ) (derives : List Derive) (names : List Text) → IsImpl left core
-    → AllByRecursion (IsLeft (own_default core.default)) (fields_in core.body) → IsDecl left (meant_decl number derives names core)
-decl_is left core number derives names is are =
+pub decl_is : (left : TraitImpl) (core : Core) (number : ℕ) (names : List Text) → IsImpl left core
+    → AllByRecursion (IsLeft (own_default core.default)) (fields_in core.body) → IsDecl left (meant_decl number names core)
+decl_is left core number names is are =
     record {
       name = ap ident_text is.ident;
-      fields = body_is (meant_decl number derives names core).body core.ident left.body core.body is.members are;
+      fields = body_is (meant_decl number names core).body core.ident left.body core.body is.members are;
       default = default_is core.ident left.default core.default is.default;
       transform = is.transform;
       allows_unknown = is.allow;
@@ -142,7 +141,7 @@ whole_is rules core input own is =
     with_is P (start_body input.body) (good_fields rules core (body_fields input.body)) (start_is P input.body) (fields_are rules core own (body_fields input.body))
 
 -- the same of one that takes variants too
-meta_whole_is : (rules : Rules) (core : Core) (it : NodeData) → IsOwnIfAny core.default → core.body ≡ start_body it
+pub meta_whole_is : (rules : Rules) (core : Core) (it : NodeData) → IsOwnIfAny core.default → core.body ≡ start_body it
     → AllByRecursion (IsLeft (own_default (core_with_body rules core it).default)) (fields_in (core_with_body rules core it).body)
 meta_whole_is rules core (node.Struct it) own is =
     let P = IsLeft (own_default core.default) in
@@ -160,21 +159,18 @@ meta_whole_is rules core (node.Union it) own is =
     subst Q (sym is) tt
 
 pub input_options_are : InputOptionsAreMeant
-input_options_are rules input left number derives is no_ident =
+input_options_are rules input left number is no_ident =
     let set = container_options (fdi_reader rules input) input in
     let named = outer_items (map fdi_named (items (option_entries input.attrs))) in
     let own =
     replaced_default _ (values _ from_ident_of named)
     (first_default (same_core default.name) None (core_items named) tt) in
     record {
-      base = decl_is left.base _ number derives _ is.base (whole_is rules set.base.container input own refl);
+      base = decl_is left.base _ number _ is.base (whole_is rules set.base.container input own refl);
       attributes = ap (λ names. map path_text names.0) is.names;
       no_ident = no_ident;
     }
 
-pub item_options_are : ItemOptionsAreMeant
-item_options_are rules input left number derives is =
-    let set = container_options (meta_reader rules input) input in
-    let named = map meta_named (items (option_entries input.attrs)) in
-    let own = first_default (same_core default.name) None (meta_core_items named) tt in
-    decl_is left.base _ number derives [] is.base (meta_whole_is rules set.base input.body own refl)
+-- the members of a struct are left so, and its default is its own
+pub meta_own : (rules : Rules) (input : DeriveInput) → IsOwnIfAny (container_options (meta_reader rules input) input).base.default
+meta_own rules input = first_default (same_core default.name) None (meta_core_items (map meta_named (items (option_entries input.attrs)))) tt

@@ -68,7 +68,7 @@ settled P make [] it is = (is refl, tt)
 settled P make (fault ∷ more) it is = tt
 
 module _ (rules : Rules) (core : Core) (own : IsOwnIfAny core.default) where
-  field_is : (field : Field) → AllByRecursion (IsLeft (own_default core.default)) (list_of (value_of (field_meaning rules (Some core) field)))
+  pub field_is : (field : Field) → AllByRecursion (IsLeft (own_default core.default)) (list_of (value_of (field_meaning rules (Some core) field)))
   unfolding field_meaning
   field_is field =
       let start = field_start field in

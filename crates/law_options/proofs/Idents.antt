@@ -1,4 +1,4 @@
--- A declaration that can be run asks for no receiver that is made from an identifier.
+-- A declaration that items of a text can be read as asks for no receiver that is made from an identifier.
 use Rattle.std.proofs.Common.{◌≡◌, ◌∙◌, ◌||◌, Bool, true, false, cond, List, [], ◌∷◌, ◌++◌, map, refl, ap}
 use Rattle.std.specs.Prelude.{codes}
 use Rattle.std.specs.List.{AllByRecursion}
@@ -12,13 +12,13 @@ use Rattle.run_accepted.specs.Entries.{items, option_entries}
 use Rattle.run_accepted.specs.Rows.{last_of, list_of, Named, values}
 use Rattle.run_accepted.specs.Values.{Rules, word_of}
 use Rattle.run_accepted.specs.CoreOptions.{core_name_of}
-use Rattle.run_accepted.specs.ContainerOptions.{fdi_named, outer_item, outer_items, outer_name_of, same_outer}
+use Rattle.options_core.specs.ContainerOptions.{fdi_named, outer_item, outer_items, outer_name_of, same_outer}
 use Rattle.run_accepted.specs.CoreName.{CoreName}
-use Rattle.run_accepted.specs.FdiName.TheVariants as fdi
-use Rattle.run_accepted.specs.OuterName.{OuterName}
-use Rattle.run_accepted.specs.OuterName.TheVariants as outer
+use Rattle.options_core.specs.declared.names.FdiName.TheVariants as fdi
+use Rattle.options_core.specs.declared.names.OuterName.{OuterName}
+use Rattle.options_core.specs.declared.names.OuterName.TheVariants as outer
 use Rattle.run_accepted.specs.Stages.{fdi_reader, options_of}
-use Rattle.run_accepted.specs.Unbuilt.{IsBuilt, is_unbuilt_word}
+use Rattle.run_accepted.specs.Unbuilt.{input_places, is_unbuilt_word}
 use Rattle.run_accepted.proofs.BuiltLemmas.{no_words}
 
 -- the option of the word is none that no run reads
@@ -63,5 +63,5 @@ module _ {A : Type 0} (read : Meta → Outcome A) where
       (other_name (bytes_eq word (codes "attributes")) (bytes_eq word (codes "forward_attrs")) (bytes_eq word (codes "from_ident")) (core_name_of word) (no_ident_word word are.0))
       (no_values items are.1)
 
-pub no_ident : (rules : Rules) (decl : DeriveInput) → IsBuilt decl → (options_of (fdi_reader rules decl) decl).base.from_ident ≡ false
+pub no_ident : (rules : Rules) (decl : DeriveInput) → input_places decl ≡ [] → (options_of (fdi_reader rules decl) decl).base.from_ident ≡ false
 no_ident rules decl built = ap (last_of false) (no_values (λ item. Value true) (items (option_entries decl.attrs)) (no_words decl built))

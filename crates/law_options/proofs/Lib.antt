@@ -2,6 +2,10 @@ pub mod Owns
 pub mod Shapes
 pub mod Fields
 pub mod Declared
+pub mod Metas
+pub mod Words
+pub mod Kept
+pub mod Clear
 pub mod Idents
 pub mod Programs
 pub mod OneProgram

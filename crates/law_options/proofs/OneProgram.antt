@@ -32,13 +32,13 @@ use Rattle.codegen_core.specs.declared.variant.Variant.{Variant}
 use Rattle.run_accepted.specs.DefaultExpression.{DefaultExpression}
 use Rattle.run_accepted.specs.DefaultExpression.TheVariants as defaults
 use Rattle.run_accepted.specs.Core.{Core}
-use Rattle.run_accepted.specs.FdiOptions.{FdiOptions}
-use Rattle.run_accepted.specs.FromMetaOptions.{FromMetaOptions}
+use Rattle.options_core.specs.declared.from_derive.FdiOptions.{FdiOptions}
+use Rattle.options_core.specs.declared.from_meta.FromMetaOptions.{FromMetaOptions}
 use Rattle.run_accepted.specs.InputField.{InputField}
 use Rattle.run_accepted.specs.InputVariant.{InputVariant}
 use Rattle.run_accepted.specs.Body.{Body}
 use Rattle.run_accepted.specs.MemberViews.{AreDefaults, IsBody, IsField, IsImpl, IsVariant}
-use Rattle.run_accepted.specs.Views.{IsInputImpl, IsMetaImpl}
+use Rattle.options_core.specs.Views.{IsInputImpl, IsMetaImpl}
 use Rattle.run_accepted.specs.Values.{Rules}
 use Rattle.run_accepted.specs.Compiled.{IsUnit, IsUnitUnder}
 use Rattle.run_accepted.specs.Pairs.{Pair, pairs_from}

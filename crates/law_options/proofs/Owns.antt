@@ -10,7 +10,7 @@ use Rattle.run_accepted.specs.DefaultExpression.{DefaultExpression}
 use Rattle.run_accepted.specs.DefaultExpression.TheVariants as defaults
 use Rattle.run_accepted.specs.Rows.{first_of, last_of, list_of, Named, values}
 use Rattle.run_accepted.specs.Values.{default_of}
-use Rattle.run_accepted.specs.ContainerOptions.{trait_at}
+use Rattle.options_core.specs.ContainerOptions.{trait_at}
 
 -- it is not inherited
 abbrev pub IsOwn : DefaultExpression → Type 0

@@ -19,15 +19,15 @@ use Rattle.run_accepted.specs.FieldOptions.{clash_of, clashes, field_faults, fie
 abbrev pub HasOneShape : InputField → Type 0
 HasOneShape it = (unwrap_or it.multiple false && is_some it.flatten.0) ≡ false
 
-none-left : {A : Type 0} (xs ys : List A) → xs ++ ys ≡ [] → xs ≡ []
+pub none-left : {A : Type 0} (xs ys : List A) → xs ++ ys ≡ [] → xs ≡ []
 none-left [] ys is = refl
 none-left (x ∷ xs) ys is = cc
 
-none-right : {A : Type 0} (xs ys : List A) → xs ++ ys ≡ [] → ys ≡ []
+pub none-right : {A : Type 0} (xs ys : List A) → xs ++ ys ≡ [] → ys ≡ []
 none-right [] ys is = is
 none-right (x ∷ xs) ys is = cc
 
-none-later : (first later : List Fault) → else_faults first later ≡ [] → later ≡ []
+pub none-later : (first later : List Fault) → else_faults first later ≡ [] → later ≡ []
 none-later [] later is = is
 none-later (fault ∷ more) later is = cc
 

@@ -1,45 +1,50 @@
 -- What is claimed of options.
-use Rattle.std.specs.Prelude.{◌≡◌, ℕ, false, List, Some, slice_get}
+use Rattle.std.specs.Prelude.{◌≡◌, ℕ, true, false, List, [], Some, None, slice_get}
 use Rattle.std.specs.List.{All}
+use Rattle.node_core.specs.declared.data.Variant.{Variant}
 use Rattle.node_core.specs.declared.derive.DeriveInput.{DeriveInput}
 use Rattle.codegen_core.specs.declared.from_derive_impl.FromDeriveInputImpl.{FromDeriveInputImpl}
 use Rattle.codegen_core.specs.declared.from_meta_impl.FromMetaImpl.{FromMetaImpl}
-use Rattle.codegen_program.specs.declared.program.Derive.{Derive}
 use Rattle.codegen_program.specs.declared.program.Derive.TheVariants as derive
 use Rattle.codegen_program.specs.declared.program.Program.{Program}
 use Rattle.codegen_program.specs.declared.program.«Unit».{«Unit» as Unit'}
 use Rattle.run_accepted.specs.Values.{Rules}
-use Rattle.run_accepted.specs.Stages.{fdi_reader, meta_reader, options_of}
-use Rattle.run_accepted.specs.Views.{IsInputImpl, IsMetaImpl}
-use Rattle.law_machine.specs.Compiles.{IsDecl, IsInputDecl}
+use Rattle.options_forms.specs.Forms.{meta_forms}
+use Rattle.run_accepted.specs.Stages.{fdi_reader, meta_reader, option_faults, options_of}
+use Rattle.options_core.specs.Views.{IsInputImpl, IsMetaImpl}
+use Rattle.law_machine.specs.Compiles.{IsInputDecl, IsMetaDecl}
 use Rattle.run_accepted.specs.HostSays.{HostSays}
-use Rattle.run_accepted.specs.Machine.{machine}
+use Rattle.machine_steps.specs.Machine.{machine}
 use Rattle.run_accepted.specs.Compiled.{IsProgram, IsUnit}
-use Rattle.run_accepted.specs.Pairs.{pair}
-use Rattle.run_accepted.specs.Unbuilt.{IsBuilt}
-use Rattle.law_options.specs.Meant.{meant_input, meant_items}
+use Rattle.run_accepted.specs.Derives.{derives_of}
+use Rattle.run_accepted.specs.Forms.{first_form}
+use Rattle.run_accepted.specs.Pairs.{pair, pairs_from, rejected}
+use Rattle.run_accepted.specs.Unbuilt.{IsBuilt, derives_input}
+use Rattle.law_options.specs.Meant.{meant_input, meant_meta}
 use Rattle.law_options.specs.Texts.{text_meaning}
 
 -- what is compiled from the options of `FromDeriveInput` is of the declaration that they mean
 abbrev pub InputOptionsAreMeant : Type 0
 InputOptionsAreMeant =
-    (rules : Rules) (input : DeriveInput) (left : FromDeriveInputImpl) (number : ℕ) (derives : List Derive)
+    (rules : Rules) (input : DeriveInput) (left : FromDeriveInputImpl) (number : ℕ)
     → IsInputImpl left (options_of (fdi_reader rules input) input) → left.from_ident ≡ false
-    → IsInputDecl left (meant_input number derives (options_of (fdi_reader rules input) input))
+    → IsInputDecl left (meant_input number (options_of (fdi_reader rules input) input))
 
--- the same of `FromMeta`
-abbrev pub ItemOptionsAreMeant : Type 0
-ItemOptionsAreMeant =
-    (rules : Rules) (input : DeriveInput) (left : FromMetaImpl) (number : ℕ) (derives : List Derive)
+-- the same of `FromMeta`, where options have no faults and show no form without a program
+abbrev pub MetaOptionsAreMeant : Type 0
+MetaOptionsAreMeant =
+    (rules : Rules) (input : DeriveInput) (left : FromMetaImpl) (number : ℕ) (variants : List Variant)
+    → option_faults (meta_reader rules input) input ≡ [] → meta_forms (options_of (meta_reader rules input) input) ≡ []
     → IsMetaImpl left (options_of (meta_reader rules input) input)
-    → IsDecl left.base (meant_items number derives (options_of (meta_reader rules input) input))
+    → IsMetaDecl variants left (meant_meta number variants (options_of (meta_reader rules input) input))
 
 -- The unit of a declaration for `FromDeriveInput`, in the program that a text compiles to, gives on any item what the item
--- means under the text, all of whose declarations can be run.
+-- means under the text, whose options have no faults and all of whose forms can be run.
 abbrev pub ProgramIsMeant : Type 0
 ProgramIsMeant =
     (host : HostSays) (rules : Rules) (decls : List DeriveInput) (program : Program) (number : ℕ) (decl : DeriveInput) (unit : Unit') (subject : DeriveInput)
-    → IsProgram rules decls program → slice_get decls number ≡ Some decl → All IsBuilt decls → IsUnit rules (pair number decl derive.FromDeriveInput) unit
+    → IsProgram rules decls program → rejected rules (pairs_from 0 decls) ≡ None → first_form rules decls ≡ None → All IsBuilt decls
+    → slice_get decls number ≡ Some decl → derives_input (derives_of decl.attrs) ≡ true → IsUnit rules (pair number decl derive.FromDeriveInput) unit
     → machine host program unit subject ≡ Some (text_meaning host rules decls number decl subject)
 
 -- the declarations of a text have one program at most

@@ -5,7 +5,6 @@ pub use Rattle.run_accepted.specs.Body
 pub use Rattle.run_accepted.specs.Core
 pub use Rattle.run_accepted.specs.Entries
 pub use Rattle.run_accepted.specs.FieldOptions
-pub use Rattle.run_accepted.specs.Form
 pub use Rattle.run_accepted.specs.HostSays
 pub use Rattle.run_accepted.specs.InputField
 pub use Rattle.run_accepted.specs.Members

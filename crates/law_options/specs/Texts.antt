@@ -4,36 +4,38 @@ use Rattle.node_core.specs.declared.derive.DeriveInput.{DeriveInput}
 use Rattle.error_fault.specs.Outcome.{Outcome}
 use Rattle.run_accepted.specs.HostSays.{HostSays}
 use Rattle.machine_value.specs.declared.value.Value.{Value as Datum}
-use Rattle.run_accepted.specs.Setting.{Setting}
+use Rattle.machine_steps.specs.Setting.{Setting}
+use Rattle.machine_steps.specs.Receivers.{variants_of}
 use Rattle.codegen_program.specs.declared.program.Derive.{Derive}
 use Rattle.codegen_program.specs.declared.program.Derive.TheVariants as derive
 use Rattle.law_machine.specs.Decl.{Decl}
+use Rattle.law_machine.specs.Receivers.{MetaDecl}
 use Rattle.law_machine.specs.Declarations.{declared_meaning}
 use Rattle.run_accepted.specs.Values.{Rules}
 use Rattle.run_accepted.specs.Stages.{fdi_reader, meta_reader, options_of}
 use Rattle.run_accepted.specs.Attributes.{without_attributes}
 use Rattle.run_accepted.specs.Pairs.{Pair, pairs_from}
-use Rattle.law_options.specs.Meant.{meant_input, meant_items}
+use Rattle.law_options.specs.Meant.{meant_input, meant_meta}
 
--- what the options of a declaration mean under `FromMeta`, by which items are read as it
-abbrev pub decls_under : Rules → ℕ → DeriveInput → Derive → List Decl
-decls_under rules number decl derive.FromMeta = meant_items number (derive.FromMeta ∷ []) (options_of (meta_reader rules decl) decl) ∷ []
+-- what the options of a declaration mean under a derive by which metas are read as it
+abbrev pub decls_under : Rules → ℕ → DeriveInput → Derive → List MetaDecl
+decls_under rules number decl derive.FromMeta = meant_meta number (variants_of decl.body) (options_of (meta_reader rules decl) decl) ∷ []
 decls_under rules number decl derive.FromAttributes = []
 decls_under rules number decl derive.FromDeriveInput = []
 decls_under rules number decl derive.FromField = []
 decls_under rules number decl derive.FromTypeParam = []
 decls_under rules number decl derive.FromVariant = []
 
-abbrev pub pair_decls : Rules → Pair → List Decl
+abbrev pub pair_decls : Rules → Pair → List MetaDecl
 pair_decls rules it = decls_under rules it.number it.decl it.derive
 
--- the declarations that items are read as
-abbrev pub item_decls : Rules → List DeriveInput → List Decl
-item_decls rules decls = flat_map (pair_decls rules) (pairs_from 0 decls)
+-- the declarations that metas are read as
+abbrev pub meta_decls : Rules → List DeriveInput → List MetaDecl
+meta_decls rules decls = flat_map (pair_decls rules) (pairs_from 0 decls)
 
 -- what the options of the declaration of this number mean under `FromDeriveInput`
 abbrev pub input_decl : Rules → ℕ → DeriveInput → Decl
-input_decl rules number decl = meant_input number (derive.FromDeriveInput ∷ []) (options_of (fdi_reader rules decl) decl)
+input_decl rules number decl = meant_input number (options_of (fdi_reader rules decl) decl)
 
 -- the host, and the declarations without attributes
 abbrev pub text_setting : HostSays → List DeriveInput → Setting
@@ -42,4 +44,4 @@ text_setting host decls = record { host = host; decls = map without_attributes d
 -- what an item of a text means under the declaration of this number, whose fields may have the types of those before it
 abbrev pub text_meaning : HostSays → Rules → List DeriveInput → ℕ → DeriveInput → DeriveInput → Outcome Datum
 text_meaning host rules decls number decl subject =
-    declared_meaning (text_setting host decls) (item_decls rules decls) (input_decl rules number decl) subject
+    declared_meaning (text_setting host decls) (meta_decls rules decls) (input_decl rules number decl) subject

@@ -1,15 +1,15 @@
 //! The laws. These functions do nothing: their clauses are the laws.
 
-ghost use Rattle.law_options.specs.Claims.{InputOptionsAreMeant, ItemOptionsAreMeant, ProgramIsMeant, ProgramIsOne};
+ghost use Rattle.law_options.specs.Claims.{InputOptionsAreMeant, MetaOptionsAreMeant, ProgramIsMeant, ProgramIsOne};
 
 /// What is compiled from the options of a receiver that derives `FromDeriveInput` is of the declaration that they mean.
 pub fn input_options_are_meant()
     ensures { InputOptionsAreMeant }
 {}
 
-/// The same of one that derives `FromMeta`.
-pub fn item_options_are_meant()
-    ensures { ItemOptionsAreMeant }
+/// The same of one that derives `FromMeta`, where its options have no faults and each of its forms has a program.
+pub fn meta_options_are_meant()
+    ensures { MetaOptionsAreMeant }
 {}
 
 /// The program that a text compiles to, run on any item, gives what the item means under the declarations of the text.

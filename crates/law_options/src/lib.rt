@@ -5,6 +5,6 @@
 mod laws;
 
 pub use laws::{
-    a_program_is_meant, a_text_has_one_program, input_options_are_meant, item_options_are_meant,
+    a_program_is_meant, a_text_has_one_program, input_options_are_meant, meta_options_are_meant,
 };
 pub use run_accepted::{Form, Host, RefusingHost, RenameTable, TableFail, earliest};

@@ -1,10 +1,11 @@
 -- The receiver of accepted declarations, and what it makes of an item.
-use Rattle.std.proofs.Common.{◌≡◌, ◌∙◌, ◌<◌, ◌+◌, ◌-◌, ◌==◌, ◌&&◌, ◌||◌, ℕ, Bool, true, false, cond, nat_lt, List, [], ◌∷◌, length, position, slice_get, Option, Some, None, option_and_then, option_map, refl, sym, ap, subst₂, arith}
+use Rattle.std.proofs.Common.{◌≡◌, ◌∙◌, ◌<◌, ◌+◌, ◌-◌, ◌==◌, ◌&&◌, ◌||◌, ℕ, Bool, true, false, cond, nat_lt, List, [], ◌∷◌, length, map, position, slice_get, All, Option, Some, None, option_and_then, option_map, refl, sym, ap, subst₂, arith, suc}
 use Rattle.std.specs.Prelude.{if◌then◌else◌}
-use Rattle.std.specs.List.{AllZip, find, list_any, position_or_len}
+use Rattle.std.specs.List.{AllByRecursion, AllZip, find, list_any, position_or_len}
 use Rattle.std.proofs.lemmas.Bool.{and_parts, cond-true}
 use Rattle.std.proofs.lemmas.Bool.Decides.{Decides-eqb, Decides-ltb, nat_tests}
 use Rattle.std.proofs.lemmas.List.{length-map}
+use Rattle.std.proofs.lemmas.List.Elements.{All-from_recursion}
 use Rattle.std.proofs.lemmas.List.Folds.{find_at}
 use Rattle.std.proofs.lemmas.Option.{slice_get_within}
 use Rattle.node_core.specs.declared.derive.DeriveInput.{DeriveInput}
@@ -21,13 +22,17 @@ use Rattle.law_options.specs.HostSays.{HostSays}
 use Rattle.law_options.specs.Values.{Rules}
 use Rattle.run_accepted.specs.Attributes.{without_attributes}
 use Rattle.run_accepted.specs.Compiled.{IsUnit, IsUnitUnder}
-use Rattle.run_accepted.specs.Pairs.{pair, pairs_from}
+use Rattle.run_accepted.specs.Derives.{derives_of}
+use Rattle.run_accepted.specs.Pairs.{Pair, pair, pairs_from, pairs_of}
+use Rattle.run_accepted.specs.Unbuilt.{derives_input}
+use Rattle.run_accepted.specs.declared.derives.Derived.{Derived}
 use Rattle.run_accepted.specs.Accepted.{unfitness}
 use Rattle.run_accepted.proofs.FitLemmas.{has_receiver}
 use Rattle.run_accepted.proofs.ListLemmas.{at_place, opposite}
 use Rattle.run_accepted.proofs.UnitLemmas.{Stands, all_stand, derive_is, number_is}
 use Rattle.run_source.specs.Receiver.{is_receiver, receiver}
 use Rattle.law_options.specs.Texts.{text_meaning}
+use Rattle.law_options.proofs.Owns.{all-append}
 use Rattle.law_options.proofs.Programs.{program_is_meant}
 use Rattle.run_source.specs.Claims.{AcceptedIsMeant}
 
@@ -75,17 +80,47 @@ first_receiver host program none =
     (λ unit. ap (λ last. last && is_input unit.derive) (is_last unit.decl count some)))
     ∙ has.1)
 
+-- ---- derives
+
+or-second : (one other : Bool) → other ≡ true → (one || other) ≡ true
+or-second true other is = refl
+or-second false other is = is
+
+-- the declaration of a pair that reads items of a text derives `FromDeriveInput`
+abbrev pub Derives : Pair → Type 0
+Derives it = is_input it.derive ≡ true → derives_input (derives_of it.decl.attrs) ≡ true
+
+each_derives : (number : ℕ) (decl : DeriveInput) (derives : List Derived) → (derives_input derives ≡ true → derives_input (derives_of decl.attrs) ≡ true)
+    → AllByRecursion Derives (map (λ (it : Derived). pair number decl it.derive) derives)
+each_derives number decl [] within = tt
+each_derives number decl (it ∷ derives) within = (
+  λ reads. within (ap (λ one. one || derives_input derives) reads),
+  each_derives number decl derives (λ later. within (or-second (is_input it.derive) (derives_input derives) later)),
+)
+
+derive_from : (number : ℕ) (decls : List DeriveInput) → AllByRecursion Derives (pairs_from number decls)
+derive_from number [] = tt
+derive_from number (decl ∷ decls) =
+    all-append Derives (pairs_of number decl) (pairs_from (suc number) decls) (each_derives number decl (derives_of decl.attrs) (λ is. is)) (derive_from (suc number) decls)
+
+pub all_derive : (decls : List DeriveInput) → All Derives (pairs_from 0 decls)
+all_derive decls = All-from_recursion Derives (pairs_from 0 decls) (derive_from 0 decls)
+
 -- a unit is made of the declaration of its number
 made_of : (rules : Rules) (decls : List DeriveInput) (units : List Unit') (place : ℕ) (unit : Unit') → AllZip (IsUnit rules) (pairs_from 0 decls) units
     → slice_get units place ≡ Some unit → is_input unit.derive ≡ true
-    → (decl : DeriveInput) × (slice_get decls unit.decl ≡ Some decl) × IsUnit rules (pair unit.decl decl derive.FromDeriveInput) unit
+    → (decl : DeriveInput) × (slice_get decls unit.decl ≡ Some decl) × (derives_input (derives_of decl.attrs) ≡ true)
+    × IsUnit rules (pair unit.decl decl derive.FromDeriveInput) unit
 made_of rules decls units place unit zip at reads =
     let (it, at_pair, made) = opposite (IsUnit rules) (pairs_from 0 decls) units place unit zip at in
     let same = number_is rules it.number it.decl it.derive unit made in
+    let input : it.derive ≡ derive.FromDeriveInput = derive_is rules it.number it.decl it.derive unit made reads in
+    let derives : Derives it = at_place Derives (pairs_from 0 decls) place it (all_derive decls) at_pair in
     let P : ℕ → Derive → Type 0 = λ number under. IsUnitUnder rules number it.decl under unit in (
       it.decl,
       ap (slice_get decls) same ∙ at_place (Stands decls) (pairs_from 0 decls) place it (all_stand decls) at_pair,
-      subst₂ P (sym same) (derive_is rules it.number it.decl it.derive unit made reads) made,
+      derives (ap is_input input),
+      subst₂ P (sym same) input made,
     )
 
 -- what reads items of a text is of that derive
@@ -101,7 +136,7 @@ pub accepted_is_meant : AcceptedIsMeant
 accepted_is_meant host rules decls program built is =
     let (number, unit, first, at, passes) = first_receiver host program is.fits in
     let parts = and_parts (unit.decl + 1 == length program.decls) (is_input unit.derive) passes in
-    let (last, stands, made) = made_of rules decls program.units number unit is.sound.compiled.units at parts.1 in
+    let (last, stands, derives, made) = made_of rules decls program.units number unit is.sound.compiled.units at parts.1 in
     let count : length program.decls ≡ length decls = ap length is.sound.compiled.bare ∙ length-map decls without_attributes in
     let behind : unit.decl + 1 ≡ length program.decls = (Decides-eqb (unit.decl + 1) (length program.decls)).0 parts.0 in
     let end : unit.decl ≡ length decls - 1 = omega arith in
@@ -111,7 +146,7 @@ accepted_is_meant host rules decls program built is =
     λ subject.
     ap (option_and_then (λ unit. unit_on host program unit (OnInput subject))) at
     ∙ ap (λ b. if b then machine host program unit subject else None) (input_same unit.derive parts.1)
-    ∙ program_is_meant host rules decls program unit.decl last unit subject is.sound.compiled stands built made
+    ∙ program_is_meant host rules decls program unit.decl last unit subject is.sound.compiled is.sound.options is.sound.supported built stands derives made
     ∙ ap (λ number. Some (text_meaning host rules decls number last subject)) end in (
       record { number = number; receiver = first; outcomes = λ subject. (meaning subject, means subject) },
       λ subject.

@@ -7,7 +7,6 @@ pub use Rattle.law_options.specs.Body
 pub use Rattle.law_options.specs.Core
 pub use Rattle.law_options.specs.Entries
 pub use Rattle.law_options.specs.FieldOptions
-pub use Rattle.law_options.specs.Form
 pub use Rattle.law_options.specs.HostSays
 pub use Rattle.law_options.specs.InputField
 pub use Rattle.law_options.specs.Members
