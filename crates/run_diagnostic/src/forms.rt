@@ -26,7 +26,7 @@ pub fn push_unbuilt(alloc: Global, out: &mut Text, parts: &Parts<'_>, span: Span
         ),
         _ => (
             "is no struct with named fields",
-            "other forms of declarations are not read yet",
+            "other forms of declarations are read under `FromMeta` alone",
         ),
     };
     push_all(out, &["error: `", word, "` ", title, "\n"])?;
@@ -35,16 +35,7 @@ pub fn push_unbuilt(alloc: Global, out: &mut Text, parts: &Parts<'_>, span: Span
 }
 
 fn is_option(word: &str) -> bool {
-    matches!(
-        word,
-        "transparent"
-            | "supports"
-            | "from_ident"
-            | "from_word"
-            | "from_none"
-            | "from_expr"
-            | "derive_syn_parse"
-    )
+    matches!(word, "transparent" | "supports" | "from_ident")
 }
 
 /// The name of a form: its first word, but of a derive behind `darling::` the last.
