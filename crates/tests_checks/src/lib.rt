@@ -10,6 +10,23 @@ use tok_core::{TokenStream, lex, to_text};
 
 pub type Tested<T> = Result<T, Fail>;
 
+/// The table with each row in one line: a line that begins with two spaces goes on with the row before.
+pub fn unwrapped(alloc: Global, table: &str) -> Tested<String> {
+    let mut rows = String::new(alloc);
+    for line in table.lines() {
+        match line.strip_prefix("  ") {
+            Some(more) => rows.push_str(more)?,
+            None => {
+                if !rows.is_empty() {
+                    rows.push('\n')?;
+                }
+                rows.push_str(line)?;
+            }
+        }
+    }
+    Ok(rows)
+}
+
 /// The text of a row and what stands behind its arrow, which is the text where it has none.
 pub fn row_of(row: &str) -> (&str, &str) {
     row.split_once(" => ").unwrap_or((row, row))

@@ -7,17 +7,19 @@ use crate::programs::{arm_at, by_hand, come_of, named_twice, outcome, program_of
 use crate::sources::{derives, repeated, without};
 use crate::statements::of_last;
 use crate::types::{beside, deeper, element, of_host, row_of_table, row_text};
+use crate::variants::variant_outcome;
 use machine_host::RefusingHost;
 use machine_std::StdHost;
 use node_core::{Span, Text};
 use print_core::ToTokens;
 use std::alloc::Global;
 use std::test::Fail;
-use tests_checks::{Tested, row_of};
+use tests_checks::{Tested, row_of, unwrapped};
 use tok_core::to_text;
 
 /// Asks each row of a table of one kind.
 pub fn rows(alloc: Global, kind: &str, table: &str) -> Tested<()> {
+    let table = unwrapped(alloc, table)?;
     for row in table.lines() {
         let (argument, wanted) = row_of(row);
         let told = told(alloc, kind, expanded(alloc, argument)?.as_str())?;
@@ -45,6 +47,7 @@ fn told(alloc: Global, kind: &str, argument: &str) -> Tested<Text> {
         "statements" => of_last(alloc, &program_of(alloc, argument)?),
         "statements by hand" => of_last(alloc, &by_hand(alloc, argument)?),
         "outcome" => outcome(alloc, argument),
+        "variants" => variant_outcome(alloc, argument),
         "arm" => arm_at(alloc, argument),
         "names" => named_twice(alloc, argument),
         _ => match kind.strip_prefix("refusing ") {

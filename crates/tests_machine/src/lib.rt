@@ -25,3 +25,5 @@ mod statements;
 mod table;
 #[cfg(test)]
 mod types;
+#[cfg(test)]
+mod variants;

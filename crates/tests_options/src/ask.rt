@@ -13,11 +13,12 @@ use print_core::ToTokens;
 use std::alloc::Global;
 use std::test::Fail;
 use syn_core::parse_derive_input;
-use tests_checks::{Tested, given, row_of, tokens};
+use tests_checks::{Tested, given, row_of, tokens, unwrapped};
 use tok_core::to_text;
 
 /// Asks each row of a table of one kind.
 pub fn rows(alloc: Global, kind: &str, table: &str) -> Tested<()> {
+    let table = unwrapped(alloc, table)?;
     for row in table.lines() {
         let (argument, wanted) = row_of(row);
         let told = told(alloc, kind, expanded(alloc, argument)?.as_str())?;

@@ -20,25 +20,45 @@ struct A(u8); => from_meta A.0: u8;
 #[darling(transparent, rename_all = "kebab")] struct A { #[darling(rename = "x", default)] r#in: a::B } => from_meta A.r#in: a :: B;
 struct A { a: u8 } => from_list one 0;errors;items a=>0 else of a;check 0 a;finish;build A a=0;
 struct A {} => from_list errors;items else of;finish;build A;
-#[darling(default = f, map = g)] struct A { a: u8, #[darling(flatten)] b: B } => from_list one 0;one 1;buffer;errors;items a=>0 else keep;flatten 1;finish;default;build A a=0 b=1;transform;"#;
+#[darling(default = f, map = g)] struct A { a: u8, #[darling(flatten)] b: B }
+   => from_list one 0;one 1;buffer;errors;items a=>0 else keep;flatten 1;finish;default;build A a=0 b=1;transform;"#;
 
 // Enums: what is read of a list, and of a string.
 const ENUMS: &str = r#"enum A {} => from_list of;from_string of;
 enum A { #[darling(skip)] B, #[darling(skip)] C { c: u8 } } => from_list of;from_string of;
-enum A { B, #[darling(skip)] C, D(u8), #[darling(rename = "x")] E { a: u8 }, OneTwo } => from_list B=B D=D.0: u8 x=E{errors;one 0;items a=>0 else of a;check 0 a;finish at x;build A::E a=0;} one_two=OneTwo of B D x one_two;from_string B=B D=D.0: u8 x=E{..} one_two=OneTwo of B D x one_two;
-enum A { B { a: u8, b: u8 }, #[darling(skip)] C { c: u8 }, D(u8), #[darling(transparent)] E { e: u8 }, F { f: u8 }, G {}, H { h: u8 } } => from_list B=B{errors;one 0;one 1;items a=>0 b=>1 else of a b;check 0 a;check 1 b;finish at B;build A::B a=0 b=1;} D=D.0: u8 E=E.e: u8 F=F{errors;one 2;items f=>2 else of f;check 2 f;finish at F;build A::F f=2;} G=G{errors;items else of;finish at G;build A::G;} H=H{errors;one 3;items h=>3 else of h;check 3 h;finish at H;build A::H h=3;} of B D E F G H;from_string B=B{..} D=D.0: u8 E=E.e: u8 F=F{..} G=G{..} H=H{..} of B D E F G H;
-enum A { #[darling(transparent)] B { a: u8, b: u8 }, #[darling(transparent)] C } => from_list B=B{errors;one 0;one 1;items a=>0 b=>1 else of a b;check 0 a;check 1 b;finish at B;build A::B a=0 b=1;} C=C of B C;from_string B=B{..} C=C of B C;
-enum A { B { #[darling(multiple)] a: Vec<u8>, #[darling(skip)] b: u8, #[darling(rename = "x", default)] c: u8 } } => from_list B=B{errors;many 0;one 1;one 2;items a=>>0 x=>2 else of a x;finish at B;build A::B a=0 b=1 c=2;} of B;from_string B=B{..} of B;
-enum A { B { a: u8, #[darling(flatten)] b: B } } => from_list B=B{errors;one 0;one 1;buffer;items a=>0 else keep;check 0 a;check 1 b;finish at B;build A::B a=0 b=1;} of B;from_string B=B{..} of B;
-#[darling(allow_unknown_fields, rename_all = "kebab")] enum A { OneTwo { one_two: u8 }, C } => from_list one-two=OneTwo{errors;one 0;items one-two=>0 else nothing;check 0 one-two;finish at one-two;build A::OneTwo one_two=0;} C=C of one-two C;from_string one-two=OneTwo{..} C=C of one-two C;
-#[darling(default = f)] enum r#A { r#B, C { #[darling(default)] c: u8 } } => from_list r#B=r#B C=C{errors;one 0;items c=>0 else of c;finish at C;build r#A::C c=0;} of r#B C;from_string r#B=r#B C=C{..} of r#B C;"#;
+enum A { B, #[darling(skip)] C, D(u8), #[darling(rename = "x")] E { a: u8 }, OneTwo }
+   => from_list B=B D=D.0: u8 x=E{errors;one 0;items a=>0 else of a;check 0 a;finish at x;build A::E a=0;}
+   one_two=OneTwo of B D x one_two;from_string B=B D=D.0: u8 x=E{..} one_two=OneTwo of B D x one_two;
+enum A { B { a: u8, b: u8 }, #[darling(skip)] C { c: u8 }, D(u8), #[darling(transparent)] E { e: u8 }, F { f: u8 }, G
+   {}, H { h: u8 } } => from_list B=B{errors;one 0;one 1;items a=>0 b=>1 else of a b;check 0 a;check 1 b;finish at B;
+  build A::B a=0 b=1;} D=D.0: u8 E=E.e: u8 F=F{errors;one 2;items f=>2 else of f;check 2 f;finish at F;build A::F
+   f=2;} G=G{errors;items else of;finish at G;build A::G;} H=H{errors;one 3;items h=>3 else of h;check 3 h;finish at
+   H;build A::H h=3;} of B D E F G H;from_string B=B{..} D=D.0: u8 E=E.e: u8 F=F{..} G=G{..} H=H{..} of B D E F G H;
+enum A { #[darling(transparent)] B { a: u8, b: u8 }, #[darling(transparent)] C }
+   => from_list B=B{errors;one 0;one 1;items a=>0 b=>1 else of a b;check 0 a;check 1 b;finish at B;build A::B a=0
+   b=1;} C=C of B C;from_string B=B{..} C=C of B C;
+enum A { B { #[darling(multiple)] a: Vec<u8>, #[darling(skip)] b: u8, #[darling(rename = "x", default)] c: u8 } }
+   => from_list B=B{errors;many 0;one 1;one 2;items a=>>0 x=>2 else of a x;finish at B;build A::B a=0 b=1 c=2;} of B;
+  from_string B=B{..} of B;
+enum A { B { a: u8, #[darling(flatten)] b: B } } => from_list B=B{errors;one 0;one 1;buffer;items a=>0 else keep;
+  check 0 a;check 1 b;finish at B;build A::B a=0 b=1;} of B;from_string B=B{..} of B;
+#[darling(allow_unknown_fields, rename_all = "kebab")] enum A { OneTwo { one_two: u8 }, C }
+   => from_list one-two=OneTwo{errors;one 0;items one-two=>0 else nothing;check 0 one-two;finish at one-two;build
+   A::OneTwo one_two=0;} C=C of one-two C;from_string one-two=OneTwo{..} C=C of one-two C;
+#[darling(default = f)] enum r#A { r#B, C { #[darling(default)] c: u8 } }
+   => from_list r#B=r#B C=C{errors;one 0;items c=>0 else of c;finish at C;build r#A::C c=0;} of r#B C;from_string
+   r#B=r#B C=C{..} of r#B C;"#;
 
 // What words, callables and the other options of the declaration become.
-const CALLS: &str =
-    r#"#[darling(from_word = f, from_none = a::g, from_expr = |x| h(x))] struct A {} => from_word f as from_word;from_none a :: g as from_none;from_expr | x | h (x) as from_expr;from_list errors;items else of;finish;build A;
-#[darling(from_expr = h, from_none = g)] enum A { C(u8) } => from_list C=C.0: u8 of C;from_string C=C.0: u8 of C;from_none g as from_none;from_expr h as from_expr;
+const CALLS: &str = r#"#[darling(from_word = f, from_none = a::g, from_expr = |x| h(x))] struct A {}
+   => from_word f as from_word;from_none a :: g as from_none;from_expr | x | h (x) as from_expr;from_list errors;
+  items else of;finish;build A;
+#[darling(from_expr = h, from_none = g)] enum A { C(u8) } => from_list C=C.0: u8 of C;from_string C=C.0: u8 of C;
+  from_none g as from_none;from_expr h as from_expr;
 #[darling(from_word = f)] enum A { #[darling(word = false)] B } => from_list B=B of B;from_string B=B of B;from_word f as from_word;
-enum A { #[darling(word = false)] B, C(u8), #[darling(word)] r#D } => from_list B=B C=C.0: u8 r#D=r#D of B C r#D;from_string B=B C=C.0: u8 r#D=r#D of B C r#D;from_word || _darling :: export :: Ok (Self :: r#D) as from_word;
+enum A { #[darling(word = false)] B, C(u8), #[darling(word)] r#D }
+   => from_list B=B C=C.0: u8 r#D=r#D of B C r#D;from_string B=B C=C.0: u8 r#D=r#D of B C r#D;from_word || _darling
+   :: export :: Ok (Self :: r#D) as from_word;
 enum A { #[darling(skip, word)] B } => from_list of;from_string of;from_word || _darling :: export :: Ok (Self :: B) as from_word;
 enum A { #[darling(word = false)] B } => from_list B=B of B;from_string B=B of B;
 #[darling(derive_syn_parse, crate = a::b)] struct A; => syn a :: b from_word build A;

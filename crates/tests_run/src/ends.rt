@@ -4,7 +4,7 @@ use darling_run::{StdHost, run_tool};
 use edge_core::{MemorySink, MemorySource};
 use std::alloc::Global;
 use std::test::Fail;
-use tests_checks::{Tested, kind_of, row_of};
+use tests_checks::{Tested, kind_of, row_of, unwrapped};
 
 // What the source gives in one read, and what the sink takes in one write and in all.
 const GIVEN: usize = 65_536;
@@ -59,6 +59,7 @@ fn ends(end: (u8, Vec<u8>), row: &str, number: u8, text: &str) -> Tested<()> {
 /// Runs the tool on each row.
 pub fn rows(alloc: Global, tables: &[&str]) -> Tested<()> {
     for table in tables {
+        let table = unwrapped(alloc, table)?;
         for row in table.lines() {
             let (given, wanted) = row_of(row);
             let input = input_of(alloc, given)?;

@@ -8,6 +8,8 @@ mod declarations;
 #[cfg(test)]
 mod ends;
 #[cfg(test)]
+mod enums;
+#[cfg(test)]
 mod hosts;
 #[cfg(test)]
 mod inputs;

@@ -8,7 +8,8 @@ use tests_checks::Tested;
 const ITEMS: &str = r##"name: String | #[my(name = "a")] struct S; => ok S Opts {name: "a"}
 #[doc = "x"] pub name: String | #[my(name = "a")] struct S; => ok S Opts {name: "a"}
 name: String | #[my] struct S; => err S 1 / - Missing field `name`
-name: String | #[my(name = "a", name = 5, nom = "b")] struct S; => err S 2 / 17..25 Duplicate field `name` / 27..36 Unknown field: `nom`. Available values: `name`
+name: String | #[my(name = "a", name = 5, nom = "b")] struct S;
+   => err S 2 / 17..25 Duplicate field `name` / 27..36 Unknown field: `nom`. Available values: `name`
 name: String | #[my(name = 5)] struct S; => err S 1 / 12..13 Unexpected type `int` at name
 name: String | #[my = 4] struct S; => err S 2 / 2..8 Name-value arguments are not supported. Use #[my(...)] / - Missing field `name`
 name: String | #[my()] struct S; => err S 1 / - Missing field `name`
@@ -30,9 +31,16 @@ name: String | #[my(name = )] struct S; => err S 1 / 10..11 expected an expressi
 
 // Fields of another name, fields that share one, and fields of many items.
 const MANY: &str =
-    r#"#[darling(multiple)] n: Vec<u8> | #[my(n = 300, n = 1, n = 301, n = "x")] struct S; => err S 3 / 9..12 number too large to fit in target type at n[0] / 25..28 number too large to fit in target type at n[1] / 34..37 Unknown value: `x` at n[1]
-#[darling(multiple)] n: Vec<u8>, a: u8 | #[my(n = 1, n = 1, n = 1, n = 1, n = 1, n = 1, n = 1, n = 1, n = 1, n = 1, n = 1, n = 1, n = 1, n = 1, n = 1, a = 1, a = 2, m = 3, m = 4)] struct S; => err S 3 / 117..122 Duplicate field `a` / 124..129 Unknown field: `m`. Available values: `a`, `n` / 131..136 Unknown field: `m`. Available values: `a`, `n`
-#[darling(multiple)] n: Vec<u8>, a: u8 | #[my(n = 1, n = 1, n = 1, n = 1, n = 1, n = 1, n = 1, n = 1, n = 1, n = 1, n = 1, n = 1, n = 1, n = 1, n = 1, n = 1, a = 7)] struct S; => ok S Opts {n: [1, 1, 1, 1, 1, 1, 1, 1, 1, 1, 1, 1, 1, 1, 1, 1], a: 7}
+    r#"#[darling(multiple)] n: Vec<u8> | #[my(n = 300, n = 1, n = 301, n = "x")] struct S;
+   => err S 3 / 9..12 number too large to fit in target type at n[0] / 25..28 number too large to fit in target type
+   at n[1] / 34..37 Unknown value: `x` at n[1]
+#[darling(multiple)] n: Vec<u8>, a: u8 | #[my(n = 1, n = 1, n = 1, n = 1, n = 1, n = 1, n = 1, n = 1, n = 1, n = 1, n
+   = 1, n = 1, n = 1, n = 1, n = 1, a = 1, a = 2, m = 3, m = 4)] struct S;
+   => err S 3 / 117..122 Duplicate field `a` / 124..129 Unknown field: `m`. Available values: `a`, `n` / 131..136
+   Unknown field: `m`. Available values: `a`, `n`
+#[darling(multiple)] n: Vec<u8>, a: u8 | #[my(n = 1, n = 1, n = 1, n = 1, n = 1, n = 1, n = 1, n = 1, n = 1, n = 1, n
+   = 1, n = 1, n = 1, n = 1, n = 1, n = 1, a = 7)] struct S;
+   => ok S Opts {n: [1, 1, 1, 1, 1, 1, 1, 1, 1, 1, 1, 1, 1, 1, 1, 1], a: 7}
 #[darling(rename = "name")] title: String | #[my(name = "a")] struct S; => ok S Opts {title: "a"}
 #[darling(rename = "x")] a: u8, #[darling(rename = "x")] b: String | #[my(x = 1, x = 2)] struct S; => err S 2 / 12..17 Duplicate field `x` / - Missing field `x`
 #[darling(multiple)] n: Vec<u8> | #[my(n = 3, n = "4")] struct S; => ok S Opts {n: [3, 4]}
@@ -64,14 +72,19 @@ x: String, y: u8 | #[my(x = a b, y = 1)] struct S; => err S 1 / 9..10 expected a
 v: Visibility | #[my(v = pub(crate))] struct S; => ok S Opts {v: `pub (crate)`}
 v: Option<Visibility> | #[my(v = pub(crate))] struct S; => err S 1 / 9..12 expected an expression at v
 v: Option<Visibility> | #[my(v = "pub(crate)")] struct S; => ok S Opts {v: some(`pub (crate)`)}
-m: BTreeMap<String, bool> | #[my(m(hello, hello = 3, hello = false))] struct S; => err S 3 / 14..19 Duplicate field `hello` at m / 22..23 Unexpected type `int` at m/hello / 25..30 Duplicate field `hello` at m
+m: BTreeMap<String, bool> | #[my(m(hello, hello = 3, hello = false))] struct S;
+   => err S 3 / 14..19 Duplicate field `hello` at m / 22..23 Unexpected type `int` at m/hello / 25..30 Duplicate
+   field `hello` at m
 t: Tag, #[darling(multiple)] u: Vec<Tag> | #[my(t = "a", u = "b", u(c))] struct S; => err S 1 / 23..27 Unexpected meta-item format `list` at u[1]
 t: Tag | #[my(t = "a")] struct S; => ok S Opts {t: host(Tag, "a")}
 m: BTreeMap<String, bool> | #[my(m(b, a = false))] struct S; => ok S Opts {m: {"a": false, "b": true}}
 m: HashMap<Ident, Option<u8>> | #[my(m(z = 1, a = 2))] struct S; => ok S Opts {m: {"a": some(2), "z": some(1)}}
 n: i8 | #[my(n = -129)] struct S; => err S 1 / 9..13 number too small to fit in target type at n
-a: Ident, b: Path, c: char, d: (), e: Vec<LitInt> | #[my(a = "x", b = a::b, c = 'y', d, e(1, 2))] struct S; => ok S Opts {a: `x`, b: `a :: b`, c: 'y', d: (), e: [`1`, `2`]}
-o: Override<u8>, p: Override<u8>, r: Result<u8>, s: SpannedValue<bool> | #[my(o, p = 1, r = "x", s)] struct S; => ok S Opts {o: Override::Inherit, p: Override::Explicit(1), r: Result::Err(faults[19..22 Unknown value: `x`]), s: SpannedValue {value: true, span: 24..25}}"#;
+a: Ident, b: Path, c: char, d: (), e: Vec<LitInt> | #[my(a = "x", b = a::b, c = 'y', d, e(1, 2))] struct S;
+   => ok S Opts {a: `x`, b: `a :: b`, c: 'y', d: (), e: [`1`, `2`]}
+o: Override<u8>, p: Override<u8>, r: Result<u8>, s: SpannedValue<bool> | #[my(o, p = 1, r = "x", s)] struct S;
+   => ok S Opts {o: Override::Inherit, p: Override::Explicit(1), r: Result::Err(faults[19..22 Unknown value: `x`]),
+   s: SpannedValue {value: true, span: 24..25}}"#;
 
 // The texts of values, each by its variant.
 const VALUES: &str = r#"n: u8 | #[my(n = 0)] struct S; => ok S Opts {n: 0}
