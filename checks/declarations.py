@@ -20,10 +20,10 @@ PAGE = read("docs", "DECLARATIONS.md")
 
 
 def rows():
-    """The lines of the tests' tables."""
+    """The rows of the tests' tables. A line that begins with two spaces, perhaps before one more, goes on with the row before."""
     found = set()
     for path in glob.glob(os.path.join(TOP, "crates", "tests_run", "src", "*.rt")):
-        for line in read(path).splitlines():
+        for line in re.sub(r"\n  (?= ?\S)", "", read(path)).splitlines():
             found.add(re.sub(r'"#*;$', "", re.sub(r'^(const \w+: &str =)? *r#+"', "", line)))
     return found
 
@@ -67,7 +67,7 @@ def lists():
     names = re.findall(r'^ +\(?"(\w+)"', types.split("const NAMES")[1].split("\n];")[0], re.M)
     container_words = re.findall(r'(?:word = |last_stands \w+ \()codes "(\w+)"', container)
     field_words = re.findall(r'word = codes "(\w+)"', field)
-    unbuilt_words = re.findall(r'^ +(?:∷ )?codes "(\w+)"$', unbuilt, re.M)
+    unbuilt_words = re.findall(r'codes "(\w+)"', re.search(r"^unbuilt_words = .*$", unbuilt, re.M)[0])
     parts = re.findall(r'codes "(\w+)"', re.search(r"^part_names = .*$", unbuilt, re.M)[0])
     refused = re.findall(r"^is_compiled derive\.(\w+) = false$", unbuilt, re.M)
     yield "Derives", re.findall(r'\(codes "(\w+)", derive\.', derives), refused
