@@ -1,12 +1,12 @@
 -- A search by halves: what it keeps, how many steps it takes, and what it finds.
-use Rattle.std.proofs.Common.{Ordering, Less, Equal, Greater, ◌≡◌, ◌<◌, ◌≤◌, ◌+◌, ◌-◌, ◌*◌, ◌^◌, ℕ, zero, suc, Bool, true, false, cond, List, [], length, get_or, position, Some, None, arith, inl, inr, ⊎_elim, refl, ap, sym, ◌∙◌}
-use Rattle.std.specs.Prelude.{◌⊎◌, nat_lt}
-use Rattle.std.specs.List.{position_or_len}
+use Rattle.std.proofs.Common.{Ordering, Less, Equal, Greater, ◌≡◌, ◌<◌, ◌≤◌, ◌+◌, ◌-◌, ◌*◌, ◌^◌, ℕ, zero, suc, Bool, true, false, cond, List, [], ◌∷◌, length, get_or, position, Some, None, arith, inl, inr, ⊎_elim, refl, ap, sym, ◌∙◌}
+use Rattle.std.specs.Prelude.{◌⊎◌, ◌||◌, ◌==◌, nat_lt}
+use Rattle.std.specs.List.{list_any, position_or_len}
 use Rattle.std.specs.Ordering.{is_lt, is_gt, is_eq, nat_cmp, ordering_then}
 use Rattle.std.specs.Cmp.Lexicographic.{slice_cmp, texts_ties, nat_list_cmp_total}
 use Rattle.std.specs.Str.{bytes_eq}
 use Rattle.std.proofs.Math.Nat.{pow-suc}
-use Rattle.std.proofs.lemmas.Bool.{true≢false}
+use Rattle.std.proofs.lemmas.Bool.{true≢false, eqb-true}
 use Rattle.std.proofs.lemmas.Cmp.{tied_back, alike_right}
 use Rattle.std.proofs.lemmas.List.Sums.{position_or_len_is}
 use Rattle.base_core.specs.declared.text.Text.{Text}
@@ -87,7 +87,19 @@ up_to Less p is = inl refl
 up_to Equal p is = inr refl
 up_to Greater p is = absurd (true≢false is)
 
+-- where one passes the test
+passing_at : (p : ℕ → Bool) (xs : List ℕ) → list_any p xs ≡ true → (i : ℕ) × (i < length xs) × (p (get_or xs i 0) ≡ true)
+passing_at p [] is = absurd (true≢false (sym is))
+passing_at p (x ∷ xs) is = elim (p x) as (λ b. p x ≡ b → (b || list_any p xs) ≡ true → (i : ℕ) × (i < suc (length xs)) × (p (get_or (x ∷ xs) i 0) ≡ true)) [
+  | true ↦ λ first _. (0, omega arith, first)
+  | false ↦ λ _ more. let it = passing_at p xs more in (suc it.0, omega (arith, it.1), it.2)
+] refl is
+
 module _ (places : List ℕ) (names : List Text) (name : List ℕ) (index : IsIndex places names) where
+  -- where a place stands in the order
+  at_place : (k : ℕ) → k < length names → (i : ℕ) × (i < length places) × (place_at places i ≡ k)
+  at_place k some = let it = passing_at (λ place. place == k) places (index.every k some) in (it.0, it.1, eqb-true _ _ it.2)
+
   -- what stands before a name that is below is below
   pub below-down : (i j : ℕ) → i ≤ j → j < length places → below_at places names name j ≡ true → below_at places names name i ≡ true
   below-down i j up in_range is =
@@ -120,7 +132,7 @@ module _ (places : List ℕ) (names : List Text) (name : List ℕ) (index : IsIn
     earlier in_range is n some less holds =
         let R = slice_cmp nat_cmp in
         let o = nat_list_cmp_total in
-        let it = index.every n some in
+        let it = at_place n some in
         let both = met low n it.0 before it.2 holds in
         let here : R (name_at places names low) name ≡ Equal = equal_is (R (name_at places names low) name) (sym (texts_ties (name_at places names low) name) ∙ is) in
         let tie : R (name_at places names low) (name_at places names it.0) ≡ Equal =
@@ -135,7 +147,7 @@ module _ (places : List ℕ) (names : List Text) (name : List ℕ) (index : IsIn
     nowhere behind other n some holds =
         let R = slice_cmp nat_cmp in
         let o = nat_list_cmp_total in
-        let it = index.every n some in
+        let it = at_place n some in
         let both = met low n it.0 before it.2 holds in
         let in_range : low < length places = omega (arith, both.1, it.1) in
         let nl = name_at places names low in

@@ -1,14 +1,15 @@
 -- Places sorted by their names are an index.
-use Rattle.std.proofs.Common.{Ordering, Less, Equal, Greater, ◌≡◌, ◌<◌, ◌+◌, ℕ, zero, suc, false, List, [], ◌∷◌, ◌++◌, length, map, take, get_or, arith, refl, ap, sym, ◌∙◌, length-take}
+use Rattle.std.proofs.Common.{Ordering, Less, Equal, Greater, ◌≡◌, ◌<◌, ◌+◌, ◌==◌, ℕ, zero, suc, false, List, [], ◌∷◌, ◌++◌, length, map, take, get_or, arith, refl, ap, sym, ◌∙◌, length-take}
 use Rattle.std.specs.Borrow.{Bor}
 use Rattle.std.specs.List.{All}
 use Rattle.std.specs.List.Sorted.{IsPermutation, IsSorted}
 use Rattle.std.specs.Ordering.{is_lt, is_gt, nat_cmp, ordering_then, ordering_reverse}
 use Rattle.std.specs.Cmp.{IsTotalOrder}
 use Rattle.std.specs.Cmp.Lexicographic.{slice_cmp, nat_list_cmp_total}
-use Rattle.std.proofs.lemmas.Bool.{true≢false}
+use Rattle.std.proofs.lemmas.Bool.{true≢false, eq-eqb}
 use Rattle.std.proofs.lemmas.Cmp.{nat_cmp_total, on_total, then_total}
 use Rattle.std.proofs.lemmas.List.{length-map, get_or-map, map-append, take_more}
+use Rattle.std.proofs.lemmas.List.Folds.{list_any_at}
 use Rattle.std.proofs.lemmas.List.Elements.{All-from_get_or, All-get_or, Contains-get_or}
 use Rattle.std.proofs.lemmas.List.Sorted.{All-permutation, Contains-permutation, length_permutation, ranks_by, sorted_far}
 use Rattle.base_core.specs.declared.text.Text.{Text}
@@ -108,7 +109,8 @@ module _ (names : List Text) (pairs sorted : List Pair) (d : Pair) (is : map key
             let pair = get_or pairs k d in
             let place : pair.1 ≡ k = ap (λ t. t.1) (pair_at k h) ∙ (let e : 0 + k ≡ k = omega arith in e) in
             let it = Contains-permutation pairs sorted pair perm (Contains-get_or pairs k d (omega (arith, h, long_pairs))) in
-            (it.0, omega (arith, it.1, count), get_or-map (λ p. p.1) sorted it.0 pair 0 it.1 ∙ ap (λ p. p.1) it.2 ∙ place);
+            let here : place_at (map (λ p. p.1) sorted) it.0 ≡ k = get_or-map (λ p. p.1) sorted it.0 pair 0 it.1 ∙ ap (λ p. p.1) it.2 ∙ place in
+            list_any_at (λ place. place == k) (map (λ p. p.1) sorted) it.0 0 (omega (arith, it.1, count)) (eq-eqb _ _ here);
         order = λ i j up_to h.
             let within : j < length sorted = omega (arith, h, count) in
             let first : i < length sorted = omega (arith, up_to, within) in

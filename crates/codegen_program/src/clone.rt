@@ -4,6 +4,7 @@ ghost use Rattle.std.specs.Prelude.{◌≡◌, IfOk};
 
 use crate::stmt::Stmt;
 use crate::variant::{VariantArm, VariantForm};
+use crate::variant_arms::VariantArms;
 use base_core::{Items, Mem, TryClone};
 use std::alloc::Global;
 
@@ -115,7 +116,7 @@ fn clone_stmts(stmts: &Items<Stmt>, alloc: Global) -> Mem<Items<Stmt>>
 }
 
 #[cycle(clone)]
-fn clone_arms(arms: &Items<VariantArm<Stmt>>, alloc: Global) -> Mem<Items<VariantArm<Stmt>>>
+fn clone_arms(arms: &VariantArms<Stmt>, alloc: Global) -> Mem<VariantArms<Stmt>>
     ensures { IfOk result (λ copies. copies ≡ arms.now) }
 {
     let mut copies = Items::new(alloc);
@@ -123,7 +124,7 @@ fn clone_arms(arms: &Items<VariantArm<Stmt>>, alloc: Global) -> Mem<Items<Varian
         let copy = clone_arm(arm, alloc)?;
         copies.push(copy)?;
     }
-    Ok(copies)
+    VariantArms::new(alloc, copies)
 }
 
 #[cycle(clone)]

@@ -16,7 +16,9 @@ mod init;
 mod program;
 mod shape;
 mod stmt;
+mod unit_arms;
 mod variant;
+mod variant_arms;
 
 pub use alternatives::Alternatives;
 pub use arm::{Arm, PostfixTransform, Rest};
@@ -29,4 +31,6 @@ pub use init::{DefaultSource, Fallback, Init};
 pub use program::{Derive, Func, FuncName, Program, Unit};
 pub use shape::{DataShape, ShapeSpec};
 pub use stmt::{MAX_NESTING, Stmt};
+pub use unit_arms::UnitArms;
 pub use variant::{UnitArm, UnitForm, VariantArm, VariantForm};
+pub use variant_arms::VariantArms;

@@ -9,7 +9,8 @@ use crate::forwarded::Forwarded;
 use crate::init::{DefaultSource, Init};
 use crate::program::FuncName;
 use crate::shape::ShapeSpec;
-use crate::variant::{UnitArm, VariantArm};
+use crate::unit_arms::UnitArms;
+use crate::variant_arms::VariantArms;
 use base_core::{Items, Text};
 use node_expr::Type;
 use tok_types::Ident;
@@ -107,12 +108,12 @@ pub enum Stmt {
     },
     /// Reads the variant whose name the one item of a list has. The names are what a fault may propose.
     Variants {
-        arms: Items<VariantArm<Stmt>>,
+        arms: VariantArms<Stmt>,
         names: Alternatives,
     },
     /// Reads the variant that a string names. The names are what a fault may propose.
     UnitNames {
-        arms: Items<UnitArm>,
+        arms: UnitArms,
         names: Alternatives,
     },
     /// Answers what the function gives, in this function of the trait.
