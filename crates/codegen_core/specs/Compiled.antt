@@ -2,12 +2,10 @@
 use Rattle.std.specs.Prelude.{◌≡◌, ℕ, Bool, false, ◌&&◌, List, [], ◌∷◌, ◌++◌, Option, Some, None, length, option_and_then, map, codes, if◌then◌else◌}
 use Rattle.std.specs.Option.{option_copied}
 use Rattle.std.specs.Str.{bytes_eq}
-use Rattle.base_core.specs.declared.text.Text.{Text}
 use Rattle.tok_types.specs.Ident.{ident_text}
 use Rattle.tok_types.specs.declared.ident.Ident.{Ident}
 use Rattle.node_expr.specs.PathIdent.{segments_ident}
 use Rattle.node_expr.specs.declared.path.Path.{Path, out-Path}
-use Rattle.node_make.specs.PathText.{path_text}
 use Rattle.node_core.specs.declared.style.Style.{Style}
 use Rattle.node_core.specs.declared.style.Style.TheVariants as style
 use Rattle.body_core.specs.declared.ast.data.«Data».{«Data»}
@@ -15,7 +13,7 @@ use Rattle.body_core.specs.declared.ast.data.«Data».TheVariants as body
 use Rattle.body_core.specs.declared.ast.fields.Fields.{Fields}
 use Rattle.codegen_program.specs.declared.arm.PostfixTransform.{PostfixTransform}
 use Rattle.codegen_program.specs.declared.callable.Callable.{Callable}
-use Rattle.codegen_program.specs.declared.forward.Forward.TheVariants as forward
+use Rattle.codegen_program.specs.declared.forwarded.Forwarded.{Forwarded}
 use Rattle.codegen_program.specs.declared.init.DefaultSource.{DefaultSource}
 use Rattle.codegen_program.specs.declared.init.DefaultSource.TheVariants as sources
 use Rattle.codegen_program.specs.declared.program.Derive.{Derive}
@@ -24,11 +22,9 @@ use Rattle.codegen_program.specs.declared.program.Func.{Func}
 use Rattle.codegen_program.specs.declared.program.FuncName.{FuncName}
 use Rattle.codegen_program.specs.declared.program.FuncName.TheVariants as func
 use Rattle.codegen_program.specs.declared.program.«Unit».{«Unit» as Unit'}
-use Rattle.codegen_program.specs.declared.shape.ShapeSpec.TheVariants as shapes
 use Rattle.codegen_program.specs.declared.stmt.Stmt.{Stmt}
 use Rattle.codegen_program.specs.declared.stmt.Stmt.TheVariants as stmt
 use Rattle.codegen_core.specs.declared.field.Field.{Field}
-use Rattle.codegen_core.specs.declared.from_derive_impl.FromDeriveInputImpl.{FromDeriveInputImpl}
 use Rattle.codegen_core.specs.declared.from_meta_impl.FromMetaImpl.{FromMetaImpl}
 use Rattle.codegen_core.specs.declared.trait_impl.TraitImpl.{TraitImpl}
 use Rattle.codegen_core.specs.declared.variant.Variant.{Variant}
@@ -67,42 +63,34 @@ abbrev pub set_default : Option DefaultSource → List Stmt
 set_default None = []
 set_default (Some it) = stmt.SetDefault it ∷ []
 
--- builds the receiver from its slots
+-- builds the receiver from these parts of the element and from its slots
+abbrev pub build_with : List Forwarded → TraitImpl → Stmt
+build_with parts base = stmt.Build base.ident.now None parts (inits (fields_of base))
+
+-- builds the receiver from its slots alone
 abbrev pub build : TraitImpl → Stmt
-build base = stmt.Build base.ident.now None [] (inits (fields_of base))
+build base = build_with [] base
 
 -- hands what was built to the function that the options name
 abbrev pub transform : Option PostfixTransform → List Stmt
 transform None = []
 transform (Some it) = stmt.Transform it ∷ []
 
--- what follows once the items are read
-abbrev pub closing : Bool → TraitImpl → List Stmt
-closing from_ident base =
+-- what follows once the items are read, where these parts of the element are taken
+abbrev pub closing_with : List Forwarded → Bool → TraitImpl → List Stmt
+closing_with parts from_ident base =
     flattens (fields_of base)
     ++ (checks (fields_of base)
     ++ (stmt.CheckErrors None
-    ∷ (set_default (default_of from_ident base) ++ (build base ∷ transform (option_copied base.post_transform)))))
+    ∷ (set_default (default_of from_ident base) ++ (build_with parts base ∷ transform (option_copied base.post_transform)))))
+
+-- the same where no part is taken
+abbrev pub closing : Bool → TraitImpl → List Stmt
+closing from_ident base = closing_with [] from_ident base
 
 -- the statements of `from_list`
 abbrev pub list_stmts : TraitImpl → List Stmt
 list_stmts base = declarations (fields_of base) ++ (stmt.DeclareErrors ∷ (for_items base ∷ closing false base))
-
--- goes over the attributes of these names, if there are some
-abbrev pub over_attributes : List Text → TraitImpl → List Stmt
-over_attributes [] base = []
-over_attributes (name ∷ names) base = stmt.ForAttributes (name ∷ names) (for_items base ∷ []) forward.Nothing ∷ []
-
--- goes over the attributes that are read
-abbrev pub for_attributes : FromDeriveInputImpl → List Stmt
-for_attributes it = over_attributes (map path_text it.attr_names.now.0) it.base
-
--- the statements of `from_derive_input`
-abbrev pub input_stmts : FromDeriveInputImpl → List Stmt
-input_stmts it =
-    stmt.DeclareErrors
-    ∷ (declarations (fields_of it.base)
-    ++ (for_attributes it ++ (stmt.CheckShape shapes.Any ∷ (stmt.ReadBody None None ∷ closing it.from_ident it.base))))
 
 -- whether the identifier is written `darling`
 abbrev pub is_darling : Ident → Bool
@@ -207,8 +195,3 @@ pub record IsListed (it : FromMetaImpl) : Type 0 where
   pub word : it.from_word ≡ None
   pub none : option_copied it.from_none ≡ None
   pub expr : option_copied it.from_expr ≡ None
-
--- the unit of `FromDeriveInput`
-abbrev pub compiled_derive_input : FromDeriveInputImpl → ℕ → Unit'
-compiled_derive_input it decl =
-    unit_with decl derives.FromDeriveInput it.base false (record { name = func.FromDeriveInput; stmts = input_stmts it } ∷ [])

@@ -33,7 +33,7 @@ impl<'f, 'a> FieldsGen<'f, 'a> {
     }
 
     /// Adds what declares the slots.
-    pub(crate) fn push_declarations(&self, alloc: Global, stmts: &mut Items<Stmt>) -> Mem<()>
+    pub fn push_declarations(&self, alloc: Global, stmts: &mut Items<Stmt>) -> Mem<()>
         requires { self.now.first_slot + length self.now.fields.now < 2 ^ 32 }
         ensures { OnOk result (stmts.new ≡ stmts.old ++ spec.declarations_from self.now.first_slot self.now.fields.now) }
     {
@@ -47,7 +47,7 @@ impl<'f, 'a> FieldsGen<'f, 'a> {
     }
 
     /// The loop over the items.
-    pub(crate) fn core_loop(&self, alloc: Global) -> Mem<Stmt>
+    pub fn core_loop(&self, alloc: Global) -> Mem<Stmt>
         requires { self.now.first_slot + length self.now.fields.now < 2 ^ 32 }
         ensures { IfOk result (λ it. it ≡ spec.core_loop_from self.now.first_slot self.now.allow_unknown_fields self.now.fields.now) }
     {

@@ -3,11 +3,11 @@
 ghost use Rattle.std.specs.Prelude.{◌≡◌, ◌++◌, ◌<◌, ◌^◌, ◌∷◌, [], length, IfOk, OnOk};
 ghost use Rattle.std.specs.Option.{option_copied};
 ghost use Rattle.codegen_core.specs.Compiled as spec;
-ghost use Rattle.codegen_core.specs.Variants.{member_name, slots_in};
+ghost use Rattle.codegen_core.specs.Variants.{slots_in};
 
 use crate::field::Field;
 use crate::trait_impl::TraitImpl;
-use crate::transparent::{extract_transparent, member_name};
+use crate::transparent::extract_transparent;
 use crate::variant::Variant;
 use crate::variants::{list_stmt, string_stmt};
 use base_core::{Items, Mem, TryClone};
@@ -63,17 +63,8 @@ impl<'a> FromMetaImpl<'a> {
     fn whole_funcs(&self, alloc: Global, style: Style, field: &Field<'_>) -> Mem<Items<Func>>
         ensures { IfOk result (λ it. it ≡ spec.whole_funcs self.now.base style field.now) }
     {
-        let stmt = self.delegate(alloc, style, field)?;
+        let stmt = self.base.delegate(alloc, style, field)?;
         one_func(alloc, FuncName::FromMeta, Items::of(alloc, stmt)?)
-    }
-
-    fn delegate(&self, alloc: Global, style: Style, field: &Field<'_>) -> Mem<Stmt>
-        ensures { IfOk result (λ it. it ≡ Stmt.Delegate self.now.base.ident.now (member_name style field.now) field.now.ty.now) }
-    {
-        let name = self.base.ident.try_clone(alloc)?;
-        let member = member_name(alloc, style, field)?;
-        let ty = field.ty.try_clone(alloc)?;
-        Ok(Stmt::Delegate { name, member, ty })
     }
 
     fn own_funcs(&self, alloc: Global, style: Style) -> Mem<Items<Func>>
@@ -93,7 +84,8 @@ impl<'a> FromMetaImpl<'a> {
         ensures { IfOk result (λ it. it ≡ spec.unit_funcs self.now.base) }
     {
         let mut stmts = Items::new(alloc);
-        self.base.push_build(alloc, &mut stmts)?;
+        let parts = Items::new(alloc);
+        self.base.push_build(alloc, parts, &mut stmts)?;
         one_func(alloc, FuncName::FromWord, stmts)
     }
 
@@ -149,7 +141,8 @@ impl<'a> FromMetaImpl<'a> {
         self.base.fields_gen().push_declarations(alloc, &mut stmts)?;
         stmts.push(Stmt::DeclareErrors)?;
         stmts.push(self.base.fields_gen().core_loop(alloc)?)?;
-        self.base.push_closing(alloc, false, &mut stmts)?;
+        let parts = Items::new(alloc);
+        self.base.push_closing(alloc, parts, false, &mut stmts)?;
         Ok(stmts)
     }
 }

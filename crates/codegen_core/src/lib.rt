@@ -1,14 +1,12 @@
 //! What options leave of a declaration, and the program that it compiles to, as `darling_core::codegen`.
 //!
-//! The types borrow their parts from the options. Under `FromDeriveInput` plain structs alone are compiled so far: those
-//! with named fields that are not transparent.
+//! The types borrow their parts from the options. What the derives of outer elements compile to is in `codegen_outer`.
 #![tactic(auto)]
 
 mod default_expression;
 mod field;
 mod fields;
 mod form;
-mod from_derive_impl;
 mod from_meta_impl;
 mod generated;
 mod overrideable_callable;
@@ -21,7 +19,6 @@ pub use default_expression::DefaultExpression;
 pub use field::Field;
 pub use fields::FieldsGen;
 pub use form::{Form, Unsupported};
-pub use from_derive_impl::FromDeriveInputImpl;
 pub use from_meta_impl::FromMetaImpl;
 pub use generated::{is_generic, push_form_if, push_generated_call, push_generated_path};
 pub use overrideable_callable::OverrideableCallable;

@@ -3,16 +3,18 @@
 ghost use Rattle.std.specs.Prelude.{◌≡◌, ◌++◌, ◌<◌, ◌^◌, ◌∷◌, ◌↔◌, [], length, IfOk, IsTrue, OnOk};
 ghost use Rattle.std.specs.Option.{option_copied};
 ghost use Rattle.codegen_core.specs.Compiled as spec;
+ghost use Rattle.codegen_core.specs.Variants.{member_name};
 
 use crate::default_expression::DefaultExpression;
 use crate::field::{Field, clone_of};
 use crate::fields::FieldsGen;
+use crate::transparent;
 use crate::variant::Variant;
 use crate::variants::have_few_slots;
 use base_core::{Items, Mem, TryClone};
 use body_core::ast::Data;
-use codegen_program::{DefaultSource, Derive, Func, PostfixTransform, Stmt, Unit};
-use node_core::Generics;
+use codegen_program::{DefaultSource, Derive, Forwarded, Func, PostfixTransform, Stmt, Unit};
+use node_core::{Generics, Style};
 use node_expr::{Path, PathArguments};
 use std::alloc::Global;
 use tok_types::Ident;
@@ -32,7 +34,8 @@ pub struct TraitImpl<'a> {
 }
 
 impl<'a> TraitImpl<'a> {
-    pub(crate) fn fields_gen(&self) -> FieldsGen<'_, 'a>
+    /// What is generated for the fields of a struct; an enum has none of its own.
+    pub fn fields_gen(&self) -> FieldsGen<'_, 'a>
         ensures fields { result.fields.now ≡ spec.fields_of self.now }
         ensures allow { result.allow_unknown_fields ≡ self.now.allow_unknown_fields }
         ensures first { result.first_slot ≡ 0 }
@@ -54,6 +57,13 @@ impl<'a> TraitImpl<'a> {
         }
     }
 
+    /// Whether a `u32` counts the fields of a struct.
+    pub fn has_few_fields(&self) -> bool
+        ensures { IsTrue result ↔ (length (spec.fields_of self.now) < 2 ^ 32) }
+    {
+        u32::try_from(self.plain_fields().len()).is_ok()
+    }
+
     /// Whether a `u32` counts the slots of a unit of `FromMeta`.
     pub fn has_few_slots(&self) -> bool
         ensures { IsTrue result ↔ (spec.slot_count self.now.body < 2 ^ 32) }
@@ -64,22 +74,24 @@ impl<'a> TraitImpl<'a> {
         }
     }
 
-    /// Adds what follows once the items are read, up to the end of the function.
-    pub(crate) fn push_closing(
+    /// Adds what follows once the items are read, up to the end of the function. The parts of the element are members of what
+    /// is built, in front of the fields.
+    pub fn push_closing(
         &self,
         alloc: Global,
+        parts: Items<Forwarded>,
         from_ident: bool,
         stmts: &mut Items<Stmt>,
     ) -> Mem<()>
         requires { length (spec.fields_of self.now) < 2 ^ 32 }
-        ensures { OnOk result (stmts.new ≡ stmts.old ++ spec.closing from_ident self.now) }
+        ensures { OnOk result (stmts.new ≡ stmts.old ++ spec.closing_with parts from_ident self.now) }
     {
         let fields = self.fields_gen();
         fields.push_flattens(alloc, stmts)?;
         fields.push_checks(alloc, stmts)?;
         stmts.push(Stmt::CheckErrors { location: None })?;
         self.push_default(alloc, from_ident, stmts)?;
-        self.push_build(alloc, stmts)?;
+        self.push_build(alloc, parts, stmts)?;
         self.push_transform(alloc, stmts)
     }
 
@@ -105,23 +117,28 @@ impl<'a> TraitImpl<'a> {
         }
     }
 
-    /// Adds what builds the receiver from its slots.
-    pub(crate) fn push_build(&self, alloc: Global, stmts: &mut Items<Stmt>) -> Mem<()>
+    /// Adds what builds the receiver from these parts of the element and from its slots.
+    pub(crate) fn push_build(
+        &self,
+        alloc: Global,
+        parts: Items<Forwarded>,
+        stmts: &mut Items<Stmt>,
+    ) -> Mem<()>
         requires { length (spec.fields_of self.now) < 2 ^ 32 }
-        ensures { OnOk result (stmts.new ≡ stmts.old ++ spec.build self.now ∷ []) }
+        ensures { OnOk result (stmts.new ≡ stmts.old ++ spec.build_with parts self.now ∷ []) }
     {
         let name = self.ident.try_clone(alloc)?;
         let inits = self.fields_gen().initializers(alloc)?;
         stmts.push(Stmt::Build {
             name,
             variant: None,
-            forwarded: Items::new(alloc),
+            forwarded: parts,
             inits,
         })
     }
 
     /// Adds the transform of the whole receiver, where it has one.
-    fn push_transform(&self, alloc: Global, stmts: &mut Items<Stmt>) -> Mem<()>
+    pub fn push_transform(&self, alloc: Global, stmts: &mut Items<Stmt>) -> Mem<()>
         ensures { OnOk result (stmts.new ≡ stmts.old ++ spec.transform (option_copied self.now.post_transform)) }
     {
         match clone_of(alloc, self.post_transform)? {
@@ -130,8 +147,18 @@ impl<'a> TraitImpl<'a> {
         }
     }
 
+    /// Reads the receiver as its one field is read.
+    pub fn delegate(&self, alloc: Global, style: Style, field: &Field<'_>) -> Mem<Stmt>
+        ensures { IfOk result (λ it. it ≡ Stmt.Delegate self.now.ident.now (member_name style field.now) field.now.ty.now) }
+    {
+        let name = self.ident.try_clone(alloc)?;
+        let member = transparent::member_name(alloc, style, field)?;
+        let ty = field.ty.try_clone(alloc)?;
+        Ok(Stmt::Delegate { name, member, ty })
+    }
+
     /// The unit of these functions.
-    pub(crate) fn unit_with(
+    pub fn unit_with(
         &self,
         alloc: Global,
         decl: u32,

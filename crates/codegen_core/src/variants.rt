@@ -5,7 +5,7 @@ ghost use Rattle.codegen_core.specs.Variants as spec;
 
 use crate::variant::Variant;
 use base_core::{Items, Mem, Text};
-use codegen_program::{Alternatives, Stmt, UnitArm, VariantArm};
+use codegen_program::{Alternatives, Stmt, UnitArm, UnitArms, VariantArm, VariantArms};
 use std::alloc::Global;
 
 /// Reads the variant whose name the one item of a list has.
@@ -14,7 +14,7 @@ pub(crate) fn list_stmt(alloc: Global, variants: &[Variant<'_>]) -> Mem<Stmt>
     ensures { IfOk result (λ it. it ≡ Stmt.Variants (spec.variant_arms 0 variants.now) (spec.variant_names variants.now)) }
 {
     let names = Alternatives::new(alloc, names_of(alloc, variants)?)?;
-    let arms = variant_arms(alloc, variants)?;
+    let arms = VariantArms::new(alloc, variant_arms(alloc, variants)?)?;
     Ok(Stmt::Variants { arms, names })
 }
 
@@ -23,7 +23,7 @@ pub(crate) fn string_stmt(alloc: Global, variants: &[Variant<'_>]) -> Mem<Stmt>
     ensures { IfOk result (λ it. it ≡ Stmt.UnitNames (spec.unit_arms variants.now) (spec.variant_names variants.now)) }
 {
     let names = Alternatives::new(alloc, names_of(alloc, variants)?)?;
-    let arms = unit_arms(alloc, variants)?;
+    let arms = UnitArms::new(alloc, unit_arms(alloc, variants)?)?;
     Ok(Stmt::UnitNames { arms, names })
 }
 
