@@ -1,5 +1,7 @@
 pub mod Does
 pub mod Entries
+pub mod Forwarded
+pub mod ForwardedLaws
 pub mod Members
 pub mod RowLaws
 pub mod Rows
@@ -8,6 +10,8 @@ pub mod Walk
 pub use Rattle.options_types.specs.PathLists
 pub use Rattle.options_types.specs.declared.default_expression.DefaultExpression
 pub use Rattle.options_types.specs.declared.forward_attrs.ForwardAttrsFilter
+pub use Rattle.options_types.specs.declared.forwarded_field.ForwardedField
+pub use Rattle.options_types.specs.declared.shapes.DeriveInputShapeSet
 pub use Rattle.options_types.specs.declared.spanned_value.SpannedValue
 pub use Rattle.util_table.specs.Table
 pub use Rattle.util_table.specs.declared.row.RenameKind

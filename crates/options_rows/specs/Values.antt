@@ -29,9 +29,10 @@ use Rattle.util_table.specs.Rule.{rule_cells}
 use Rattle.util_table.specs.declared.row.Row.{Row as NameRow}
 use Rattle.util_table.specs.declared.rule.RenameRule.{RenameRule}
 use Rattle.codegen_program.specs.declared.arm.PostfixTransform.{PostfixTransform}
+use Rattle.codegen_program.specs.declared.shape.DataShape.{DataShape}
 use Rattle.options_types.specs.DefaultExpression.{default_cells}
 use Rattle.options_types.specs.ForwardAttrs.{forward_cells}
-use Rattle.options_types.specs.Shapes.{shapes_cells}
+use Rattle.options_types.specs.Shapes.{shapes_cells, variant_shapes_cells}
 use Rattle.options_types.specs.SpannedValue.{spanned_cells}
 use Rattle.options_types.specs.declared.default_expression.DefaultExpression.{DefaultExpression}
 use Rattle.options_types.specs.declared.forward_attrs.ForwardAttrsFilter.{ForwardAttrsFilter}
@@ -92,6 +93,10 @@ predicates_of item = from_meta where_predicates_cells item
 
 unfoldable pub shapes_of : Meta → Outcome DeriveInputShapeSet
 shapes_of item = from_meta shapes_cells item
+
+-- the shapes of variants
+unfoldable pub variant_shapes_of : Meta → Outcome DataShape
+variant_shapes_of item = from_meta variant_shapes_cells item
 
 -- a rule of the table
 unfoldable pub rule_of : Rules → Meta → Outcome RenameRule

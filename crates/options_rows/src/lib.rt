@@ -2,16 +2,18 @@
 #![tactic(auto)]
 
 mod entries;
+mod forwarded;
 mod option_value;
 mod parse_attribute;
 mod parse_data;
 mod steps;
 
 pub use entries::darling_entries;
+pub use forwarded::{ForwardedName, forwarded_field};
 pub use option_value::{OptionValue, word_of};
 pub use options_types::{
-    Callable, DataShape, DefaultExpression, DeriveInputShapeSet, Flag, ForwardAttrsFilter, Ignored,
-    PathList, SpannedValue, WithOriginal,
+    Callable, DataShape, DefaultExpression, DeriveInputShapeSet, Flag, ForwardAttrsFilter,
+    ForwardedField, Ignored, PathList, SpannedValue, WithOriginal,
 };
 pub use parse_attribute::ParseAttribute;
 pub use parse_data::ParseData;

@@ -10,8 +10,8 @@ use error_core::{Error, Fail, Result};
 use node_core::{Meta, WherePredicate};
 use node_expr::Path;
 use options_types::{
-    Callable, DefaultExpression, DeriveInputShapeSet, Flag, ForwardAttrsFilter, FromMeta, PathList,
-    SpannedValue,
+    Callable, DataShape, DefaultExpression, DeriveInputShapeSet, Flag, ForwardAttrsFilter,
+    FromMeta, PathList, SpannedValue, VariantShapes,
 };
 use std::alloc::Global;
 use tok_types::{Ident, Span};
@@ -137,6 +137,17 @@ impl OptionValue for DeriveInputShapeSet {
     #[tactic(auto, unfolding(crate::specs::Values::shapes_of))]
     fn of_item(alloc: Global, item: &Meta) -> Result<DeriveInputShapeSet> {
         DeriveInputShapeSet::from_meta(alloc, item)
+    }
+}
+
+impl OptionValue for DataShape {
+    ghost use Rattle.options_rows.specs.Values.{variant_shapes_of};
+
+    ghost meaning = { variant_shapes_of };
+
+    #[tactic(auto, unfolding(crate::specs::Values::variant_shapes_of))]
+    fn of_item(alloc: Global, item: &Meta) -> Result<DataShape> {
+        Ok(VariantShapes::from_meta(alloc, item)?.0)
     }
 }
 

@@ -10,9 +10,9 @@ use Rattle.node_expr.specs.declared.path.PathSegment.{PathSegment, out-PathSegme
 use Rattle.node_core.specs.declared.attr.Meta.TheVariants as meta
 use Rattle.error_fault.specs.Fault.{at_span}
 use Rattle.error_fault.specs.Kind.{set_of}
-use Rattle.error_fault.specs.Outcome.{Outcome, Value, Faults, on_value}
+use Rattle.error_fault.specs.Outcome.{Outcome, Value, Faults, on_value, refused}
 use Rattle.error_fault.specs.declared.kind.FaultKind.TheVariants.{UnexpectedFormat, UnknownValue}
-use Rattle.error_core.specs.Each.{each}
+use Rattle.error_core.specs.Each.{each, every}
 use Rattle.util_core.specs.Nodes.{nested_span}
 use Rattle.util_core.specs.NestedMeta.{NestedMeta}
 use Rattle.util_core.specs.NestedMeta.TheVariants as nested
@@ -82,3 +82,41 @@ shape_set words = record { any = has words (codes "any"); struct_values = struct
 -- the words of a list; the first fault alone is told
 abbrev pub shapes_cells : Cells DeriveInputShapeSet
 shapes_cells = record no_cells { list = λ items. Some (on_value shape_set (each shape_word items)) }
+
+-- the words of `supports` where variants are read, which say no kind of item
+abbrev pub variant_words : List Text
+variant_words = codes "any" ∷ codes "named" ∷ codes "newtype" ∷ codes "tuple" ∷ codes "unit" ∷ []
+
+-- whether it is one of them
+abbrev pub is_variant_word : Text → Bool
+is_variant_word word = list_any (λ it. bytes_eq word it) variant_words
+
+-- one of them; another identifier is an unknown value, which has no place of its own
+abbrev pub known_variant_word : Ident → Outcome Text
+known_variant_word ident =
+    if is_variant_word (ident_text ident) then Value (ident_text ident)
+    else refused (UnknownValue (ident_text ident) (set_of []))
+
+-- the word that a path begins with
+abbrev pub first_variant_word : NestedMeta → List PathSegment → Outcome Text
+first_variant_word item (segment ∷ more) = known_variant_word (out-PathSegment segment).ident
+first_variant_word item [] = non_word item
+
+abbrev pub variant_word : NestedMeta → Outcome Text
+variant_word (nested.Meta (meta.Path path)) = first_variant_word (nested.Meta (meta.Path path)) (out-Path path).segments
+variant_word item = non_word item
+
+-- the shapes of variants that the words name
+abbrev pub variant_shape : List Text → DataShape
+variant_shape words =
+    record {
+      any = has words (codes "any");
+      named = has words (codes "named");
+      newtype = has words (codes "newtype");
+      tuple = has words (codes "tuple");
+      unit = has words (codes "unit");
+    }
+
+-- the words of a list; all faults are told
+abbrev pub variant_shapes_cells : Cells DataShape
+variant_shapes_cells = record no_cells { list = λ items. Some (on_value variant_shape (every variant_word items)) }

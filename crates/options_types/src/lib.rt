@@ -9,6 +9,7 @@ mod ignored;
 mod shapes;
 mod spanned_read;
 mod spanned_value;
+mod variant_shapes;
 mod with_original;
 
 pub use codegen_program::DataShape;
@@ -19,4 +20,5 @@ pub use ignored::Ignored;
 pub use shapes::DeriveInputShapeSet;
 pub use spanned_value::SpannedValue;
 pub use util_core::{Callable, Flag, FromMeta, NestedMeta, PathList, items_of};
+pub use variant_shapes::VariantShapes;
 pub use with_original::WithOriginal;

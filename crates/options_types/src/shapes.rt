@@ -87,7 +87,8 @@ fn enum_shape(words: &[Text]) -> DataShape
     }
 }
 
-fn has(words: &[Text], word: &str) -> bool
+/// Whether the word is among these.
+pub(crate) fn has(words: &[Text], word: &str) -> bool
     ensures { result ≡ spec.has words.now word.now }
 {
     words.iter().any(|it| it.is(word))
@@ -134,7 +135,8 @@ fn known_word(alloc: Global, ident: &Ident) -> Result<Text>
     Err(Fail::Faults(error.with_span(ident)))
 }
 
-fn non_word(alloc: Global, item: &NestedMeta) -> Result<Text>
+/// An item that is no word.
+pub(crate) fn non_word(alloc: Global, item: &NestedMeta) -> Result<Text>
     ensures { Answers (λ it. it) result (spec.non_word item.now) }
 {
     let error = Error::unsupported_format(alloc, "non-word")?;
