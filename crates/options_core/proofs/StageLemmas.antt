@@ -1,289 +1,291 @@
--- Options that are read one stage behind another are those of the declaration.
-use Rattle.std.proofs.Common.{◌≡◌, ◌∙◌, List, [], ◌∷◌, ◌++◌, refl, sym, ap, append_assoc, append-nil, Some}
+-- Options of receivers of elements that are read one stage behind another are those of the declaration.
+use Rattle.std.proofs.Common.{◌≡◌, ◌∙◌, List, [], ◌∷◌, ◌++◌, map, refl, ap, Some, None, Option}
 use Rattle.std.specs.Prelude.{flat_map}
+use Rattle.node_core.specs.declared.attr.Meta.{Meta}
 use Rattle.node_core.specs.declared.data.Field.{Field}
 use Rattle.node_core.specs.declared.data.Variant.{Variant}
 use Rattle.node_core.specs.declared.data.«Data».{«Data»}
-use Rattle.node_core.specs.declared.data.«Data».TheVariants as node
 use Rattle.node_core.specs.declared.derive.DeriveInput.{DeriveInput}
-use Rattle.error_fault.specs.Outcome.{Outcome, Value, Faults, bind, faults_of, value_of, on_value, settle}
+use Rattle.error_fault.specs.Outcome.{Outcome, faults_of, on_value}
 use Rattle.error_fault.specs.declared.fault.Fault.{Fault}
-use Rattle.body_core.specs.Data.{with_members}
-use Rattle.body_core.specs.declared.ast.data.«Data».TheVariants as container
-use Rattle.options_rows.specs.Entries.{option_entries}
-use Rattle.options_rows.specs.Members.{after_body, after_members, after_outcome, body_faults, body_fields, members_faults, no_variant, read_body, variants_of, variant_or}
-use Rattle.node_core.specs.Bodies.{field_list, is_union}
-use Rattle.options_rows.specs.Rows.{else_faults, list_of}
+use Rattle.codegen_program.specs.MagicFields.{magic_of, own_parts, shared_parts}
+use Rattle.codegen_program.specs.declared.forwarded.Magic.{Magic}
+use Rattle.codegen_program.specs.declared.forwarded.Magic.TheVariants as magic
+use Rattle.codegen_program.specs.declared.program.Derive.{Derive}
+use Rattle.codegen_program.specs.declared.program.Derive.TheVariants.{FromAttributes, FromDeriveInput, FromField, FromTypeParam, FromVariant}
+use Rattle.options_rows.specs.Members.{after_body, after_members, after_outcome, body_faults, body_fields, members_faults, no_variant, variants_of, variant_or}
+use Rattle.options_rows.specs.Rows.{last_of}
 use Rattle.options_rows.specs.Values.{Rules}
-use Rattle.options_rows.specs.Walk.{all_faults, read_options}
 use Rattle.options_members.specs.declared.container.Core.{Core}
-use Rattle.options_members.specs.declared.input_field.InputField.{InputField}
-use Rattle.options_members.specs.declared.input_variant.InputVariant.{InputVariant}
-use Rattle.options_core.specs.declared.outer_from.OuterFrom.{OuterFrom}
+use Rattle.options_meta.proofs.StageLemmas.{all_state, all_told, no_variants_faults, no_variants_state, staged-is, whole-is, with_no_field}
+use Rattle.options_meta.specs.Stages.{Reader, new_outcome, no_variants, options_of, staged, staged_whole}
+use Rattle.options_core.specs.declared.from_attributes.FromAttributesOptions.{FromAttributesOptions}
 use Rattle.options_core.specs.declared.from_derive.FdiOptions.{FdiOptions}
-use Rattle.options_core.specs.declared.from_meta.FromMetaOptions.{FromMetaOptions}
-use Rattle.options_core.specs.Stages as spec
-use Rattle.options_core.specs.Stages.{Reader, container_options, core_with_body, fdi_reader, fdi_staged, field_faults, good_fields, good_variants, meta_reader, meta_staged, new_outcome, no_variants, options_of, outer_with, staged, variant_faults}
-use Rattle.options_members.specs.Body.{Body, core_takes, core_takes_variant, core_with, core_with_variants, field_meaning, union_faults, variant_meaning, with_fields, with_variants}
-use Rattle.options_core.specs.Receivers.{fdi_takes, meta_takes, meta_takes_variant, outer_takes}
+use Rattle.options_core.specs.declared.from_field.FromFieldOptions.{FromFieldOptions}
+use Rattle.options_core.specs.declared.from_type_param.FromTypeParamOptions.{FromTypeParamOptions}
+use Rattle.options_core.specs.declared.from_variant.FromVariantOptions.{FromVariantOptions}
+use Rattle.options_core.specs.declared.outer_from.OuterFrom.{OuterFrom}
+use Rattle.options_core.specs.ContainerOptions.{of_attributes, of_fdi, of_fdi_faults, of_from_field, of_from_variant, of_from_variant_faults, of_outer_faults, of_type_param}
+use Rattle.options_core.specs.Parts.{member_faults, own_fields, part_fields, parts_said}
+use Rattle.options_core.specs.Readers.{attributes_reader, attributes_whole, fdi_reader, fdi_staged, from_field_reader, from_field_staged, from_variant_reader, from_variant_staged, outer_reader, type_param_reader, type_param_staged}
+use Rattle.options_core.specs.Receivers.{attributes_last, attributes_start, fdi_start, fdi_takes_as, from_field_start, from_field_takes_as, from_variant_start, from_variant_takes_as, outer_checks, outer_takes, type_param_start, type_param_takes_as}
+use Rattle.options_core.proofs.PartLemmas.{EachPart, Takes, Whole, container_of, handed_on, magic-is, outer_at, said_part, takes_attrs, takes_ident, takes_own}
 
--- members that are put behind one another, where what one means does not depend on those before it
-module _ {S M N : Type 0} (meaning : S → M → Outcome N) (add : S → List N → S) (none : (s : S) → s ≡ add s [])
-    (more : (s : S) (xs ys : List N) → add (add s xs) ys ≡ add s (xs ++ ys))
-    (same : (s : S) (x : N) (m : M) → meaning (add s (x ∷ [])) m ≡ meaning s m) where
-  abbrev taken : S → M → Outcome S
-  taken s m = on_value (λ it. add s (it ∷ [])) (meaning s m)
+-- a kind of options whose fields do what the whole says of them
+module _ {S : Type 0} (rules : Rules) (derive : Derive) (core_of : S → Core) (whole : Whole S) (takes_as : Option Magic → S → Field → Outcome S)
+    (none : (s : S) → s ≡ whole s [] (λ what. []))
+    (own : (field : Field) → Takes rules core_of whole field None (λ s. takes_as None s field))
+    (each : (field : Field)
+    → EachPart (λ part. Takes rules core_of whole field part (λ s. takes_as part s field)) (shared_parts ++ own_parts derive)) where
+  abbrev takes : S → Field → Outcome S
+  takes s field = takes_as (magic_of derive field) s field
 
-  abbrev goods : S → List M → List N
-  goods s members = flat_map (λ m. list_of (value_of (meaning s m))) members
+  abbrev with_fields : S → List Field → S
+  with_fields s fields = whole s (own_fields derive fields) (λ what. part_fields derive what fields)
 
-  abbrev wrong : S → List M → List Fault
-  wrong s members = flat_map (λ m. faults_of (meaning s m)) members
+  abbrev wrong : S → Field → List Fault
+  wrong s field = member_faults rules derive (core_of s) field
 
-  same_goods : (s : S) (x : N) (members : List M) → goods (add s (x ∷ [])) members ≡ goods s members
-  same_goods s x [] = refl
-  same_goods s x (m ∷ members) =
-      ap (λ o. list_of (value_of o) ++ goods (add s (x ∷ [])) members) (same s x m)
-      ∙ ap (λ xs. list_of (value_of (meaning s m)) ++ xs) (same_goods s x members)
+  taken : (field : Field) → Takes rules core_of whole field (magic_of derive field) (λ s. takes s field)
+  taken field = magic-is (λ part. Takes rules core_of whole field part (λ s. takes_as part s field)) (own field) derive (each field) field
 
-  same_wrong : (s : S) (x : N) (members : List M) → wrong (add s (x ∷ [])) members ≡ wrong s members
-  same_wrong s x [] = refl
-  same_wrong s x (m ∷ members) =
-      ap (λ o. faults_of o ++ wrong (add s (x ∷ [])) members) (same s x m)
-      ∙ ap (λ xs. faults_of (meaning s m) ++ xs) (same_wrong s x members)
+  step : (s : S) (field : Field) (fields : List Field) → with_fields (after_outcome (takes s field) s) fields ≡ with_fields s (field ∷ fields)
+  step s field fields = (taken field).0 s (own_fields derive fields) (λ what. part_fields derive what fields)
 
-  taken_step : (s : S) (o : Outcome N) (members : List M)
-      → ((next : S) → after_members taken next members ≡ add next (goods next members))
-      → after_members taken (after_outcome (on_value (λ it. add s (it ∷ [])) o) s) members ≡ add s (list_of (value_of o) ++ goods s members)
-  taken_step s (Value x) members later =
-      later (add s (x ∷ [])) ∙ ap (add (add s (x ∷ []))) (same_goods s x members) ∙ more s (x ∷ []) (goods s members)
-  taken_step s (Faults fault others) members later = later s
+  told : (s : S) (field : Field) → faults_of (takes s field) ≡ wrong s field
+  told s field = (taken field).1.0 s
 
-  taken_state : (s : S) (members : List M) → after_members taken s members ≡ add s (goods s members)
-  taken_state s [] = none s
-  taken_state s (m ∷ members) = taken_step s (meaning s m) members (λ next. taken_state next members)
+  same : (s : S) (field next : Field) → wrong (after_outcome (takes s field) s) next ≡ wrong s next
+  same s field next = (taken field).1.1 s (magic_of derive next) next
 
-  taken_faults_step : (s : S) (o : Outcome N) (members : List M)
-      → ((next : S) → members_faults taken next members ≡ wrong next members)
-      → faults_of (on_value (λ it. add s (it ∷ [])) o)
-      ++ members_faults taken (after_outcome (on_value (λ it. add s (it ∷ [])) o) s) members
-      ≡ faults_of o ++ wrong s members
-  taken_faults_step s (Value x) members later = later (add s (x ∷ [])) ∙ same_wrong s x members
-  taken_faults_step s (Faults fault others) members later = ap (λ xs. (fault ∷ others) ++ xs) (later s)
+  state : (s : S) (fields : List Field) → after_members takes s fields ≡ with_fields s fields
+  state s fields = all_state takes with_fields wrong none step told same s fields
 
-  taken_faults : (s : S) (members : List M) → members_faults taken s members ≡ wrong s members
-  taken_faults s [] = refl
-  taken_faults s (m ∷ members) = taken_faults_step s (meaning s m) members (λ next. taken_faults next members)
+  faults : (s : S) (fields : List Field) → members_faults takes s fields ≡ flat_map (wrong s) fields
+  faults s fields = all_told takes with_fields wrong none step told same s fields
 
--- every container
+  module _ (start : S) (options : S → List Meta → S) (item_faults : S → Meta → List Fault) (checks last : S → List Fault)
+      (input : DeriveInput) where
+    abbrev reader : Reader S
+    reader = outer_reader start options item_faults with_fields wrong checks last
 
-with_no_field : (body : Body) → body ≡ with_fields body []
-with_no_field (container.Enum variants) = refl
-with_no_field (container.Struct it) = ap (λ fields. container.Struct (with_members it fields)) (sym (append-nil it.fields))
+    abbrev none_taken : S → Variant → Outcome S
+    none_taken = variant_or {S = S} no_variants rules
 
-with_more_fields : (body : Body) (first more : List InputField) → with_fields (with_fields body first) more ≡ with_fields body (first ++ more)
-with_more_fields (container.Enum variants) first more = refl
-with_more_fields (container.Struct it) first more =
-    ap (λ fields. container.Struct (with_members it fields)) (append_assoc it.fields first more)
+    body_state : (s : S) (it : «Data») → after_body takes none_taken s it ≡ with_fields s (body_fields it)
+    body_state s it = no_variants_state rules (after_members takes s (body_fields it)) (variants_of it) ∙ state s (body_fields it)
 
-with_no_variant : (body : Body) → body ≡ with_variants body []
-with_no_variant (container.Enum variants) = ap container.Enum (sym (append-nil variants))
-with_no_variant (container.Struct it) = refl
+    body_told : (s : S) (it : «Data») → body_faults takes none_taken s it
+        ≡ flat_map (wrong s) (body_fields it) ++ flat_map (λ variant. no_variant variant ∷ []) (variants_of it)
+    body_told s it =
+        ap (λ xs. members_faults takes s (body_fields it) ++ xs)
+        (no_variants_faults rules (after_members takes s (body_fields it)) (variants_of it))
+        ∙ ap (λ xs. xs ++ flat_map (λ variant. no_variant variant ∷ []) (variants_of it)) (faults s (body_fields it))
 
-with_more_variants : (body : Body) (first more : List InputVariant)
-    → with_variants (with_variants body first) more ≡ with_variants body (first ++ more)
-with_more_variants (container.Enum variants) first more = ap container.Enum (append_assoc variants first more)
-with_more_variants (container.Struct it) first more = refl
+    pub kind_staged : last (options_of reader input) ≡ [] → staged reader takes none_taken input ≡ new_outcome reader input
+    kind_staged is = staged-is reader takes none_taken body_state body_told input is
 
-abbrev put_body : Core → Body → Core
-put_body core body = record core { body = body }
+    pub kind_whole : staged_whole reader takes none_taken input ≡ new_outcome reader input
+    kind_whole = whole-is reader takes none_taken body_state body_told input
+
+-- the kinds
 
 module _ (rules : Rules) where
-  same_field : (core : Core) (x : InputField) (field : Field)
-      → field_meaning rules (Some (core_with core (x ∷ []))) field ≡ field_meaning rules (Some core) field
-  unfolding field_meaning
-  same_field core x field = refl
+  -- no field changes nothing
+  with_none : {S : Type 0} (base : OuterFrom) (put : OuterFrom → S) → put base ≡ put (outer_at rules base [] (λ what. []))
+  with_none base put = ap (λ body. put (record base { container = record base.container { body = body } })) (with_no_field base.container.body)
 
-  same_variant : (core : Core) (x : InputVariant) (variant : Variant)
-      → variant_meaning rules (Some (core_with_variants core (x ∷ []))) variant ≡ variant_meaning rules (Some core) variant
-  unfolding field_meaning variant_meaning
-  same_variant core x variant = refl
+  abbrev attributes_at : Whole FromAttributesOptions
+  attributes_at s own parts = record s { base = outer_at rules s.base own parts }
 
-  fields_state : (core : Core) (fields : List Field) → after_members (core_takes rules) core fields ≡ core_with core (good_fields rules core fields)
-  fields_state core fields =
-      taken_state (λ it. field_meaning rules (Some it)) core_with (λ it. ap (put_body it) (with_no_field it.body))
-      (λ it xs ys. ap (put_body it) (with_more_fields it.body xs ys)) same_field core fields
+  attributes_handed : (field : Field) (part : Option Magic) → Takes rules container_of (outer_at rules) field part (λ base. outer_takes rules part base field)
+      → Takes rules (λ s. s.base.container) attributes_at field part (λ s. on_value (λ base. record s { base = base }) (outer_takes rules part s.base field))
+  attributes_handed field part takes =
+      handed_on rules (λ s. s.base) (λ s base. record s { base = base }) (λ s parts. s)
+      (λ s. refl) (λ s base. refl) (λ s base end parts. refl) field part (λ s parts. refl) takes
 
-  fields_faults : (core : Core) (fields : List Field) → members_faults (core_takes rules) core fields ≡ flat_map (field_faults rules core) fields
-  fields_faults core fields =
-      taken_faults (λ it. field_meaning rules (Some it)) core_with (λ it. ap (put_body it) (with_no_field it.body))
-      (λ it xs ys. ap (put_body it) (with_more_fields it.body xs ys)) same_field core fields
+  pub attributes_whole-is : (input : DeriveInput) → attributes_whole rules input ≡ new_outcome (attributes_reader rules input) input
+  attributes_whole-is input =
+      kind_whole rules FromAttributes (λ s. s.base.container) attributes_at
+      (λ part s field. on_value (λ base. record s { base = base }) (outer_takes rules part s.base field))
+      (λ s. with_none s.base (λ base. record s { base = base }))
+      (λ field. attributes_handed field None (takes_own rules field))
+      (λ field. (
+        attributes_handed field (Some magic.Ident) (takes_ident rules field),
+        (attributes_handed field (Some magic.Attrs) (takes_attrs rules field), tt),
+      ))
+      (attributes_start rules input) (of_attributes rules) (λ s. of_outer_faults rules s.base) (λ s. outer_checks s.base) attributes_last input
 
-  variants_state : (core : Core) (variants : List Variant)
-      → after_members (core_takes_variant rules) core variants ≡ core_with_variants core (good_variants rules core variants)
-  variants_state core variants =
-      taken_state (λ it. variant_meaning rules (Some it)) core_with_variants (λ it. ap (put_body it) (with_no_variant it.body))
-      (λ it xs ys. ap (put_body it) (with_more_variants it.body xs ys)) same_variant core variants
+  abbrev fdi_mine : FdiOptions → (Magic → List Field) → FdiOptions
+  fdi_mine s parts = record s {
+    vis = last_of s.vis (map (λ field. field.ident) (parts magic.Vis));
+    generics = last_of s.generics (parts_said (parts magic.Generics));
+    body = last_of s.body (parts_said (parts magic.Body));
+  }
 
-  variants_faults : (core : Core) (variants : List Variant)
-      → members_faults (core_takes_variant rules) core variants ≡ flat_map (variant_faults rules core) variants
-  variants_faults core variants =
-      taken_faults (λ it. variant_meaning rules (Some it)) core_with_variants (λ it. ap (put_body it) (with_no_variant it.body))
-      (λ it xs ys. ap (put_body it) (with_more_variants it.body xs ys)) same_variant core variants
+  abbrev fdi_at : Whole FdiOptions
+  fdi_at s own parts = record (fdi_mine s parts) { base = outer_at rules s.base own parts }
 
-  -- a body has fields or variants
-  core_state : (core : Core) (it : «Data»)
-      → after_body (core_takes rules) (core_takes_variant rules) core it ≡ core_with_body rules core it
-  core_state core (node.Struct it) = fields_state core (field_list it.fields)
-  core_state core (node.Enum it) = variants_state core it.variants
-  core_state core (node.Union it) = refl
+  module _ (field : Field) where
+    abbrev FdiTakes : Option Magic → Type 0
+    FdiTakes part = Takes rules (λ s. s.base.container) fdi_at field part (λ s. fdi_takes_as rules part s field)
 
-  core_faults : (core : Core) (it : «Data»)
-      → body_faults (core_takes rules) (core_takes_variant rules) core it
-      ≡ flat_map (field_faults rules core) (body_fields it) ++ flat_map (variant_faults rules core) (variants_of it)
-  core_faults core (node.Struct it) = ap (λ xs. xs ++ []) (fields_faults core (field_list it.fields))
-  core_faults core (node.Enum it) = variants_faults core it.variants
-  core_faults core (node.Union it) = refl
+    fdi_none : FdiTakes None
+    fdi_none =
+        handed_on rules (λ s. s.base) (λ s base. record s { base = base }) fdi_mine
+        (λ s. refl) (λ s base. refl) (λ s base end parts. refl) field None (λ s parts. refl) (takes_own rules field)
 
--- what hands its members on to a part
-module _ {S T M : Type 0} (get : S → T) (put : S → T → S) (same : (s : S) → s ≡ put s (get s)) (got : (s : S) (t : T) → get (put s t) ≡ t)
-    (twice : (s : S) (t u : T) → put (put s t) u ≡ put s u) (takes : T → M → Outcome T) where
-  abbrev handed : S → M → Outcome S
-  handed s member = on_value (put s) (takes (get s) member)
+    fdi_ident : FdiTakes (Some magic.Ident)
+    fdi_ident =
+        handed_on rules (λ s. s.base) (λ s base. record s { base = base }) fdi_mine
+        (λ s. refl) (λ s base. refl) (λ s base end parts. refl) field (Some magic.Ident) (λ s parts. refl) (takes_ident rules field)
 
-  handed_step : (s : S) (o : Outcome T) (members : List M)
-      → ((next : S) → after_members handed next members ≡ put next (after_members takes (get next) members))
-      → after_members handed (after_outcome (on_value (put s) o) s) members ≡ put s (after_members takes (after_outcome o (get s)) members)
-  handed_step s (Value t) members later =
-      later (put s t) ∙ twice s t _ ∙ ap (λ x. put s (after_members takes x members)) (got s t)
-  handed_step s (Faults fault more) members later = later s
+    fdi_attrs : FdiTakes (Some magic.Attrs)
+    fdi_attrs =
+        handed_on rules (λ s. s.base) (λ s base. record s { base = base }) fdi_mine
+        (λ s. refl) (λ s base. refl) (λ s base end parts. refl) field (Some magic.Attrs) (λ s parts. refl) (takes_attrs rules field)
 
-  handed_state : (s : S) (members : List M) → after_members handed s members ≡ put s (after_members takes (get s) members)
-  handed_state s [] = same s
-  handed_state s (member ∷ members) = handed_step s (takes (get s) member) members (λ next. handed_state next members)
+    fdi_vis : FdiTakes (Some magic.Vis)
+    fdi_vis = (λ s own parts. refl, (λ s. refl, λ s other next. refl))
 
-  handed_faults_step : (s : S) (o : Outcome T) (members : List M)
-      → ((next : S) → members_faults handed next members ≡ members_faults takes (get next) members)
-      → faults_of (on_value (put s) o) ++ members_faults handed (after_outcome (on_value (put s) o) s) members
-      ≡ faults_of o ++ members_faults takes (after_outcome o (get s)) members
-  handed_faults_step s (Value t) members later = later (put s t) ∙ ap (λ x. members_faults takes x members) (got s t)
-  handed_faults_step s (Faults fault more) members later = ap (λ xs. (fault ∷ more) ++ xs) (later s)
+    fdi_generics : FdiTakes (Some magic.Generics)
+    fdi_generics =
+        said_part rules (λ s. s.base.container) fdi_at field magic.Generics (λ s. s.generics) (λ s part. record s { generics = part })
+        (λ s part own parts. refl) (λ s own parts. refl) (λ s own parts. refl) (λ s part. refl) (λ core. refl)
 
-  handed_faults : (s : S) (members : List M) → members_faults handed s members ≡ members_faults takes (get s) members
-  handed_faults s [] = refl
-  handed_faults s (member ∷ members) = handed_faults_step s (takes (get s) member) members (λ next. handed_faults next members)
-
--- no variant is taken
-module _ {S : Type 0} (rules : Rules) where
-  no_variants_state : (set : S) (variants : List Variant) → after_members (variant_or {S = S} no_variants rules) set variants ≡ set
-  no_variants_state set [] = refl
-  no_variants_state set (variant ∷ variants) = no_variants_state set variants
-
-  no_variants_faults : (set : S) (variants : List Variant)
-      → members_faults (variant_or {S = S} no_variants rules) set variants ≡ flat_map (λ variant. no_variant variant ∷ []) variants
-  no_variants_faults set [] = refl
-  no_variants_faults set (variant ∷ variants) = ap (λ xs. no_variant variant ∷ xs) (no_variants_faults set variants)
-
--- the stages
-settle-bind : {A B : Type 0} (faults : List Fault) (x : A) (next : A → Outcome B) → bind (settle faults (Value x)) next ≡ settle faults (next x)
-settle-bind [] x next = refl
-settle-bind (fault ∷ more) x next = refl
-
-settle-settle : {A : Type 0} (first later : List Fault) (o : Outcome A) → settle first (settle later o) ≡ settle (else_faults first later) o
-settle-settle [] later o = refl
-settle-settle (fault ∷ more) later o = refl
-
-module _ {S : Type 0} (reader : Reader S) (takes_field : S → Field → Outcome S) (takes_variant : S → Variant → Outcome S)
-    (state : (set : S) (it : «Data») → after_body takes_field takes_variant set it ≡ reader.with_body set it)
-    (faults : (set : S) (it : «Data») → body_faults takes_field takes_variant set it
-    ≡ flat_map (reader.field_faults set) (body_fields it) ++ flat_map (reader.variant_faults set) (variants_of it))
-    (input : DeriveInput) where
-  staged-is : staged reader takes_field takes_variant input ≡ new_outcome reader input
-  staged-is =
-      let set = container_options reader input in
-      let whole = options_of reader input in
-      let unions = union_faults (is_union input.body) in
-      let nested = all_faults reader.options reader.item_faults reader.start [] (option_entries input.attrs) in
-      let body : S → Outcome S = λ s. read_body takes_field takes_variant reader.checks s input.body in
-      settle-bind unions reader.start (λ s. bind (read_options reader.options reader.item_faults s (option_entries input.attrs)) body)
-      ∙ ap (settle unions) (settle-bind nested set body)
-      ∙ ap (λ end. settle unions (settle nested (settle (body_faults takes_field takes_variant set input.body ++ reader.checks end) (Value end))))
-      (state set input.body)
-      ∙ ap (λ xs. settle unions (settle nested (settle (xs ++ reader.checks whole) (Value whole)))) (faults set input.body)
-      ∙ ap (settle unions) (settle-settle nested (spec.body_faults reader input) (Value whole))
-      ∙ settle-settle unions (else_faults nested (spec.body_faults reader input)) (Value whole)
-
--- the derives
-abbrev put_container : OuterFrom → Core → OuterFrom
-put_container set core = record set { container = core }
-
-abbrev put_outer : FdiOptions → OuterFrom → FdiOptions
-put_outer set base = record set { base = base }
-
-abbrev put_base : FromMetaOptions → Core → FromMetaOptions
-put_base set base = record set { base = base }
-
-module _ (rules : Rules) where
-  outer_state : (set : OuterFrom) (fields : List Field)
-      → after_members (outer_takes rules) set fields ≡ outer_with set (good_fields rules set.container fields)
-  outer_state set fields =
-      handed_state (λ s. s.container) put_container (λ s. refl) (λ s t. refl) (λ s t u. refl) (core_takes rules) set fields
-      ∙ ap (put_container set) (fields_state rules set.container fields)
-
-  outer_faults : (set : OuterFrom) (fields : List Field)
-      → members_faults (outer_takes rules) set fields ≡ flat_map (field_faults rules set.container) fields
-  outer_faults set fields =
-      handed_faults (λ s. s.container) put_container (λ s. refl) (λ s t. refl) (λ s t u. refl) (core_takes rules) set fields
-      ∙ fields_faults rules set.container fields
-
-  fdi_state : (set : FdiOptions) (fields : List Field)
-      → after_members (fdi_takes rules) set fields ≡ put_outer set (outer_with set.base (good_fields rules set.base.container fields))
-  fdi_state set fields =
-      handed_state (λ s. s.base) put_outer (λ s. refl) (λ s t. refl) (λ s t u. refl) (outer_takes rules) set fields
-      ∙ ap (put_outer set) (outer_state set.base fields)
-
-  fdi_faults : (set : FdiOptions) (fields : List Field)
-      → members_faults (fdi_takes rules) set fields ≡ flat_map (field_faults rules set.base.container) fields
-  fdi_faults set fields =
-      handed_faults (λ s. s.base) put_outer (λ s. refl) (λ s t. refl) (λ s t u. refl) (outer_takes rules) set fields
-      ∙ outer_faults set.base fields
+    fdi_body : FdiTakes (Some magic.Body)
+    fdi_body =
+        said_part rules (λ s. s.base.container) fdi_at field magic.Body (λ s. s.body) (λ s part. record s { body = part })
+        (λ s part own parts. refl) (λ s own parts. refl) (λ s own parts. refl) (λ s part. refl) (λ core. refl)
 
   pub fdi_staged-is : (input : DeriveInput) → fdi_staged rules input ≡ new_outcome (fdi_reader rules input) input
   fdi_staged-is input =
-      let none = variant_or {S = FdiOptions} no_variants rules in
-      staged-is (fdi_reader rules input) (fdi_takes rules) none
-      (λ set it. no_variants_state rules (after_members (fdi_takes rules) set (body_fields it)) (variants_of it) ∙ fdi_state set (body_fields it))
-      (λ set it.
-      ap (λ xs. members_faults (fdi_takes rules) set (body_fields it) ++ xs)
-      (no_variants_faults rules (after_members (fdi_takes rules) set (body_fields it)) (variants_of it))
-      ∙ ap (λ xs. xs ++ flat_map (λ variant. no_variant variant ∷ []) (variants_of it)) (fdi_faults set (body_fields it)))
-      input
+      kind_staged rules FromDeriveInput (λ s. s.base.container) fdi_at (λ part s field. fdi_takes_as rules part s field)
+      (λ s. with_none s.base (λ base. record s { base = base })) fdi_none
+      (λ field. (fdi_ident field, (fdi_attrs field, (fdi_vis field, (fdi_generics field, (fdi_body field, tt))))))
+      (fdi_start rules input) (of_fdi rules) (of_fdi_faults rules) (λ s. outer_checks s.base) (λ s. []) input refl
 
-  meta_fields : (set : FromMetaOptions) (fields : List Field)
-      → after_members (meta_takes rules) set fields ≡ put_base set (after_members (core_takes rules) set.base fields)
-  meta_fields set fields =
-      handed_state (λ s. s.base) put_base (λ s. refl) (λ s t. refl) (λ s t u. refl) (core_takes rules) set fields
+  abbrev from_field_mine : FromFieldOptions → (Magic → List Field) → FromFieldOptions
+  from_field_mine s parts = record s {
+    vis = last_of s.vis (map (λ field. field.ident) (parts magic.Vis));
+    ty = last_of s.ty (map (λ field. field.ident) (parts magic.Ty));
+  }
 
-  meta_state : (set : FromMetaOptions) (it : «Data»)
-      → after_body (meta_takes rules) (meta_takes_variant rules) set it ≡ put_base set (core_with_body rules set.base it)
-  meta_state set it =
-      let between = after_members (core_takes rules) set.base (body_fields it) in
-      ap (λ s. after_members (meta_takes_variant rules) s (variants_of it)) (meta_fields set (body_fields it))
-      ∙ handed_state (λ s. s.base) put_base (λ s. refl) (λ s t. refl) (λ s t u. refl) (core_takes_variant rules) (put_base set between) (variants_of it)
-      ∙ ap (put_base set) (core_state rules set.base it)
+  abbrev from_field_at : Whole FromFieldOptions
+  from_field_at s own parts = record (from_field_mine s parts) { base = outer_at rules s.base own parts }
 
-  meta_faults : (set : FromMetaOptions) (it : «Data»)
-      → body_faults (meta_takes rules) (meta_takes_variant rules) set it
-      ≡ flat_map (field_faults rules set.base) (body_fields it) ++ flat_map (variant_faults rules set.base) (variants_of it)
-  meta_faults set it =
-      let between = after_members (core_takes rules) set.base (body_fields it) in
-      ap (λ s. members_faults (meta_takes rules) set (body_fields it) ++ members_faults (meta_takes_variant rules) s (variants_of it))
-      (meta_fields set (body_fields it))
-      ∙ ap (λ xs. members_faults (meta_takes rules) set (body_fields it) ++ xs)
-      (handed_faults (λ s. s.base) put_base (λ s. refl) (λ s t. refl) (λ s t u. refl) (core_takes_variant rules) (put_base set between) (variants_of it))
-      ∙ ap (λ xs. xs ++ members_faults (core_takes_variant rules) between (variants_of it))
-      (handed_faults (λ s. s.base) put_base (λ s. refl) (λ s t. refl) (λ s t u. refl) (core_takes rules) set (body_fields it))
-      ∙ core_faults rules set.base it
+  module _ (field : Field) where
+    abbrev FieldTakes : Option Magic → Type 0
+    FieldTakes part = Takes rules (λ s. s.base.container) from_field_at field part (λ s. from_field_takes_as rules part s field)
 
-  pub meta_staged-is : (input : DeriveInput) → meta_staged rules input ≡ new_outcome (meta_reader rules input) input
-  meta_staged-is input = staged-is (meta_reader rules input) (meta_takes rules) (meta_takes_variant rules) meta_state meta_faults input
+    from_field_none : FieldTakes None
+    from_field_none =
+        handed_on rules (λ s. s.base) (λ s base. record s { base = base }) from_field_mine
+        (λ s. refl) (λ s base. refl) (λ s base end parts. refl) field None (λ s parts. refl) (takes_own rules field)
+
+    from_field_ident : FieldTakes (Some magic.Ident)
+    from_field_ident =
+        handed_on rules (λ s. s.base) (λ s base. record s { base = base }) from_field_mine
+        (λ s. refl) (λ s base. refl) (λ s base end parts. refl) field (Some magic.Ident) (λ s parts. refl) (takes_ident rules field)
+
+    from_field_attrs : FieldTakes (Some magic.Attrs)
+    from_field_attrs =
+        handed_on rules (λ s. s.base) (λ s base. record s { base = base }) from_field_mine
+        (λ s. refl) (λ s base. refl) (λ s base end parts. refl) field (Some magic.Attrs) (λ s parts. refl) (takes_attrs rules field)
+
+    from_field_vis : FieldTakes (Some magic.Vis)
+    from_field_vis = (λ s own parts. refl, (λ s. refl, λ s other next. refl))
+
+    from_field_ty : FieldTakes (Some magic.Ty)
+    from_field_ty = (λ s own parts. refl, (λ s. refl, λ s other next. refl))
+
+  pub from_field_staged-is : (input : DeriveInput) → from_field_staged rules input ≡ new_outcome (from_field_reader rules input) input
+  from_field_staged-is input =
+      kind_staged rules FromField (λ s. s.base.container) from_field_at (λ part s field. from_field_takes_as rules part s field)
+      (λ s. with_none s.base (λ base. record s { base = base })) from_field_none
+      (λ field. (from_field_ident field, (from_field_attrs field, (from_field_vis field, (from_field_ty field, tt)))))
+      (from_field_start rules input) (of_from_field rules) (λ s. of_outer_faults rules s.base) (λ s. outer_checks s.base) (λ s. []) input refl
+
+  abbrev type_param_mine : FromTypeParamOptions → (Magic → List Field) → FromTypeParamOptions
+  type_param_mine s parts = record s {
+    bounds = last_of s.bounds (map (λ field. field.ident) (parts magic.Bounds));
+    default = last_of s.default (map (λ field. field.ident) (parts magic.Default));
+  }
+
+  abbrev type_param_at : Whole FromTypeParamOptions
+  type_param_at s own parts = record (type_param_mine s parts) { base = outer_at rules s.base own parts }
+
+  module _ (field : Field) where
+    abbrev TypeParamTakes : Option Magic → Type 0
+    TypeParamTakes part = Takes rules (λ s. s.base.container) type_param_at field part (λ s. type_param_takes_as rules part s field)
+
+    type_param_none : TypeParamTakes None
+    type_param_none =
+        handed_on rules (λ s. s.base) (λ s base. record s { base = base }) type_param_mine
+        (λ s. refl) (λ s base. refl) (λ s base end parts. refl) field None (λ s parts. refl) (takes_own rules field)
+
+    type_param_ident : TypeParamTakes (Some magic.Ident)
+    type_param_ident =
+        handed_on rules (λ s. s.base) (λ s base. record s { base = base }) type_param_mine
+        (λ s. refl) (λ s base. refl) (λ s base end parts. refl) field (Some magic.Ident) (λ s parts. refl) (takes_ident rules field)
+
+    type_param_attrs : TypeParamTakes (Some magic.Attrs)
+    type_param_attrs =
+        handed_on rules (λ s. s.base) (λ s base. record s { base = base }) type_param_mine
+        (λ s. refl) (λ s base. refl) (λ s base end parts. refl) field (Some magic.Attrs) (λ s parts. refl) (takes_attrs rules field)
+
+    type_param_bounds : TypeParamTakes (Some magic.Bounds)
+    type_param_bounds = (λ s own parts. refl, (λ s. refl, λ s other next. refl))
+
+    type_param_default : TypeParamTakes (Some magic.Default)
+    type_param_default = (λ s own parts. refl, (λ s. refl, λ s other next. refl))
+
+  pub type_param_staged-is : (input : DeriveInput) → type_param_staged rules input ≡ new_outcome (type_param_reader rules input) input
+  type_param_staged-is input =
+      kind_staged rules FromTypeParam (λ s. s.base.container) type_param_at (λ part s field. type_param_takes_as rules part s field)
+      (λ s. with_none s.base (λ base. record s { base = base })) type_param_none
+      (λ field. (type_param_ident field, (type_param_attrs field, (type_param_bounds field, (type_param_default field, tt)))))
+      (type_param_start rules input) (of_type_param rules) (λ s. of_outer_faults rules s.base) (λ s. outer_checks s.base) (λ s. []) input refl
+
+  abbrev from_variant_mine : FromVariantOptions → (Magic → List Field) → FromVariantOptions
+  from_variant_mine s parts = record s {
+    discriminant = last_of s.discriminant (map (λ field. field.ident) (parts magic.Discriminant));
+    fields = last_of s.fields (parts_said (parts magic.Fields));
+  }
+
+  abbrev from_variant_at : Whole FromVariantOptions
+  from_variant_at s own parts = record (from_variant_mine s parts) { base = outer_at rules s.base own parts }
+
+  module _ (field : Field) where
+    abbrev VariantTakes : Option Magic → Type 0
+    VariantTakes part = Takes rules (λ s. s.base.container) from_variant_at field part (λ s. from_variant_takes_as rules part s field)
+
+    from_variant_none : VariantTakes None
+    from_variant_none =
+        handed_on rules (λ s. s.base) (λ s base. record s { base = base }) from_variant_mine
+        (λ s. refl) (λ s base. refl) (λ s base end parts. refl) field None (λ s parts. refl) (takes_own rules field)
+
+    from_variant_ident : VariantTakes (Some magic.Ident)
+    from_variant_ident =
+        handed_on rules (λ s. s.base) (λ s base. record s { base = base }) from_variant_mine
+        (λ s. refl) (λ s base. refl) (λ s base end parts. refl) field (Some magic.Ident) (λ s parts. refl) (takes_ident rules field)
+
+    from_variant_attrs : VariantTakes (Some magic.Attrs)
+    from_variant_attrs =
+        handed_on rules (λ s. s.base) (λ s base. record s { base = base }) from_variant_mine
+        (λ s. refl) (λ s base. refl) (λ s base end parts. refl) field (Some magic.Attrs) (λ s parts. refl) (takes_attrs rules field)
+
+    from_variant_discriminant : VariantTakes (Some magic.Discriminant)
+    from_variant_discriminant = (λ s own parts. refl, (λ s. refl, λ s other next. refl))
+
+    from_variant_fields : VariantTakes (Some magic.Fields)
+    from_variant_fields =
+        said_part rules (λ s. s.base.container) from_variant_at field magic.Fields (λ s. s.fields) (λ s part. record s { fields = part })
+        (λ s part own parts. refl) (λ s own parts. refl) (λ s own parts. refl) (λ s part. refl) (λ core. refl)
+
+  pub from_variant_staged-is : (input : DeriveInput) → from_variant_staged rules input ≡ new_outcome (from_variant_reader rules input) input
+  from_variant_staged-is input =
+      kind_staged rules FromVariant (λ s. s.base.container) from_variant_at (λ part s field. from_variant_takes_as rules part s field)
+      (λ s. with_none s.base (λ base. record s { base = base })) from_variant_none
+      (λ field. (from_variant_ident field, (from_variant_attrs field, (from_variant_discriminant field, (from_variant_fields field, tt)))))
+      (from_variant_start rules input) (of_from_variant rules) (of_from_variant_faults rules) (λ s. outer_checks s.base) (λ s. []) input refl

@@ -9,13 +9,16 @@ use Rattle.options_rows.specs.Rows.{first_of, last_of, Named, values}
 use Rattle.options_rows.specs.RowLaws.{first-more, last-more, values-append, first_of-append, first_of-some, last_of-append}
 use Rattle.options_rows.specs.Values.{Rules}
 use Rattle.options_core.specs.declared.outer_from.OuterFrom.{OuterFrom}
+use Rattle.options_core.specs.declared.from_attributes.FromAttributesOptions.{FromAttributesOptions}
 use Rattle.options_core.specs.declared.from_derive.FdiOptions.{FdiOptions}
-use Rattle.options_core.specs.declared.from_meta.FromMetaOptions.{FromMetaOptions}
+use Rattle.options_core.specs.declared.from_field.FromFieldOptions.{FromFieldOptions}
+use Rattle.options_core.specs.declared.from_type_param.FromTypeParamOptions.{FromTypeParamOptions}
+use Rattle.options_core.specs.declared.from_variant.FromVariantOptions.{FromVariantOptions}
 use Rattle.options_core.specs.declared.names.OuterName.{OuterName}
 use Rattle.options_core.specs.declared.names.OuterName.TheVariants.{FromIdent}
 use Rattle.options_core.specs.declared.names.FdiName.{FdiName}
-use Rattle.options_core.specs.declared.names.MetaName.{MetaName}
-use Rattle.options_core.specs.ContainerOptions.{core_item, core_items, same_outer, from_ident_of, trait_at, outer_options, outer_named, outer_item, outer_items, fdi_options, fdi_named, of_outer, of_fdi, meta_core_item, meta_core_items, meta_options, meta_named, of_meta}
+use Rattle.options_core.specs.declared.names.FromVariantName.{FromVariantName}
+use Rattle.options_core.specs.ContainerOptions.{core_item, core_items, same_outer, from_ident_of, trait_at, outer_options, outer_named, outer_item, outer_items, fdi_options, fdi_named, of_outer, of_fdi, from_variant_named, from_variant_options, of_attributes, of_from_field, of_from_variant, of_type_param, variant_outer_item, variant_outer_items}
 use Rattle.options_members.specs.CoreOptions.{default, same_core}
 
 core_items-append : (xs ys : List (Named OuterName)) → core_items (xs ++ ys) ≡ core_items xs ++ core_items ys
@@ -75,17 +78,35 @@ pub of_fdi-more : (rules : Rules) (set : FdiOptions) (first rest : List Meta)
 of_fdi-more rules set first rest =
     fdi_options-more rules set (map fdi_named first) (map fdi_named rest) ∙ sym (ap (fdi_options rules set) (map-append fdi_named first rest))
 
-meta_core_items-append : (xs ys : List (Named MetaName)) → meta_core_items (xs ++ ys) ≡ meta_core_items xs ++ meta_core_items ys
-meta_core_items-append [] ys = refl
-meta_core_items-append (x ∷ xs) ys =
-    ap (λ zs. meta_core_item x.name x.item ++ zs) (meta_core_items-append xs ys)
-    ∙ sym (append_assoc (meta_core_item x.name x.item) (meta_core_items xs) (meta_core_items ys))
+variant_outer_items-append : (xs ys : List (Named FromVariantName)) → variant_outer_items (xs ++ ys) ≡ variant_outer_items xs ++ variant_outer_items ys
+variant_outer_items-append [] ys = refl
+variant_outer_items-append (x ∷ xs) ys =
+    ap (λ zs. variant_outer_item x.name x.item ++ zs) (variant_outer_items-append xs ys)
+    ∙ sym (append_assoc (variant_outer_item x.name x.item) (variant_outer_items xs) (variant_outer_items ys))
 
-meta_options-more : (rules : Rules) (set : FromMetaOptions) (xs ys : List (Named MetaName))
-    → meta_options rules (meta_options rules set xs) ys ≡ meta_options rules set (xs ++ ys)
-meta_options-more rules set xs ys = simp (first-more, last-more, meta_core_items-append) refl
+from_variant_options-more : (rules : Rules) (set : FromVariantOptions) (xs ys : List (Named FromVariantName))
+    → from_variant_options rules (from_variant_options rules set xs) ys ≡ from_variant_options rules set (xs ++ ys)
+from_variant_options-more rules set xs ys =
+    let base : outer_options rules (outer_options rules set.base (variant_outer_items xs)) (variant_outer_items ys)
+    ≡ outer_options rules set.base (variant_outer_items (xs ++ ys)) =
+    outer_options-more rules set.base (variant_outer_items xs) (variant_outer_items ys)
+    ∙ ap (outer_options rules set.base) (sym (variant_outer_items-append xs ys)) in
+    rw (base, last-more) refl
 
-pub of_meta-more : (rules : Rules) (set : FromMetaOptions) (first rest : List Meta)
-    → of_meta rules (of_meta rules set first) rest ≡ of_meta rules set (first ++ rest)
-of_meta-more rules set first rest =
-    meta_options-more rules set (map meta_named first) (map meta_named rest) ∙ sym (ap (meta_options rules set) (map-append meta_named first rest))
+pub of_from_variant-more : (rules : Rules) (set : FromVariantOptions) (first rest : List Meta)
+    → of_from_variant rules (of_from_variant rules set first) rest ≡ of_from_variant rules set (first ++ rest)
+of_from_variant-more rules set first rest =
+    from_variant_options-more rules set (map from_variant_named first) (map from_variant_named rest)
+    ∙ sym (ap (from_variant_options rules set) (map-append from_variant_named first rest))
+
+pub of_attributes-more : (rules : Rules) (set : FromAttributesOptions) (first rest : List Meta)
+    → of_attributes rules (of_attributes rules set first) rest ≡ of_attributes rules set (first ++ rest)
+of_attributes-more rules set first rest = ap (λ base. record set { base = base }) (of_outer-more rules set.base first rest)
+
+pub of_from_field-more : (rules : Rules) (set : FromFieldOptions) (first rest : List Meta)
+    → of_from_field rules (of_from_field rules set first) rest ≡ of_from_field rules set (first ++ rest)
+of_from_field-more rules set first rest = ap (λ base. record set { base = base }) (of_outer-more rules set.base first rest)
+
+pub of_type_param-more : (rules : Rules) (set : FromTypeParamOptions) (first rest : List Meta)
+    → of_type_param rules (of_type_param rules set first) rest ≡ of_type_param rules set (first ++ rest)
+of_type_param-more rules set first rest = ap (λ base. record set { base = base }) (of_outer-more rules set.base first rest)

@@ -1,5 +1,5 @@
 -- The options of a container: their tables, the faults of an item behind what is set, and what stands behind items.
-use Rattle.std.specs.Prelude.{ℕ, ◌==◌, Bool, true, false, List, [], ◌∷◌, ◌++◌, map, codes, Option, Some}
+use Rattle.std.specs.Prelude.{ℕ, ◌==◌, Bool, true, List, [], ◌∷◌, ◌++◌, map, codes, Option, Some}
 use Rattle.base_core.specs.declared.text.Text.{Text}
 use Rattle.tok_types.specs.declared.span.Span.{Span}
 use Rattle.node_core.specs.Meta.{path_of_meta}
@@ -7,15 +7,17 @@ use Rattle.node_core.specs.declared.attr.Meta.{Meta}
 use Rattle.node_span.specs.Spanned.{path_span}
 use Rattle.error_fault.specs.Outcome.{Outcome, Value, on_value}
 use Rattle.error_fault.specs.declared.fault.Fault.{Fault}
-use Rattle.codegen_program.specs.declared.callable.Callable.{Callable}
 use Rattle.options_rows.specs.DefaultExpression.{DefaultExpression}
 use Rattle.options_rows.specs.DefaultExpression.TheVariants.{Trait}
-use Rattle.options_rows.specs.Rows.{duplicate_path, first_of, last_of, Named, values, Opt, OptionRow, once, last_stands, name_in, row_in, row_faults}
-use Rattle.options_rows.specs.Values.{Rules, bool_of, callable_of, forward_of, paths_of, shapes_of, word_of}
+use Rattle.options_rows.specs.Rows.{last_of, Named, values, OptionRow, last_stands, name_in, row_in, row_faults}
+use Rattle.options_rows.specs.Values.{Rules, forward_of, paths_of, shapes_of, variant_shapes_of, word_of}
 use Rattle.options_members.specs.declared.container.Core.{Core}
 use Rattle.options_core.specs.declared.outer_from.OuterFrom.{OuterFrom}
+use Rattle.options_core.specs.declared.from_attributes.FromAttributesOptions.{FromAttributesOptions}
 use Rattle.options_core.specs.declared.from_derive.FdiOptions.{FdiOptions}
-use Rattle.options_core.specs.declared.from_meta.FromMetaOptions.{FromMetaOptions}
+use Rattle.options_core.specs.declared.from_field.FromFieldOptions.{FromFieldOptions}
+use Rattle.options_core.specs.declared.from_type_param.FromTypeParamOptions.{FromTypeParamOptions}
+use Rattle.options_core.specs.declared.from_variant.FromVariantOptions.{FromVariantOptions}
 use Rattle.options_members.specs.declared.names.CoreName.{CoreName}
 use Rattle.options_core.specs.declared.names.OuterName.{OuterName}
 use Rattle.options_core.specs.declared.names.OuterName.TheVariants.{Attributes, ForwardAttrs, FromIdent}
@@ -23,9 +25,8 @@ use Rattle.options_core.specs.declared.names.OuterName.TheVariants as outer
 use Rattle.options_core.specs.declared.names.FdiName.{FdiName}
 use Rattle.options_core.specs.declared.names.FdiName.TheVariants.{Supports}
 use Rattle.options_core.specs.declared.names.FdiName.TheVariants as fdi
-use Rattle.options_core.specs.declared.names.MetaName.{MetaName}
-use Rattle.options_core.specs.declared.names.MetaName.TheVariants.{FromWord, FromNone, FromExpr, DeriveSynParse}
-use Rattle.options_core.specs.declared.names.MetaName.TheVariants as names
+use Rattle.options_core.specs.declared.names.FromVariantName.{FromVariantName}
+use Rattle.options_core.specs.declared.names.FromVariantName.TheVariants as variant
 use Rattle.options_members.specs.CoreOptions.{core_faults, core_name_of, core_options}
 
 -- under an outer derive
@@ -109,59 +110,35 @@ fdi_options rules set items = record set {
   supports = last_of set.supports (values (same_fdi Supports) (λ item. on_value Some (shapes_of item)) items);
 }
 
--- under `FromMeta`
+-- under `FromVariant`
 
-abbrev pub meta_number : MetaName → ℕ
-meta_number FromWord = 0
-meta_number FromNone = 1
-meta_number FromExpr = 2
-meta_number DeriveSynParse = 3
-meta_number (names.Core name) = 4
+abbrev pub from_variant_number : FromVariantName → ℕ
+from_variant_number variant.Supports = 0
+from_variant_number (variant.Outer name) = 1
 
-abbrev pub same_meta : MetaName → MetaName → Bool
-same_meta a b = meta_number a == meta_number b
+abbrev pub same_from_variant : FromVariantName → FromVariantName → Bool
+same_from_variant a b = from_variant_number a == from_variant_number b
 
-abbrev MetaOpt : Type 0 → Type 0
-MetaOpt A = Opt FromMetaOptions MetaName A
+abbrev pub from_variant_table : List (OptionRow FromVariantOptions FromVariantName)
+from_variant_table = last_stands variant.Supports (codes "supports") variant_shapes_of ∷ []
 
-abbrev pub from_word : MetaOpt Callable
-from_word = record { name = FromWord; word = codes "from_word"; at = λ set. set.from_word; read = callable_of; again = λ set. duplicate_path; alone = λ value. false }
+abbrev pub from_variant_faults : Rules → FromVariantName → FromVariantOptions → Meta → List Fault
+from_variant_faults rules (variant.Outer name) set item = outer_faults rules name set.base item
+from_variant_faults rules name set item = row_faults (row_in same_from_variant from_variant_table name) set item
 
-abbrev pub from_none : MetaOpt Callable
-from_none = record { name = FromNone; word = codes "from_none"; at = λ set. set.from_none; read = callable_of; again = λ set. duplicate_path; alone = λ value. false }
+abbrev pub variant_outer_item : FromVariantName → Meta → List (Named OuterName)
+variant_outer_item (variant.Outer name) item = record { name = name; item = item } ∷ []
+variant_outer_item variant.Supports item = []
 
-abbrev pub from_expr : MetaOpt Callable
-from_expr = record { name = FromExpr; word = codes "from_expr"; at = λ set. set.from_expr; read = callable_of; again = λ set. duplicate_path; alone = λ value. false }
+-- the items of the options of every outer derive
+abbrev pub variant_outer_items : List (Named FromVariantName) → List (Named OuterName)
+variant_outer_items [] = []
+variant_outer_items (it ∷ items) = variant_outer_item it.name it.item ++ variant_outer_items items
 
-abbrev pub derive_syn_parse : MetaOpt Bool
-derive_syn_parse = record { name = DeriveSynParse; word = codes "derive_syn_parse"; at = λ set. set.derive_syn_parse; read = bool_of; again = λ set. duplicate_path; alone = λ value. false }
-
-abbrev pub meta_table : List (OptionRow FromMetaOptions MetaName)
-meta_table = once from_word ∷ once from_none ∷ once from_expr ∷ once derive_syn_parse ∷ []
-
-abbrev pub meta_faults : Rules → MetaName → FromMetaOptions → Meta → List Fault
-meta_faults rules (names.Core name) set item = core_faults rules name set.base item
-meta_faults rules name set item = row_faults (row_in same_meta meta_table name) set item
-
-abbrev pub meta_core_item : MetaName → Meta → List (Named CoreName)
-meta_core_item (names.Core name) item = record { name = name; item = item } ∷ []
-meta_core_item name item = []
-
--- the items of the options of every container
-abbrev pub meta_core_items : List (Named MetaName) → List (Named CoreName)
-meta_core_items [] = []
-meta_core_items (it ∷ items) = meta_core_item it.name it.item ++ meta_core_items items
-
-abbrev pub meta_taken : {A : Type 0} → MetaOpt A → FromMetaOptions → List (Named MetaName) → Option A
-meta_taken option set items = first_of (option.at set) (values (same_meta option.name) option.read items)
-
-abbrev pub meta_options : Rules → FromMetaOptions → List (Named MetaName) → FromMetaOptions
-meta_options rules set items = record set {
-  base = core_options rules set.base (meta_core_items items);
-  from_word = meta_taken from_word set items;
-  from_none = meta_taken from_none set items;
-  from_expr = meta_taken from_expr set items;
-  derive_syn_parse = meta_taken derive_syn_parse set items;
+abbrev pub from_variant_options : Rules → FromVariantOptions → List (Named FromVariantName) → FromVariantOptions
+from_variant_options rules set items = record set {
+  base = outer_options rules set.base (variant_outer_items items);
+  supports = last_of set.supports (values (same_from_variant variant.Supports) (λ item. on_value Some (variant_shapes_of item)) items);
 }
 
 -- the option that a word is
@@ -171,8 +148,8 @@ outer_name_of word = name_in outer_table (outer.Core (core_name_of word)) word
 abbrev pub fdi_name_of : Text → FdiName
 fdi_name_of word = name_in fdi_table (fdi.Outer (outer_name_of word)) word
 
-abbrev pub meta_name_of : Text → MetaName
-meta_name_of word = name_in meta_table (names.Core (core_name_of word)) word
+abbrev pub from_variant_name_of : Text → FromVariantName
+from_variant_name_of word = name_in from_variant_table (variant.Outer (outer_name_of word)) word
 
 -- what stands behind items, and what is wrong with one
 
@@ -194,11 +171,22 @@ of_fdi rules set items = fdi_options rules set (map fdi_named items)
 abbrev pub of_fdi_faults : Rules → FdiOptions → Meta → List Fault
 of_fdi_faults rules set item = fdi_faults rules (fdi_name_of (word_of (path_of_meta item))) set item
 
-abbrev pub meta_named : Meta → Named MetaName
-meta_named item = record { name = meta_name_of (word_of (path_of_meta item)); item = item }
+abbrev pub from_variant_named : Meta → Named FromVariantName
+from_variant_named item = record { name = from_variant_name_of (word_of (path_of_meta item)); item = item }
 
-abbrev pub of_meta : Rules → FromMetaOptions → List Meta → FromMetaOptions
-of_meta rules set items = meta_options rules set (map meta_named items)
+abbrev pub of_from_variant : Rules → FromVariantOptions → List Meta → FromVariantOptions
+of_from_variant rules set items = from_variant_options rules set (map from_variant_named items)
 
-abbrev pub of_meta_faults : Rules → FromMetaOptions → Meta → List Fault
-of_meta_faults rules set item = meta_faults rules (meta_name_of (word_of (path_of_meta item))) set item
+abbrev pub of_from_variant_faults : Rules → FromVariantOptions → Meta → List Fault
+of_from_variant_faults rules set item = from_variant_faults rules (from_variant_name_of (word_of (path_of_meta item))) set item
+
+-- the others have no options of their own
+
+abbrev pub of_attributes : Rules → FromAttributesOptions → List Meta → FromAttributesOptions
+of_attributes rules set items = record set { base = of_outer rules set.base items }
+
+abbrev pub of_from_field : Rules → FromFieldOptions → List Meta → FromFieldOptions
+of_from_field rules set items = record set { base = of_outer rules set.base items }
+
+abbrev pub of_type_param : Rules → FromTypeParamOptions → List Meta → FromTypeParamOptions
+of_type_param rules set items = record set { base = of_outer rules set.base items }

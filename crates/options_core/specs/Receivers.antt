@@ -1,52 +1,100 @@
--- What receivers take of members, what is checked of them, and where their options begin.
-use Rattle.std.specs.Prelude.{nat_lt, Bool, false, not, cond, List, [], ◌∷◌, ◌++◌, length, flat_map, map, codes, Option, Some, None}
-use Rattle.std.specs.List.{list_any}
+-- What receivers of elements take of members, what is checked of them, and where their options begin.
+use Rattle.std.specs.Prelude.{Bool, true, false, not, ◌||◌, cond, List, [], ◌∷◌, ◌++◌, length, map, codes, Option, Some, None}
 use Rattle.base_core.specs.declared.text.Text.{Text}
 use Rattle.tok_core.specs.Printing.{stream_text}
 use Rattle.tok_types.specs.Stream.{stream_of}
+use Rattle.tok_types.specs.declared.ident.Ident.{Ident}
 use Rattle.tok_types.specs.declared.span.Span.{Span}
 use Rattle.node_expr.specs.declared.path.Path.{Path}
 use Rattle.node_core.specs.declared.data.Field.{Field}
-use Rattle.node_core.specs.declared.data.Variant.{Variant}
 use Rattle.node_core.specs.declared.derive.DeriveInput.{DeriveInput}
-use Rattle.node_span.specs.Spanned.{expr_span, path_span}
+use Rattle.node_span.specs.Spanned.{path_span}
 use Rattle.print_core.specs.Nodes.{path_tokens}
 use Rattle.print_core.specs.declared.path.PathStyle.TheVariants.{Plain}
-use Rattle.error_fault.specs.Fault.{at_span}
-use Rattle.error_fault.specs.Outcome.{Outcome, on_value}
+use Rattle.error_fault.specs.Fault.{at_span, plain}
+use Rattle.error_fault.specs.Outcome.{Outcome, Value, on_value}
 use Rattle.error_fault.specs.declared.fault.Fault.{Fault}
 use Rattle.error_fault.specs.declared.kind.FaultKind.TheVariants.{Custom}
-use Rattle.options_rows.specs.PathLists.{common}
-use Rattle.codegen_program.specs.declared.callable.Callable.{Callable}
-use Rattle.body_core.specs.declared.ast.fields.Fields.{Fields}
+use Rattle.codegen_program.specs.MagicFields.{magic_of}
+use Rattle.codegen_program.specs.declared.forwarded.Magic.{Magic}
+use Rattle.codegen_program.specs.declared.forwarded.Magic.TheVariants as magic
+use Rattle.codegen_program.specs.declared.program.Derive.TheVariants.{FromAttributes, FromDeriveInput, FromField, FromTypeParam, FromVariant}
 use Rattle.body_core.specs.declared.ast.data.«Data».TheVariants as container
+use Rattle.options_rows.specs.PathLists.{common}
 use Rattle.options_rows.specs.ForwardAttrsFilter.{ForwardAttrsFilter}
 use Rattle.options_rows.specs.ForwardAttrsFilter.TheVariants.{All, Only}
-use Rattle.options_rows.specs.SpannedValue.{SpannedValue}
-use Rattle.options_rows.specs.Rows.{list_of}
+use Rattle.options_rows.specs.ForwardedField.{ForwardedField}
 use Rattle.options_rows.specs.Values.{Rules}
+use Rattle.options_members.specs.Body.{Body, core_checks, core_start, core_takes, is_delegated}
+use Rattle.options_members.specs.declared.container.Core.{Core}
+use Rattle.options_core.specs.declared.from_attributes.FromAttributesOptions.{FromAttributesOptions}
 use Rattle.options_core.specs.declared.from_derive.FdiOptions.{FdiOptions}
-use Rattle.options_core.specs.declared.from_meta.FromMetaOptions.{FromMetaOptions}
-use Rattle.options_members.specs.declared.input_field.InputField.{InputField}
-use Rattle.options_members.specs.declared.input_variant.InputVariant.{InputVariant}
+use Rattle.options_core.specs.declared.from_field.FromFieldOptions.{FromFieldOptions}
+use Rattle.options_core.specs.declared.from_type_param.FromTypeParamOptions.{FromTypeParamOptions}
+use Rattle.options_core.specs.declared.from_variant.FromVariantOptions.{FromVariantOptions}
 use Rattle.options_core.specs.declared.outer_from.OuterFrom.{OuterFrom}
-use Rattle.options_members.specs.Body.{Body, core_checks, core_start, core_takes, core_takes_variant, is_delegated, is_read_unit, is_unit}
+use Rattle.options_core.specs.Parts.{part_said}
 
--- members
+-- members: what a field leaves, by the part that it takes
 
-abbrev pub outer_takes : Rules → OuterFrom → Field → Outcome OuterFrom
-outer_takes rules set field = on_value (λ core. record set { container = core }) (core_takes rules set.container field)
+abbrev pub outer_takes : Rules → Option Magic → OuterFrom → Field → Outcome OuterFrom
+outer_takes rules (Some magic.Ident) set field = on_value (λ part. record set { ident = part }) (part_said field)
+outer_takes rules (Some magic.Attrs) set field = on_value (λ part. record set { attrs = part }) (part_said field)
+outer_takes rules part set field = on_value (λ core. record set { container = core }) (core_takes rules set.container field)
+
+abbrev pub attributes_takes : Rules → FromAttributesOptions → Field → Outcome FromAttributesOptions
+attributes_takes rules set field =
+    on_value (λ base. record set { base = base }) (outer_takes rules (magic_of FromAttributes field) set.base field)
+
+abbrev pub fdi_takes_as : Rules → Option Magic → FdiOptions → Field → Outcome FdiOptions
+fdi_takes_as rules (Some magic.Vis) set field = Value (record set { vis = field.ident })
+fdi_takes_as rules (Some magic.Generics) set field = on_value (λ part. record set { generics = part }) (part_said field)
+fdi_takes_as rules (Some magic.Body) set field = on_value (λ part. record set { body = part }) (part_said field)
+fdi_takes_as rules part set field = on_value (λ base. record set { base = base }) (outer_takes rules part set.base field)
 
 abbrev pub fdi_takes : Rules → FdiOptions → Field → Outcome FdiOptions
-fdi_takes rules set field = on_value (λ base. record set { base = base }) (outer_takes rules set.base field)
+fdi_takes rules set field = fdi_takes_as rules (magic_of FromDeriveInput field) set field
 
-abbrev pub meta_takes : Rules → FromMetaOptions → Field → Outcome FromMetaOptions
-meta_takes rules set field = on_value (λ base. record set { base = base }) (core_takes rules set.base field)
+abbrev pub from_field_takes_as : Rules → Option Magic → FromFieldOptions → Field → Outcome FromFieldOptions
+from_field_takes_as rules (Some magic.Vis) set field = Value (record set { vis = field.ident })
+from_field_takes_as rules (Some magic.Ty) set field = Value (record set { ty = field.ident })
+from_field_takes_as rules part set field = on_value (λ base. record set { base = base }) (outer_takes rules part set.base field)
 
-abbrev pub meta_takes_variant : Rules → FromMetaOptions → Variant → Outcome FromMetaOptions
-meta_takes_variant rules set variant = on_value (λ base. record set { base = base }) (core_takes_variant rules set.base variant)
+abbrev pub from_field_takes : Rules → FromFieldOptions → Field → Outcome FromFieldOptions
+from_field_takes rules set field = from_field_takes_as rules (magic_of FromField field) set field
+
+abbrev pub type_param_takes_as : Rules → Option Magic → FromTypeParamOptions → Field → Outcome FromTypeParamOptions
+type_param_takes_as rules (Some magic.Bounds) set field = Value (record set { bounds = field.ident })
+type_param_takes_as rules (Some magic.Default) set field = Value (record set { default = field.ident })
+type_param_takes_as rules part set field = on_value (λ base. record set { base = base }) (outer_takes rules part set.base field)
+
+abbrev pub type_param_takes : Rules → FromTypeParamOptions → Field → Outcome FromTypeParamOptions
+type_param_takes rules set field = type_param_takes_as rules (magic_of FromTypeParam field) set field
+
+abbrev pub from_variant_takes_as : Rules → Option Magic → FromVariantOptions → Field → Outcome FromVariantOptions
+from_variant_takes_as rules (Some magic.Discriminant) set field = Value (record set { discriminant = field.ident })
+from_variant_takes_as rules (Some magic.Fields) set field = on_value (λ part. record set { fields = part }) (part_said field)
+from_variant_takes_as rules part set field = on_value (λ base. record set { base = base }) (outer_takes rules part set.base field)
+
+abbrev pub from_variant_takes : Rules → FromVariantOptions → Field → Outcome FromVariantOptions
+from_variant_takes rules set field = from_variant_takes_as rules (magic_of FromVariant field) set field
 
 -- checks
+
+unfoldable pub not_populated : Text → Ident → Fault
+not_populated kind ident =
+    at_span (Custom (codes "field will not be populated because `forward_attrs` is not set on the " ++ kind)) ident.span
+
+-- what a body is, in faults
+abbrev pub body_kind : Body → Text
+body_kind (container.Enum variants) = codes "enum"
+body_kind (container.Struct it) = codes "struct"
+
+-- a field takes attributes where none is kept
+abbrev pub attrs_faults : Text → Option ForwardedField → Option ForwardAttrsFilter → List Fault
+attrs_faults kind None filter = []
+attrs_faults kind (Some attrs) None = not_populated kind attrs.ident ∷ []
+attrs_faults kind (Some attrs) (Some filter) = []
 
 -- the text of a path as its tokens are written
 abbrev pub written : Path → Text
@@ -62,98 +110,55 @@ forward_faults None names = []
 forward_faults (Some All) names = []
 forward_faults (Some (Only paths)) names = map not_forwarded (common paths.0 names)
 
--- under an outer derive
+-- of every receiver of elements
 abbrev pub outer_checks : OuterFrom → List Fault
-outer_checks set = core_checks set.container ++ forward_faults set.forward_attrs set.attr_names.0
+outer_checks set =
+    core_checks set.container
+    ++ (attrs_faults (body_kind set.container.body) set.attrs set.forward_attrs ++ forward_faults set.forward_attrs set.attr_names.0)
 
-abbrev pub fdi_checks : FdiOptions → List Fault
-fdi_checks set = outer_checks set.base
+-- a struct that is read as its one field is
+abbrev pub is_whole_body : Option Span → Body → Bool
+is_whole_body transparent (container.Enum variants) = false
+is_whole_body transparent (container.Struct it) = is_delegated it.style (length it.fields) transparent
 
--- the callable is of no use, at its place
-unfoldable pub on_unit : Callable → Fault
-on_unit callable =
-    at_span (Custom (codes "`from_word` cannot be used on unit structs because it conflicts with the generated impl")) (expr_span callable.call)
+abbrev pub is_whole : Core → Bool
+is_whole core = is_whole_body core.transparent.0 core.body
 
-unfoldable pub on_transparent : Text → Callable → Fault
-on_transparent word callable =
-    at_span (Custom (codes "`" ++ word ++ codes "` cannot be used on transparent structs because the implementation is entirely delegated to the inner type")) (expr_span callable.call)
+abbrev pub has_names : List Path → Bool
+has_names [] = false
+has_names (path ∷ more) = true
 
--- `from_word` on a unit struct, and on one that is read as its field
-abbrev pub word_faults : Bool → Bool → Option Callable → List Fault
-word_faults unit delegated None = []
-word_faults unit delegated (Some callable) =
-    cond unit (on_unit callable ∷ []) (cond delegated (on_transparent (codes "from_word") callable ∷ []) [])
+unfoldable pub collects_nothing : Fault
+collects_nothing = plain (Custom (codes "FromAttributes without attributes collects nothing"))
 
--- `from_expr` on one that is read as its field
-abbrev pub expr_faults : Bool → Option Callable → List Fault
-expr_faults delegated None = []
-expr_faults delegated (Some callable) = cond delegated (on_transparent (codes "from_expr") callable ∷ []) []
-
-unfoldable pub beside_word : Callable → Fault
-beside_word callable = at_span (Custom (codes "`from_word` cannot be used with an enum that also uses `word`")) (expr_span callable.call)
-
-unfoldable pub not_one_word : Span → Fault
-not_one_word span = at_span (Custom (codes "`#[darling(word)]` can only be applied to one variant")) span
-
-unfoldable pub beside_unit : Callable → Fault
-beside_unit callable =
-    at_span (Custom (codes "`from_expr` cannot be used on enums with non-skipped unit variants because it conflicts with the generated impl")) (expr_span callable.call)
-
--- where a true `word` stands; a false one says nothing
-abbrev pub true_place : SpannedValue Bool → List Span
-true_place word = cond word.value (word.span ∷ []) []
-
-abbrev pub word_places : InputVariant → List Span
-word_places variant = flat_map true_place (list_of variant.word)
-
--- where `word` stands among the variants
-abbrev pub word_spans : List InputVariant → List Span
-word_spans variants = flat_map word_places variants
-
--- `from_word` beside `word`
-abbrev pub beside_faults : List Span → Option Callable → List Fault
-beside_faults words None = []
-beside_faults words (Some callable) = cond (nat_lt 0 (length words)) (beside_word callable ∷ []) []
-
--- `word` at several variants
-abbrev pub words_faults : List Span → List Fault
-words_faults words = cond (nat_lt 1 (length words)) (map not_one_word words) []
-
--- `from_expr` where a unit variant is read
-abbrev pub unit_faults : Bool → Option Callable → List Fault
-unit_faults units None = []
-unit_faults units (Some callable) = cond units (beside_unit callable ∷ []) []
-
--- what is wrong with what is called for an enum
-abbrev pub enum_faults : FromMetaOptions → List InputVariant → List Fault
-enum_faults set variants =
-    beside_faults (word_spans variants) set.from_word
-    ++ words_faults (word_spans variants)
-    ++ unit_faults (list_any is_read_unit variants) set.from_expr
-
--- the same for a struct
-abbrev pub struct_faults : FromMetaOptions → Fields InputField → List Fault
-struct_faults set it =
-    word_faults (is_unit it.style) (is_delegated it.style (length it.fields) set.base.transparent.0) set.from_word
-    ++ expr_faults (is_delegated it.style (length it.fields) set.base.transparent.0) set.from_expr
-
-abbrev pub call_faults : FromMetaOptions → Body → List Fault
-call_faults set (container.Enum variants) = enum_faults set variants
-call_faults set (container.Struct it) = struct_faults set it
-
--- under `FromMeta`
-abbrev pub meta_checks : FromMetaOptions → List Fault
-meta_checks set = core_checks set.base ++ call_faults set set.base.body
+-- under `FromAttributes`, behind all others: no attribute is read
+abbrev pub attributes_last : FromAttributesOptions → List Fault
+attributes_last set = cond (is_whole set.base.container || has_names set.base.attr_names.0) [] (collects_nothing ∷ [])
 
 -- where options begin
 
 abbrev pub outer_start : Rules → DeriveInput → OuterFrom
 outer_start rules input =
-    record { container = core_start rules input; attr_names = record { 0 = [] }; forward_attrs = None; from_ident = false }
+    record {
+      ident = None;
+      attrs = None;
+      container = core_start rules input;
+      attr_names = record { 0 = [] };
+      forward_attrs = None;
+      from_ident = false;
+    }
+
+abbrev pub attributes_start : Rules → DeriveInput → FromAttributesOptions
+attributes_start rules input = record { base = outer_start rules input }
 
 abbrev pub fdi_start : Rules → DeriveInput → FdiOptions
-fdi_start rules input = record { base = outer_start rules input; supports = None }
+fdi_start rules input = record { base = outer_start rules input; vis = None; generics = None; body = None; supports = None }
 
-abbrev pub meta_start : Rules → DeriveInput → FromMetaOptions
-meta_start rules input =
-    record { base = core_start rules input; from_word = None; from_none = None; from_expr = None; derive_syn_parse = None }
+abbrev pub from_field_start : Rules → DeriveInput → FromFieldOptions
+from_field_start rules input = record { base = outer_start rules input; vis = None; ty = None }
+
+abbrev pub type_param_start : Rules → DeriveInput → FromTypeParamOptions
+type_param_start rules input = record { base = outer_start rules input; bounds = None; default = None }
+
+abbrev pub from_variant_start : Rules → DeriveInput → FromVariantOptions
+from_variant_start rules input = record { base = outer_start rules input; discriminant = None; fields = None; supports = None }

@@ -1,40 +1,67 @@
--- What is compiled from options, beside the options.
-use Rattle.std.specs.Prelude.{◌≡◌, false, cond, List, [], ◌∷◌, Option, Some, None, unwrap_or}
-use Rattle.std.specs.Option.{option_copied, option_or}
-use Rattle.body_core.specs.declared.ast.data.«Data».TheVariants as body
-use Rattle.codegen_word.specs.WordClosure.{word_closure}
-use Rattle.codegen_core.specs.declared.from_derive_impl.FromDeriveInputImpl.{FromDeriveInputImpl}
-use Rattle.codegen_core.specs.declared.from_meta_impl.FromMetaImpl.{FromMetaImpl}
-use Rattle.codegen_program.specs.declared.callable.Callable.{Callable}
+-- What is compiled from options of receivers of elements, beside the options.
+use Rattle.std.specs.Prelude.{◌≡◌}
+use Rattle.std.specs.Option.{option_copied}
+use Rattle.codegen_outer.specs.declared.attrs_field.ForwardAttrs.{ForwardAttrs}
+use Rattle.codegen_outer.specs.declared.from_attributes_impl.FromAttributesImpl.{FromAttributesImpl}
+use Rattle.codegen_outer.specs.declared.from_derive_impl.FromDeriveInputImpl.{FromDeriveInputImpl}
+use Rattle.codegen_outer.specs.declared.from_field.FromFieldImpl.{FromFieldImpl}
+use Rattle.codegen_outer.specs.declared.from_type_param.FromTypeParamImpl.{FromTypeParamImpl}
+use Rattle.codegen_outer.specs.declared.from_variant_impl.FromVariantImpl.{FromVariantImpl}
+use Rattle.options_members.specs.Views.{IsImpl}
+use Rattle.options_core.specs.declared.from_attributes.FromAttributesOptions.{FromAttributesOptions}
 use Rattle.options_core.specs.declared.from_derive.FdiOptions.{FdiOptions}
-use Rattle.options_core.specs.declared.from_meta.FromMetaOptions.{FromMetaOptions}
-use Rattle.options_members.specs.declared.input_variant.InputVariant.{InputVariant}
-use Rattle.options_members.specs.Body.{Body}
-use Rattle.options_members.specs.Views.{IsImpl, has_word}
+use Rattle.options_core.specs.declared.from_field.FromFieldOptions.{FromFieldOptions}
+use Rattle.options_core.specs.declared.from_type_param.FromTypeParamOptions.{FromTypeParamOptions}
+use Rattle.options_core.specs.declared.from_variant.FromVariantOptions.{FromVariantOptions}
+use Rattle.options_core.specs.declared.outer_from.OuterFrom.{OuterFrom}
 
--- the same under `FromDeriveInput`
+-- the attributes that are handed on, and the field that takes them
+pub record IsForwardAttrs (left : ForwardAttrs) (it : OuterFrom) : Type 0 where
+  pub filter : option_copied left.filter ≡ it.forward_attrs
+  pub field : option_copied left.field ≡ it.attrs
+
+-- the same under each derive
+
+pub record IsAttributesImpl (left : FromAttributesImpl) (it : FromAttributesOptions) : Type 0 where
+  pub base : IsImpl left.base it.base.container
+  pub names : left.attr_names.now ≡ it.base.attr_names
+  pub forward : IsForwardAttrs left.forward_attrs it.base
+
 pub record IsInputImpl (left : FromDeriveInputImpl) (it : FdiOptions) : Type 0 where
   pub base : IsImpl left.base it.base.container
   pub names : left.attr_names.now ≡ it.base.attr_names
-  pub ident : left.from_ident ≡ it.base.from_ident
+  pub forward : IsForwardAttrs left.forward_attrs it.base
+  pub ident : option_copied left.ident ≡ it.base.ident
+  pub vis : option_copied left.vis ≡ it.vis
+  pub generics : option_copied left.generics ≡ it.generics
+  pub body : option_copied left.body ≡ it.body
+  pub from_ident : left.from_ident ≡ it.base.from_ident
+  pub supports : option_copied left.supports ≡ it.supports
 
--- the closure of the first variant that a word stands for
-abbrev pub worded : List InputVariant → Option Callable
-worded [] = None
-worded (variant ∷ variants) = cond (has_word variant) (Some (word_closure variant.ident)) (worded variants)
+pub record IsFieldImpl (left : FromFieldImpl) (it : FromFieldOptions) : Type 0 where
+  pub base : IsImpl left.base it.base.container
+  pub names : left.attr_names.now ≡ it.base.attr_names
+  pub forward : IsForwardAttrs left.forward_attrs it.base
+  pub ident : option_copied left.ident ≡ it.base.ident
+  pub vis : option_copied left.vis ≡ it.vis
+  pub ty : option_copied left.ty ≡ it.ty
+  pub from_ident : left.from_ident ≡ it.base.from_ident
 
-abbrev pub body_word : Body → Option Callable
-body_word (body.Struct it) = None
-body_word (body.Enum variants) = worded variants
+pub record IsTypeParamImpl (left : FromTypeParamImpl) (it : FromTypeParamOptions) : Type 0 where
+  pub base : IsImpl left.base it.base.container
+  pub names : left.attr_names.now ≡ it.base.attr_names
+  pub forward : IsForwardAttrs left.forward_attrs it.base
+  pub ident : option_copied left.ident ≡ it.base.ident
+  pub bounds : option_copied left.bounds ≡ it.bounds
+  pub default : option_copied left.default ≡ it.default
+  pub from_ident : left.from_ident ≡ it.base.from_ident
 
--- what a word alone is read by: what `from_word` names, else the closure of the variant whose word it is
-abbrev pub from_word_of : FromMetaOptions → Option Callable
-from_word_of it = option_or it.from_word (body_word it.base.body)
-
--- the same under `FromMeta`
-pub record IsMetaImpl (left : FromMetaImpl) (it : FromMetaOptions) : Type 0 where
-  pub base : IsImpl left.base it.base
-  pub word : left.from_word ≡ from_word_of it
-  pub none : option_copied left.from_none ≡ it.from_none
-  pub expr : option_copied left.from_expr ≡ it.from_expr
-  pub parse : left.derive_syn_parse ≡ unwrap_or it.derive_syn_parse false
+pub record IsVariantImpl (left : FromVariantImpl) (it : FromVariantOptions) : Type 0 where
+  pub base : IsImpl left.base it.base.container
+  pub names : left.attr_names.now ≡ it.base.attr_names
+  pub forward : IsForwardAttrs left.forward_attrs it.base
+  pub ident : option_copied left.ident ≡ it.base.ident
+  pub discriminant : option_copied left.discriminant ≡ it.discriminant
+  pub fields : option_copied left.fields ≡ it.fields
+  pub from_ident : left.from_ident ≡ it.base.from_ident
+  pub supports : option_copied left.supports ≡ it.supports

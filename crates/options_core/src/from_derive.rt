@@ -9,19 +9,31 @@ ghost use Rattle.options_rows.specs.Rows.{one};
 ghost use Rattle.options_members.specs.Body.{union_faults};
 ghost use Rattle.options_core.specs.Receivers.{fdi_start};
 ghost use Rattle.options_core.specs.ContainerOptions.{fdi_faults, fdi_options};
-ghost use Rattle.options_core.specs.Stages as spec;
+ghost use Rattle.options_core.specs.Readers.{fdi_reader, fdi_staged};
+ghost use Rattle.options_meta.specs.Stages.{new_outcome};
 
 use crate::names::FdiName;
-use crate::outer_from::OuterFrom;
+use crate::outer_from::{OuterFrom, take_name, take_part};
 use base_core::Mem;
+use codegen_program::{Derive, Magic};
 use error_core::{Accumulator, Result};
 use node_core::{DeriveInput, Field, Meta, Variant};
-use options_rows::{DeriveInputShapeSet, ParseAttribute, ParseData, RenameTable, last_given};
+use options_members::validate;
+use options_rows::{
+    DeriveInputShapeSet, ForwardedField, ParseAttribute, ParseData, RenameTable, last_given,
+};
 use std::alloc::Global;
+use tok_types::Ident;
 
 /// The options of a receiver that derives `FromDeriveInput`.
 pub struct FdiOptions {
     pub base: OuterFrom,
+    /// The field that takes the visibility.
+    pub vis: Option<Ident>,
+    /// The field that takes the generics.
+    pub generics: Option<ForwardedField>,
+    /// The field `data`, which takes the body.
+    pub body: Option<ForwardedField>,
     /// The items that it takes.
     pub supports: Option<DeriveInputShapeSet>,
 }
@@ -36,14 +48,14 @@ impl FdiOptions {
     /// let core = &options.base.container;
     /// ```
     pub fn new(alloc: Global, di: &DeriveInput, table: &RenameTable) -> Result<FdiOptions>
-        ensures { Answers (λ it. it) result (spec.new_outcome (spec.fdi_reader table.now di.now) di.now) }
+        ensures { Answers (λ it. it) result (new_outcome (fdi_reader table.now di.now) di.now) }
     {
         FdiOptions::read(alloc, di, table)
     }
 
     /// One stage behind another.
     fn read(alloc: Global, di: &DeriveInput, table: &RenameTable) -> Result<FdiOptions>
-        ensures { Answers (λ it. it) result (spec.fdi_staged table.now di.now) }
+        ensures { Answers (λ it. it) result (fdi_staged table.now di.now) }
     {
         let start = FdiOptions::start(alloc, di, table)?;
         let read = start.parse_attributes(alloc, di.attrs.as_slice(), table)?;
@@ -57,6 +69,9 @@ impl FdiOptions {
     {
         Ok(FdiOptions {
             base: OuterFrom::start(alloc, di, table)?,
+            vis: None,
+            generics: None,
+            body: None,
             supports: None,
         })
     }
@@ -83,6 +98,9 @@ impl Drop for FdiOptions {
     fn drop(self) {
         let Self {
             base: _base,
+            vis: _vis,
+            generics: _generics,
+            body: _body,
             supports: _,
         } = self;
     }
@@ -107,14 +125,15 @@ impl ParseAttribute for FdiOptions {
 }
 
 impl ParseData for FdiOptions {
-    ghost use Rattle.options_core.specs.Receivers.{fdi_checks};
-    ghost use Rattle.options_core.specs.Stages.{fdi_own, no_variants};
+    ghost use Rattle.options_core.specs.Readers.{fdi_own};
+    ghost use Rattle.options_core.specs.Receivers.{outer_checks};
+    ghost use Rattle.options_meta.specs.Stages.{no_variants};
 
     ghost of_field = { fdi_own };
 
     ghost of_variant = { no_variants };
 
-    ghost checks = { fdi_checks };
+    ghost checks = { λ set. outer_checks set.base };
 
     fn own_field(
         &mut self,
@@ -122,7 +141,12 @@ impl ParseData for FdiOptions {
         field: &Field,
         table: &RenameTable,
     ) -> Result<Option<()>> {
-        self.base.own_field(alloc, field, table)
+        match Magic::of(Derive::FromDeriveInput, field) {
+            Some(Magic::Vis) => take_name(alloc, &mut self.vis, field),
+            Some(Magic::Generics) => take_part(alloc, &mut self.generics, field, table),
+            Some(Magic::Body) => take_part(alloc, &mut self.body, field, table),
+            part => self.base.take_field(alloc, part, field, table),
+        }
     }
 
     fn own_variant(
@@ -135,6 +159,6 @@ impl ParseData for FdiOptions {
     }
 
     fn validate_body(&self, alloc: Global, errors: &mut Accumulator) -> Mem<()> {
-        self.base.validate_body(alloc, errors)
+        validate(&self.base, alloc, errors)
     }
 }

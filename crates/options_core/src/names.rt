@@ -48,26 +48,20 @@ impl FdiName {
     }
 }
 
-/// The options of a container under `FromMeta`.
+/// The options of a container under `FromVariant`.
 #[derive(Clone, Copy)]
-pub enum MetaName {
-    FromWord,
-    FromNone,
-    FromExpr,
-    DeriveSynParse,
-    Core(CoreName),
+pub enum FromVariantName {
+    Supports,
+    Outer(OuterName),
 }
 
-impl MetaName {
-    pub(crate) fn of(path: &Path) -> MetaName
-        ensures { result ≡ container.meta_name_of (word_of path.now) }
+impl FromVariantName {
+    pub(crate) fn of(path: &Path) -> FromVariantName
+        ensures { result ≡ container.from_variant_name_of (word_of path.now) }
     {
         match word_of(path) {
-            "from_word" => MetaName::FromWord,
-            "from_none" => MetaName::FromNone,
-            "from_expr" => MetaName::FromExpr,
-            "derive_syn_parse" => MetaName::DeriveSynParse,
-            _ => MetaName::Core(CoreName::of(path)),
+            "supports" => FromVariantName::Supports,
+            _ => FromVariantName::Outer(OuterName::of(path)),
         }
     }
 }

@@ -1,34 +1,42 @@
 //! What the options of a receiver say that is read from an item or from a part of one.
 
-ghost use Rattle.std.specs.Prelude.{◌≡◌, ◌++◌, map, codes, IfOk, OnOk};
+ghost use Rattle.std.specs.Prelude.{◌≡◌, ◌++◌, Some, map, codes, IfOk, OnOk};
 ghost use Rattle.error_fault.specs.Outcome.{Value, settle};
 ghost use Rattle.error_core.specs.Answers.{Answers};
 ghost use Rattle.error_core.specs.ErrorView.{One, held};
 ghost use Rattle.options_rows.specs.PathLists.{common};
-ghost use Rattle.options_rows.specs.Does.{Does};
+ghost use Rattle.options_rows.specs.Does.{Does, TakesOwn};
 ghost use Rattle.node_core.specs.Bodies.{is_union};
 ghost use Rattle.options_rows.specs.Rows.{one};
 ghost use Rattle.options_core.specs.Receivers as spec;
 ghost use Rattle.options_core.specs.ContainerOptions.{outer_faults, outer_options};
+ghost use Rattle.options_core.specs.Parts.{part_said};
 ghost use Rattle.options_members.specs.Body.{union_faults};
 
 use crate::names::OuterName;
-use base_core::{Mem, Text};
+use base_core::{Mem, Text, TryClone};
+use body_core::ast::Data;
+use codegen_program::Magic;
 use error_core::{Accumulator, Error, Result};
-use node_core::{DeriveInput, Field, Meta, Variant};
+use node_core::{DeriveInput, Field, Meta};
 use node_expr::Path;
 use node_span::Spanned;
-use options_members::{Checks, Core, validate};
+use options_members::{Checks, Core, InputField, InputVariant};
 use options_rows::{
-    DefaultExpression, ForwardAttrsFilter, ParseAttribute, ParseData, PathList, RenameTable, last,
-    last_given,
+    DefaultExpression, ForwardAttrsFilter, ForwardedField, ParseAttribute, ParseData, PathList,
+    RenameTable, forwarded_field, last, last_given,
 };
 use print_core::ToTokens;
 use std::alloc::Global;
 use tok_core::to_text;
+use tok_types::Ident;
 
 /// What the options of a receiver say that is read from an item or from a part of one.
 pub struct OuterFrom {
+    /// The field that takes the identifier.
+    pub ident: Option<ForwardedField>,
+    /// The field that takes the attributes that are handed on.
+    pub attrs: Option<ForwardedField>,
     pub container: Core,
     /// The attributes that are read.
     pub attr_names: PathList,
@@ -45,6 +53,8 @@ impl OuterFrom {
             (settle (union_faults (is_union di.now.body)) (Value (spec.outer_start table.now di.now))) }
     {
         Ok(OuterFrom {
+            ident: None,
+            attrs: None,
             container: Core::start(alloc, di, table)?,
             attr_names: PathList::new(Vec::new(alloc)),
             forward_attrs: None,
@@ -75,6 +85,51 @@ impl OuterFrom {
             OuterName::Core(name) => self.container.apply(alloc, name, item, table),
         }
     }
+
+    /// Takes a field by the part of the element that it takes, or as one that is read from items.
+    ///
+    /// Faults and want of memory change nothing.
+    pub(crate) fn take_field(
+        &mut self,
+        alloc: Global,
+        part: Option<Magic>,
+        field: &Field,
+        table: &RenameTable,
+    ) -> Result<Option<()>>
+        ensures { TakesOwn result (Some (spec.outer_takes table.now part self.old field.now)) self.old self.new }
+    {
+        match part {
+            Some(Magic::Ident) => take_part(alloc, &mut self.ident, field, table),
+            Some(Magic::Attrs) => take_part(alloc, &mut self.attrs, field, table),
+            _ => self.container.own_field(alloc, field, table),
+        }
+    }
+}
+
+/// Takes the place of the field that took the part until now.
+pub(crate) fn take_part(
+    alloc: Global,
+    slot: &mut Option<ForwardedField>,
+    field: &Field,
+    table: &RenameTable,
+) -> Result<Option<()>>
+    ensures { TakesOwn result (Some (part_said field.now)) slot.old slot.new }
+{
+    let part = forwarded_field(alloc, field, table)?;
+    *slot = Some(part);
+    Ok(Some(()))
+}
+
+/// The same of a part whose field has no options.
+pub(crate) fn take_name(
+    alloc: Global,
+    slot: &mut Option<Ident>,
+    field: &Field,
+) -> Result<Option<()>>
+    ensures { TakesOwn result (Some (Value field.now.ident)) slot.old slot.new }
+{
+    *slot = field.ident.try_clone(alloc)?;
+    Ok(Some(()))
 }
 
 impl Checks for OuterFrom {
@@ -84,6 +139,8 @@ impl Checks for OuterFrom {
 
     fn push_checks(&self, alloc: Global, errors: &mut Accumulator) -> Mem<()> {
         self.container.push_checks(alloc, errors)?;
+        let kind = body_kind(&self.container.body);
+        check_attrs(alloc, kind, &self.attrs, &self.forward_attrs, errors)?;
         check_forwarded(alloc, &self.forward_attrs, &self.attr_names, errors)
     }
 }
@@ -91,6 +148,8 @@ impl Checks for OuterFrom {
 impl Drop for OuterFrom {
     fn drop(self) {
         let Self {
+            ident: _ident,
+            attrs: _attrs,
             container: _container,
             attr_names: _attr_names,
             forward_attrs: _forward_attrs,
@@ -117,37 +176,54 @@ impl ParseAttribute for OuterFrom {
     ghost none = { λ rules set. refl };
 }
 
-impl ParseData for OuterFrom {
-    ghost use Rattle.std.specs.Prelude.{Some, None};
-    ghost use Rattle.options_core.specs.Receivers.{outer_checks, outer_takes};
-
-    ghost of_field = { λ rules set field. Some (outer_takes rules set field) };
-
-    ghost of_variant = { λ rules set variant. None };
-
-    ghost checks = { outer_checks };
-
-    fn own_field(
-        &mut self,
-        alloc: Global,
-        field: &Field,
-        table: &RenameTable,
-    ) -> Result<Option<()>> {
-        self.container.own_field(alloc, field, table)
+/// What the body is, in faults.
+fn body_kind(body: &Data<InputVariant, InputField>) -> &'static str
+    ensures { result.now ≡ spec.body_kind body.now }
+{
+    match body {
+        Data::Enum(_) => "enum",
+        Data::Struct(_) => "struct",
     }
+}
 
-    fn own_variant(
-        &mut self,
-        _alloc: Global,
-        _variant: &Variant,
-        _table: &RenameTable,
-    ) -> Result<Option<()>> {
-        Ok(None)
+/// A field takes attributes where some are handed on.
+fn check_attrs(
+    alloc: Global,
+    kind: &str,
+    attrs: &Option<ForwardedField>,
+    filter: &Option<ForwardAttrsFilter>,
+    errors: &mut Accumulator,
+) -> Mem<()>
+    ensures { OnOk result (held errors.new ≡ held errors.old ++ spec.attrs_faults kind.now attrs.now filter.now) }
+{
+    let Some(attrs) = attrs else {
+        return Ok(());
+    };
+    if filter.is_some() {
+        return Ok(());
     }
+    let error = not_populated(alloc, kind, &attrs.ident)?;
+    errors.push(alloc, error)
+}
 
-    fn validate_body(&self, alloc: Global, errors: &mut Accumulator) -> Mem<()> {
-        validate(self, alloc, errors)
-    }
+#[tactic(auto, unfolding(crate::specs::Receivers::not_populated))]
+fn not_populated(alloc: Global, kind: &str, ident: &Ident) -> Mem<Error>
+    ensures { IfOk result (λ error. error ≡ One (spec.not_populated kind.now ident.now)) }
+{
+    let text = not_populated_text(alloc, kind)?;
+    Ok(Error::custom(alloc, text.as_str())?.with_span(ident))
+}
+
+fn not_populated_text(alloc: Global, kind: &str) -> Mem<Text>
+    ensures { IfOk result (λ text. text
+        ≡ codes "field will not be populated because `forward_attrs` is not set on the " ++ kind.now) }
+{
+    let mut text = Text::from_str(
+        alloc,
+        "field will not be populated because `forward_attrs` is not set on the ",
+    )?;
+    text.push_str(kind)?;
+    Ok(text)
 }
 
 /// What is read is not handed on.

@@ -1,17 +1,46 @@
-//! What is compiled from options: each borrows its parts from them.
+//! What is compiled from options of receivers of elements: it borrows its parts from them.
 
-ghost use Rattle.std.specs.Prelude.{◌≡◌, IfOk};
+ghost use Rattle.std.specs.Prelude.{IfOk};
 ghost use Rattle.options_core.specs.Views as spec;
 
+use crate::from_attributes::FromAttributesOptions;
 use crate::from_derive::FdiOptions;
-use crate::from_meta::FromMetaOptions;
-use base_core::{Mem, TryClone};
-use body_core::ast::Data;
-use codegen_core::{FromDeriveInputImpl, FromMetaImpl};
-use codegen_word::word_closure;
-use options_members::InputVariant;
-use options_rows::Callable;
+use crate::from_field::FromFieldOptions;
+use crate::from_type_param::FromTypeParamOptions;
+use crate::from_variant::FromVariantOptions;
+use crate::outer_from::OuterFrom;
+use base_core::Mem;
+use codegen_outer::{
+    ForwardAttrs, FromAttributesImpl, FromDeriveInputImpl, FromFieldImpl, FromTypeParamImpl,
+    FromVariantImpl,
+};
 use std::alloc::Global;
+
+impl OuterFrom {
+    /// Which attributes are handed on, and the field that takes them.
+    pub fn as_forward_attrs(&self) -> ForwardAttrs<'_>
+        ensures { spec.IsForwardAttrs result self.now }
+    {
+        ForwardAttrs {
+            filter: self.forward_attrs.as_ref(),
+            field: self.attrs.as_ref(),
+        }
+    }
+}
+
+impl FromAttributesOptions {
+    /// What is compiled from it.
+    pub fn as_impl(&self, alloc: Global) -> Mem<FromAttributesImpl<'_>>
+        ensures { IfOk result (λ it. spec.IsAttributesImpl it self.now) }
+    {
+        let base = self.base.container.as_trait_impl(alloc)?;
+        Ok(FromAttributesImpl {
+            base,
+            attr_names: &self.base.attr_names,
+            forward_attrs: self.base.as_forward_attrs(),
+        })
+    }
+}
 
 impl FdiOptions {
     /// What is compiled from it.
@@ -22,55 +51,68 @@ impl FdiOptions {
         Ok(FromDeriveInputImpl {
             base,
             attr_names: &self.base.attr_names,
+            forward_attrs: self.base.as_forward_attrs(),
+            ident: self.base.ident.as_ref(),
+            vis: self.vis.as_ref(),
+            generics: self.generics.as_ref(),
+            body: self.body.as_ref(),
+            from_ident: self.base.from_ident,
+            supports: self.supports.as_ref(),
+        })
+    }
+}
+
+impl FromFieldOptions {
+    /// What is compiled from it.
+    pub fn as_impl(&self, alloc: Global) -> Mem<FromFieldImpl<'_>>
+        ensures { IfOk result (λ it. spec.IsFieldImpl it self.now) }
+    {
+        let base = self.base.container.as_trait_impl(alloc)?;
+        Ok(FromFieldImpl {
+            base,
+            attr_names: &self.base.attr_names,
+            forward_attrs: self.base.as_forward_attrs(),
+            ident: self.base.ident.as_ref(),
+            vis: self.vis.as_ref(),
+            ty: self.ty.as_ref(),
             from_ident: self.base.from_ident,
         })
     }
 }
 
-impl FromMetaOptions {
+impl FromTypeParamOptions {
     /// What is compiled from it.
-    pub fn as_impl(&self, alloc: Global) -> Mem<FromMetaImpl<'_>>
-        ensures { IfOk result (λ it. spec.IsMetaImpl it self.now) }
+    pub fn as_impl(&self, alloc: Global) -> Mem<FromTypeParamImpl<'_>>
+        ensures { IfOk result (λ it. spec.IsTypeParamImpl it self.now) }
     {
-        let from_word = self.to_from_word(alloc)?;
-        let base = self.base.as_trait_impl(alloc)?;
-        Ok(FromMetaImpl {
+        let base = self.base.container.as_trait_impl(alloc)?;
+        Ok(FromTypeParamImpl {
             base,
-            from_word,
-            from_none: self.from_none.as_ref(),
-            from_expr: self.from_expr.as_ref(),
-            derive_syn_parse: self.derive_syn_parse.unwrap_or(false),
+            attr_names: &self.base.attr_names,
+            forward_attrs: self.base.as_forward_attrs(),
+            ident: self.base.ident.as_ref(),
+            bounds: self.bounds.as_ref(),
+            default: self.default.as_ref(),
+            from_ident: self.base.from_ident,
         })
-    }
-
-    /// What a word alone is read by: what `from_word` names, else the closure of the variant whose word it is.
-    fn to_from_word(&self, alloc: Global) -> Mem<Option<Callable>>
-        ensures { IfOk result (λ it. it ≡ spec.from_word_of self.now) }
-    {
-        match &self.from_word {
-            Some(callable) => Ok(Some(callable.try_clone(alloc)?)),
-            None => self.to_word(alloc),
-        }
-    }
-
-    /// The closure of the variant that a word alone stands for.
-    fn to_word(&self, alloc: Global) -> Mem<Option<Callable>>
-        ensures { IfOk result (λ it. it ≡ spec.body_word self.now.base.body) }
-    {
-        match &self.base.body {
-            Data::Struct(_) => Ok(None),
-            Data::Enum(variants) => word_among(alloc, variants.as_slice()),
-        }
     }
 }
 
-fn word_among(alloc: Global, variants: &[InputVariant]) -> Mem<Option<Callable>>
-    ensures { IfOk result (λ it. it ≡ spec.worded variants.now) }
-{
-    for variant in variants {
-        if variant.has_word() {
-            return Ok(Some(word_closure(alloc, &variant.ident)?));
-        }
+impl FromVariantOptions {
+    /// What is compiled from it.
+    pub fn as_impl(&self, alloc: Global) -> Mem<FromVariantImpl<'_>>
+        ensures { IfOk result (λ it. spec.IsVariantImpl it self.now) }
+    {
+        let base = self.base.container.as_trait_impl(alloc)?;
+        Ok(FromVariantImpl {
+            base,
+            attr_names: &self.base.attr_names,
+            forward_attrs: self.base.as_forward_attrs(),
+            ident: self.base.ident.as_ref(),
+            discriminant: self.discriminant.as_ref(),
+            fields: self.fields.as_ref(),
+            from_ident: self.base.from_ident,
+            supports: self.supports.as_ref(),
+        })
     }
-    Ok(None)
 }

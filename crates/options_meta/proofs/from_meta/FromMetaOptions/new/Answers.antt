@@ -1,9 +1,9 @@
 use Rattle.std.proofs.Common.{subst}
 use Rattle.error_fault.specs.Outcome.{Outcome}
 use Rattle.error_core.specs.Answers.{Answers}
-use Rattle.options_core.specs.declared.from_meta.FromMetaOptions.{FromMetaOptions}
-use Rattle.options_core.proofs.StageLemmas.{meta_staged-is}
-use Rattle.options_core.proofs.from_meta.FromMetaOptions.new.Goals as goal
+use Rattle.options_meta.specs.declared.from_meta.FromMetaOptions.{FromMetaOptions}
+use Rattle.options_meta.proofs.StageLemmas.{meta_staged-is}
+use Rattle.options_meta.proofs.from_meta.FromMetaOptions.new.Goals as goal
 
 pub returns : goal.returns
 returns c =

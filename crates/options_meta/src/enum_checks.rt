@@ -4,7 +4,7 @@ ghost use Rattle.std.specs.Prelude.{◌≡◌, ◌++◌, map, IfOk, OnOk};
 ghost use Rattle.std.specs.List.{list_any};
 ghost use Rattle.error_core.specs.ErrorView.{One, held};
 ghost use Rattle.options_members.specs.Body.{is_read_unit};
-ghost use Rattle.options_core.specs.Receivers as spec;
+ghost use Rattle.options_meta.specs.MetaChecks as spec;
 
 use crate::from_meta::FromMetaOptions;
 use base_core::{Items, Mem};
@@ -123,7 +123,7 @@ fn has_read_unit(variants: &[InputVariant]) -> bool
     variants.iter().any(|variant| variant.is_unit_variant() && !variant.is_skipped())
 }
 
-#[tactic(auto, unfolding(crate::specs::Receivers::beside_word))]
+#[tactic(auto, unfolding(crate::specs::MetaChecks::beside_word))]
 fn beside_word(alloc: Global, callable: &Callable) -> Mem<Error>
     ensures { IfOk result (λ error. error ≡ One (spec.beside_word callable.now)) }
 {
@@ -131,7 +131,7 @@ fn beside_word(alloc: Global, callable: &Callable) -> Mem<Error>
     Ok(Error::custom(alloc, text)?.with_span(callable.as_ref()))
 }
 
-#[tactic(auto, unfolding(crate::specs::Receivers::not_one_word))]
+#[tactic(auto, unfolding(crate::specs::MetaChecks::not_one_word))]
 fn not_one_word(alloc: Global, span: Span) -> Mem<Error>
     ensures { IfOk result (λ error. error ≡ One (spec.not_one_word span)) }
 {
@@ -139,7 +139,7 @@ fn not_one_word(alloc: Global, span: Span) -> Mem<Error>
     Ok(Error::custom(alloc, text)?.with_span_at(span))
 }
 
-#[tactic(auto, unfolding(crate::specs::Receivers::beside_unit))]
+#[tactic(auto, unfolding(crate::specs::MetaChecks::beside_unit))]
 fn beside_unit(alloc: Global, callable: &Callable) -> Mem<Error>
     ensures { IfOk result (λ error. error ≡ One (spec.beside_unit callable.now)) }
 {

@@ -8,9 +8,9 @@ ghost use Rattle.options_rows.specs.Does.{Does};
 ghost use Rattle.node_core.specs.Bodies.{is_union};
 ghost use Rattle.options_rows.specs.Rows.{one};
 ghost use Rattle.options_members.specs.Body as body;
-ghost use Rattle.options_core.specs.Receivers as checks;
-ghost use Rattle.options_core.specs.ContainerOptions.{meta_faults, meta_options};
-ghost use Rattle.options_core.specs.Stages as spec;
+ghost use Rattle.options_meta.specs.MetaChecks as checks;
+ghost use Rattle.options_meta.specs.MetaOptions.{meta_faults, meta_options};
+ghost use Rattle.options_meta.specs.Stages as spec;
 
 use crate::enum_checks::check_enum;
 use crate::names::MetaName;
@@ -117,7 +117,7 @@ impl FromMetaOptions {
 }
 
 impl Checks for FromMetaOptions {
-    ghost use Rattle.options_core.specs.Receivers.{meta_checks};
+    ghost use Rattle.options_meta.specs.MetaChecks.{meta_checks};
 
     ghost wrong = { meta_checks };
 
@@ -141,8 +141,8 @@ impl Drop for FromMetaOptions {
 
 impl ParseAttribute for FromMetaOptions {
     ghost use Rattle.std.specs.Prelude.{refl};
-    ghost use Rattle.options_core.specs.ContainerLaws.{of_meta-more};
-    ghost use Rattle.options_core.specs.ContainerOptions.{of_meta, of_meta_faults};
+    ghost use Rattle.options_meta.specs.MetaLaws.{of_meta-more};
+    ghost use Rattle.options_meta.specs.MetaOptions.{of_meta, of_meta_faults};
 
     ghost options = { of_meta };
 
@@ -158,8 +158,8 @@ impl ParseAttribute for FromMetaOptions {
 }
 
 impl ParseData for FromMetaOptions {
-    ghost use Rattle.options_core.specs.Receivers.{meta_checks};
-    ghost use Rattle.options_core.specs.Stages.{meta_own, meta_own_variant};
+    ghost use Rattle.options_meta.specs.MetaChecks.{meta_checks};
+    ghost use Rattle.options_meta.specs.Stages.{meta_own, meta_own_variant};
 
     ghost of_field = { meta_own };
 
@@ -191,7 +191,7 @@ impl ParseData for FromMetaOptions {
 }
 
 /// Whether a struct is read as its one field is: a tuple of one, or one with names that says so.
-fn is_delegated(fields: &Fields<InputField>, transparent: &Flag) -> bool
+pub fn is_delegated(fields: &Fields<InputField>, transparent: &Flag) -> bool
     ensures { result ≡ body.is_delegated fields.now.style (length fields.now.fields) transparent.now.0 }
 {
     match fields.style {
@@ -252,7 +252,7 @@ fn check_expr(
     Ok(())
 }
 
-#[tactic(auto, unfolding(crate::specs::Receivers::on_unit))]
+#[tactic(auto, unfolding(crate::specs::MetaChecks::on_unit))]
 fn on_unit(alloc: Global, callable: &Callable) -> Mem<Error>
     ensures { IfOk result (λ error. error ≡ One (checks.on_unit callable.now)) }
 {
@@ -261,7 +261,7 @@ fn on_unit(alloc: Global, callable: &Callable) -> Mem<Error>
     Ok(Error::custom(alloc, text)?.with_span(callable.as_ref()))
 }
 
-#[tactic(auto, unfolding(crate::specs::Receivers::on_transparent))]
+#[tactic(auto, unfolding(crate::specs::MetaChecks::on_transparent))]
 fn on_transparent(alloc: Global, word: &str, callable: &Callable) -> Mem<Error>
     ensures { IfOk result (λ error. error ≡ One (checks.on_transparent word.now callable.now)) }
 {

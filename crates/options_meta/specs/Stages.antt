@@ -1,5 +1,5 @@
 -- How each kind of options reads a declaration: its stages, its faults, and what it leaves.
-use Rattle.std.specs.Prelude.{List, [], ◌∷◌, ◌++◌, flat_map, Option, Some, None}
+use Rattle.std.specs.Prelude.{List, [], ◌++◌, flat_map, Option, Some, None}
 use Rattle.node_core.specs.declared.attr.Meta.{Meta}
 use Rattle.node_core.specs.declared.data.Field.{Field}
 use Rattle.node_core.specs.declared.data.Variant.{Variant}
@@ -9,20 +9,18 @@ use Rattle.node_core.specs.declared.derive.DeriveInput.{DeriveInput}
 use Rattle.error_fault.specs.Outcome.{Outcome, Value, bind, faults_of, value_of, settle}
 use Rattle.error_fault.specs.declared.fault.Fault.{Fault}
 use Rattle.options_rows.specs.Entries.{items, option_entries}
-use Rattle.options_rows.specs.Members.{body_fields, no_variant, read_body, variants_of, field_or, variant_or}
+use Rattle.options_rows.specs.Members.{body_fields, read_body, variants_of, field_or, variant_or}
 use Rattle.node_core.specs.Bodies.{field_list, is_union}
 use Rattle.options_rows.specs.Rows.{else_faults, list_of}
 use Rattle.options_rows.specs.Values.{Rules}
 use Rattle.options_rows.specs.Walk.{all_faults, read_options}
 use Rattle.options_members.specs.declared.container.Core.{Core}
-use Rattle.options_core.specs.declared.from_derive.FdiOptions.{FdiOptions}
-use Rattle.options_core.specs.declared.from_meta.FromMetaOptions.{FromMetaOptions}
+use Rattle.options_meta.specs.declared.from_meta.FromMetaOptions.{FromMetaOptions}
 use Rattle.options_members.specs.declared.input_field.InputField.{InputField}
 use Rattle.options_members.specs.declared.input_variant.InputVariant.{InputVariant}
-use Rattle.options_core.specs.declared.outer_from.OuterFrom.{OuterFrom}
-use Rattle.options_core.specs.ContainerOptions.{of_fdi, of_fdi_faults, of_meta, of_meta_faults}
+use Rattle.options_meta.specs.MetaOptions.{of_meta, of_meta_faults}
 use Rattle.options_members.specs.Body.{core_with, core_with_variants, field_meaning, union_faults, variant_meaning}
-use Rattle.options_core.specs.Receivers.{fdi_checks, fdi_start, fdi_takes, meta_checks, meta_start, meta_takes, meta_takes_variant}
+use Rattle.options_meta.specs.MetaChecks.{meta_checks, meta_start, meta_takes, meta_takes_variant}
 
 -- the fields without fault under this container, in order
 abbrev pub good_fields : Rules → Core → List Field → List InputField
@@ -46,11 +44,9 @@ core_with_body rules core (body.Struct it) = core_with core (good_fields rules c
 core_with_body rules core (body.Enum it) = core_with_variants core (good_variants rules core it.variants)
 core_with_body rules core (body.Union it) = core
 
-abbrev pub outer_with : OuterFrom → List InputField → OuterFrom
-outer_with set fields = record set { container = core_with set.container fields }
-
 -- a kind of options: where they begin, what stands behind items, what is wrong with an item behind what stands, what is
--- wrong with a field or a variant under the container's options, what stands behind the body, and what is checked of it
+-- wrong with a field or a variant under the container's options, what stands behind the body, what is checked of it, and
+-- what is checked last
 pub record Reader (S : Type 0) : Type 0 where
   pub start : S
   pub options : S → List Meta → S
@@ -59,17 +55,7 @@ pub record Reader (S : Type 0) : Type 0 where
   pub variant_faults : S → Variant → List Fault
   pub with_body : S → «Data» → S
   pub checks : S → List Fault
-
-abbrev pub fdi_reader : Rules → DeriveInput → Reader FdiOptions
-fdi_reader rules input = record {
-  start = fdi_start rules input;
-  options = of_fdi rules;
-  item_faults = of_fdi_faults rules;
-  field_faults = λ set. field_faults rules set.base.container;
-  variant_faults = λ set variant. no_variant variant ∷ [];
-  with_body = λ set it. record set { base = outer_with set.base (good_fields rules set.base.container (body_fields it)) };
-  checks = fdi_checks;
-}
+  pub last : S → List Fault
 
 abbrev pub meta_reader : Rules → DeriveInput → Reader FromMetaOptions
 meta_reader rules input = record {
@@ -80,6 +66,7 @@ meta_reader rules input = record {
   variant_faults = λ set. variant_faults rules set.base;
   with_body = λ set it. record set { base = core_with_body rules set.base it };
   checks = meta_checks;
+  last = λ set. [];
 }
 
 module _ {S : Type 0} (reader : Reader S) (input : DeriveInput) where
@@ -102,7 +89,8 @@ module _ {S : Type 0} (reader : Reader S) (input : DeriveInput) where
   abbrev pub option_faults : List Fault
   option_faults =
       else_faults (union_faults (is_union input.body))
-      (else_faults (all_faults reader.options reader.item_faults reader.start [] (option_entries input.attrs)) body_faults)
+      (else_faults (all_faults reader.options reader.item_faults reader.start [] (option_entries input.attrs))
+      (else_faults body_faults (reader.last options_of)))
 
   -- what the options of a declaration are: all that is wrong, else the options
   abbrev pub new_outcome : Outcome S
@@ -115,21 +103,21 @@ staged reader takes_field takes_variant input =
     (λ start. bind (read_options reader.options reader.item_faults start (option_entries input.attrs))
     (λ set. read_body takes_field takes_variant reader.checks set input.body))
 
--- the members that each kind of options takes; variants are taken under `FromMeta` alone
-abbrev pub fdi_own : Rules → FdiOptions → Field → Option (Outcome FdiOptions)
-fdi_own rules set field = Some (fdi_takes rules set field)
+-- the same with what is checked last
+abbrev pub staged_whole : {S : Type 0} → Reader S → (S → Field → Outcome S) → (S → Variant → Outcome S) → DeriveInput → Outcome S
+staged_whole reader takes_field takes_variant input =
+    bind (staged reader takes_field takes_variant input) (λ whole. settle (reader.last whole) (Value whole))
 
+-- the members that `FromMeta` takes
 abbrev pub meta_own : Rules → FromMetaOptions → Field → Option (Outcome FromMetaOptions)
 meta_own rules set field = Some (meta_takes rules set field)
 
 abbrev pub meta_own_variant : Rules → FromMetaOptions → Variant → Option (Outcome FromMetaOptions)
 meta_own_variant rules set variant = Some (meta_takes_variant rules set variant)
 
+-- no kind but that takes variants
 abbrev pub no_variants : {S : Type 0} → Rules → S → Variant → Option (Outcome S)
 no_variants rules set variant = None
-
-abbrev pub fdi_staged : Rules → DeriveInput → Outcome FdiOptions
-fdi_staged rules input = staged (fdi_reader rules input) (field_or fdi_own rules) (variant_or no_variants rules) input
 
 abbrev pub meta_staged : Rules → DeriveInput → Outcome FromMetaOptions
 meta_staged rules input = staged (meta_reader rules input) (field_or meta_own rules) (variant_or meta_own_variant rules) input
