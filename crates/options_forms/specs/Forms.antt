@@ -1,10 +1,11 @@
--- The forms that options show and that have no program: what attributes name, by option; what stands at the identifier; and
--- then members in order.
+-- The forms that options show and that have no program: what attributes name, by option; what stands at the identifier; then
+-- members in order; and then the fields that take a part of an element.
 use Rattle.std.specs.Prelude.{ℕ, Bool, true, false, ◌==◌, ◌&&◌, ◌||◌, not, List, [], ◌++◌, length, flat_map, Option, Some, None, is_some}
 use Rattle.node_core.specs.declared.style.Style.{Style}
 use Rattle.node_core.specs.declared.style.Style.TheVariants as style
 use Rattle.body_core.specs.declared.ast.data.«Data».TheVariants as body
 use Rattle.body_core.specs.declared.ast.fields.Fields.{Fields}
+use Rattle.tok_types.specs.declared.ident.Ident.{Ident}
 use Rattle.codegen_program.specs.declared.arm.PostfixTransform.{PostfixTransform}
 use Rattle.codegen_program.specs.declared.callable.Callable.{Callable}
 use Rattle.codegen_core.specs.Forms.{form_if, generated_call, generated_path, is_generic}
@@ -12,8 +13,14 @@ use Rattle.codegen_core.specs.declared.form.Form.TheVariants as form
 use Rattle.options_core.specs.DefaultExpression.{DefaultExpression}
 use Rattle.options_core.specs.DefaultExpression.TheVariants as defaults
 use Rattle.options_core.specs.Core.{Core}
+use Rattle.options_core.specs.ForwardedField.{ForwardedField}
+use Rattle.options_core.specs.FromMetaOptions.{FromMetaOptions}
+use Rattle.options_core.specs.declared.from_attributes.FromAttributesOptions.{FromAttributesOptions}
 use Rattle.options_core.specs.declared.from_derive.FdiOptions.{FdiOptions}
-use Rattle.options_core.specs.declared.from_meta.FromMetaOptions.{FromMetaOptions}
+use Rattle.options_core.specs.declared.outer_from.OuterFrom.{OuterFrom}
+use Rattle.options_core.specs.declared.from_field.FromFieldOptions.{FromFieldOptions}
+use Rattle.options_core.specs.declared.from_type_param.FromTypeParamOptions.{FromTypeParamOptions}
+use Rattle.options_core.specs.declared.from_variant.FromVariantOptions.{FromVariantOptions}
 use Rattle.options_core.specs.InputField.{InputField}
 use Rattle.options_core.specs.InputVariant.{InputVariant}
 use Rattle.options_core.specs.Body.{Body, is_delegated, is_skipped_variant, is_unit}
@@ -124,6 +131,81 @@ abbrev pub member_forms : Body → List Unsupported
 member_forms (body.Struct fields) = flat_map field_forms fields.fields
 member_forms (body.Enum variants) = []
 
+-- ---- declarations that are read from elements: under some derives a struct is read as its one field is, under some never
+
+-- a tuple that is not read as its one field is
+abbrev pub is_own_tuple : Bool → Style → ℕ → Bool
+is_own_tuple has_whole style.Tuple count = not (has_whole && count == 1)
+is_own_tuple has_whole style.Struct count = false
+is_own_tuple has_whole style.Unit count = false
+
+-- a body that has no program
+abbrev pub shape_forms : Bool → Core → Body → List Unsupported
+shape_forms has_whole core (body.Enum variants) = form_if (length variants == 0) form.EmptyEnum core.ident
+shape_forms has_whole core (body.Struct it) = form_if (is_own_tuple has_whole it.style (length it.fields)) form.Tuple core.ident
+
+-- what the options of each of these derives show, but for the fields that take a part of the element
+abbrev pub outer_forms : Bool → Core → List Unsupported
+outer_forms has_whole core = container_forms core ++ shape_forms has_whole core core.body ++ generic_forms core ++ member_forms core.body
+
+-- a field that takes a part of the element: the path that converts it
+abbrev pub part_forms : Option ForwardedField → List Unsupported
+part_forms None = []
+part_forms (Some part) = call_forms part.with
+
+-- the field, where a struct is read as its one field is
+abbrev pub beside_forms : Bool → Option Ident → List Unsupported
+beside_forms is_whole None = []
+beside_forms is_whole (Some ident) = form_if is_whole form.MagicBesideTransparent ident
+
+-- both, of a field whose options are read
+abbrev pub taken_forms : Bool → Option ForwardedField → List Unsupported
+taken_forms is_whole None = []
+taken_forms is_whole (Some part) = call_forms part.with ++ form_if is_whole form.MagicBesideTransparent part.ident
+
+-- a field that takes the identifier of an element, where attributes alone are read
+abbrev pub ident_forms : Option ForwardedField → List Unsupported
+ident_forms None = []
+ident_forms (Some part) = call_forms part.with ++ form_if true form.IdentUnderAttributes part.ident
+
+-- a struct is read as its one field is
+abbrev pub is_read_whole : Core → Body → Bool
+is_read_whole core (body.Struct it) = is_delegated it.style (length it.fields) core.transparent.0
+is_read_whole core (body.Enum variants) = false
+
+abbrev pub is_core_whole : Core → Bool
+is_core_whole core = is_read_whole core core.body
+
+-- under `FromAttributes`
+abbrev pub attributes_forms : FromAttributesOptions → List Unsupported
+attributes_forms it =
+    outer_forms true it.base.container
+    ++ ident_forms it.base.ident
+    ++ taken_forms (is_core_whole it.base.container) it.base.attrs
+
+-- what the fields show that take a part of any element
+abbrev pub shared_forms : OuterFrom → List Unsupported
+shared_forms base =
+    taken_forms (is_core_whole base.container) base.ident ++ taken_forms (is_core_whole base.container) base.attrs
+
+-- what the fields show that take a part of an item alone
+abbrev pub own_forms : Bool → FdiOptions → List Unsupported
+own_forms whole it = beside_forms whole it.vis ++ taken_forms whole it.generics ++ taken_forms whole it.body
+
 -- under `FromDeriveInput`
 abbrev pub input_forms : FdiOptions → List Unsupported
-input_forms it = container_forms it.base.container ++ generic_forms it.base.container ++ member_forms it.base.container.body
+input_forms it =
+    outer_forms true it.base.container ++ shared_forms it.base ++ own_forms (is_core_whole it.base.container) it
+
+-- under `FromField`
+abbrev pub from_field_forms : FromFieldOptions → List Unsupported
+from_field_forms it = outer_forms false it.base.container ++ part_forms it.base.ident ++ part_forms it.base.attrs
+
+-- under `FromTypeParam`
+abbrev pub type_param_forms : FromTypeParamOptions → List Unsupported
+type_param_forms it = outer_forms false it.base.container ++ part_forms it.base.ident ++ part_forms it.base.attrs
+
+-- under `FromVariant`
+abbrev pub from_variant_forms : FromVariantOptions → List Unsupported
+from_variant_forms it =
+    outer_forms false it.base.container ++ part_forms it.base.ident ++ part_forms it.base.attrs ++ part_forms it.fields

@@ -1,4 +1,4 @@
-//! Forms of declarations.
+//! Forms of declarations that are read from items, and what all declarations share.
 
 ghost use Rattle.std.specs.Prelude.{◌≡◌, ◌++◌, length, OnOk};
 ghost use Rattle.options_core.specs.Body as body;
@@ -11,7 +11,7 @@ use base_core::{Items, Mem};
 use body_core::ast::{Data, Fields};
 use codegen_core::{Form, Unsupported, is_generic, push_form_if};
 use node_core::Style;
-use options_core::{Core, FdiOptions, FromMetaOptions, InputField, InputVariant};
+use options_core::{Core, FromMetaOptions, InputField, InputVariant};
 
 impl Forms for FromMetaOptions {
     ghost use Rattle.options_forms.specs.Forms.{meta_forms};
@@ -27,27 +27,16 @@ impl Forms for FromMetaOptions {
     }
 }
 
-impl Forms for FdiOptions {
-    ghost use Rattle.options_forms.specs.Forms.{input_forms};
-
-    ghost forms = { input_forms };
-
-    fn push_forms(&self, places: &mut Items<Unsupported>) -> Mem<()> {
-        push_container(&self.base.container, places)?;
-        push_generic(&self.base.container, places)?;
-        push_members(&self.base.container.body, places)
-    }
-}
-
 /// Adds the paths that the options of every container name.
-fn push_container(core: &Core, places: &mut Items<Unsupported>) -> Mem<()>
+pub(crate) fn push_container(core: &Core, places: &mut Items<Unsupported>) -> Mem<()>
     ensures { OnOk result (places.new ≡ places.old ++ spec.container_forms core.now) }
 {
     push_default(&core.default, places)?;
     push_post(&core.post_transform, places)
 }
 
-fn push_generic(core: &Core, places: &mut Items<Unsupported>) -> Mem<()>
+/// Adds the identifier, where there are parameters or a `where` clause.
+pub(crate) fn push_generic(core: &Core, places: &mut Items<Unsupported>) -> Mem<()>
     ensures { OnOk result (places.new ≡ places.old ++ spec.generic_forms core.now) }
 {
     push_form_if(
@@ -59,7 +48,10 @@ fn push_generic(core: &Core, places: &mut Items<Unsupported>) -> Mem<()>
 }
 
 /// Adds the forms of the members of a struct.
-fn push_members(it: &Data<InputVariant, InputField>, places: &mut Items<Unsupported>) -> Mem<()>
+pub(crate) fn push_members(
+    it: &Data<InputVariant, InputField>,
+    places: &mut Items<Unsupported>,
+) -> Mem<()>
     ensures { OnOk result (places.new ≡ places.old ++ spec.member_forms it.now) }
 {
     match it {
@@ -86,7 +78,7 @@ fn push_struct(
 {
     let ident = &options.base.ident;
     let unit = is_unit(fields.style);
-    let whole = unit || is_delegated(options, fields);
+    let whole = unit || is_delegated(&options.base, fields);
     push_form_if(
         is_bare_tuple(fields.style, fields.len()),
         Form::Tuple,
@@ -129,12 +121,12 @@ fn push_enum(
 }
 
 /// Whether a struct is read as its one field is.
-fn is_delegated(options: &FromMetaOptions, fields: &Fields<InputField>) -> bool
-    ensures { result ≡ body.is_delegated fields.now.style (length fields.now.fields) options.now.base.transparent.0 }
+pub(crate) fn is_delegated(core: &Core, fields: &Fields<InputField>) -> bool
+    ensures { result ≡ body.is_delegated fields.now.style (length fields.now.fields) core.now.transparent.0 }
 {
     match fields.style {
         Style::Tuple => fields.len() == 1,
-        Style::Struct => options.base.transparent.is_present(),
+        Style::Struct => core.transparent.is_present(),
         Style::Unit => false,
     }
 }
