@@ -1,4 +1,5 @@
 -- What statements ask that read variants, or that a callable answers.
+use mathlib.Core.Former.{this}
 use Rattle.std.proofs.Common.{◌≡◌, ◌∙◌, List, [], ◌∷◌, ◌++◌, map, refl, ap, ap₂, sym}
 use Rattle.base_core.specs.declared.text.Text.{Text}
 use Rattle.tok_types.specs.declared.ident.Ident.{Ident}
@@ -6,16 +7,16 @@ use Rattle.codegen_program.specs.declared.callable.Callable.{Callable}
 use Rattle.codegen_program.specs.declared.program.FuncName.{FuncName}
 use Rattle.codegen_program.specs.declared.stmt.Stmt.{Stmt, fold-roll-Stmt}
 use Rattle.codegen_program.specs.declared.stmt.Stmt.TheOpen.{Stmt-F}
-use Rattle.codegen_program.specs.declared.stmt.Stmt.TheShapes.{former-Stmt-Variants-0-at-7}
 use Rattle.codegen_program.specs.declared.stmt.Stmt.TheVariants as stmt
 use Rattle.codegen_program.specs.declared.variant.VariantArm.{VariantArm}
 use Rattle.codegen_program.specs.declared.variant.VariantForm.{VariantForm}
 use Rattle.codegen_program.specs.declared.variant.VariantForm.TheVariants as form
+use Rattle.codegen_program.specs.formers.variant_arms.VariantArms.{arm_former}
 use Rattle.machine_forms.specs.Asks.{Ask, Called, arm_asks, asks_in, asks_of_arm, asks_of_arms, joined, stmt_asks}
 
 -- how the fold goes into an arm
 abbrev folded : VariantArm Stmt → VariantArm (List Ask)
-folded = (former-Stmt-Variants-0-at-7).map Stmt (List Ask) asks_in
+folded = (arm_former this).map Stmt (List Ask) asks_in
 
 folded_asks : (name : Text) (ident : Ident) (it : VariantForm Stmt)
     → arm_asks (folded (record { name = name; ident = ident; form = it })) ≡ asks_of_arm (record { name = name; ident = ident; form = it })

@@ -4,6 +4,7 @@ pub mod Declared
 pub mod Errors
 pub mod Faulty
 pub mod Forms
+pub mod Found
 pub mod Held
 pub mod Listless
 pub mod Metas

@@ -18,7 +18,7 @@ use crate::receiver::Receiver;
 use crate::slot::Slot;
 use crate::state::State;
 use base_core::{Items, Mem, Text};
-use codegen_program::{Alternatives, Forward, Stmt, VariantArm};
+use codegen_program::{Alternatives, Forward, Stmt, VariantArms};
 use machine_read::{Asked, Call, Declared, Host, NestedMeta, Scope, Setting};
 use meta_entries::{attribute_items, is_named};
 use node_core::{Attribute, Meta};
@@ -129,11 +129,9 @@ impl<'p, H: Host, D: Declared> Run<'p, H, D> {
             Stmt::Delegate { name, member, ty } => self.delegate(asked, name, member, ty, progress),
             Stmt::Variants { arms, names } => {
                 let items = asked.items();
-                self.variants(items, arms.as_slice(), names, nesting, state, progress)
+                self.variants(items, arms, names, nesting, state, progress)
             }
-            Stmt::UnitNames { arms, names } => {
-                self.unit_names(asked, arms.as_slice(), names, progress)
-            }
+            Stmt::UnitNames { arms, names } => self.unit_names(asked, arms, names, progress),
             Stmt::Call { callable, at } => self.call(asked, callable, *at, progress),
             // No unit has them yet.
             Stmt::DeclareForward { .. } | Stmt::ForwardDone { .. } | Stmt::ReadGenerics { .. } =>
@@ -231,7 +229,7 @@ impl<'p, H: Host, D: Declared> Run<'p, H, D> {
     fn variants(
         &self,
         items: &[NestedMeta],
-        arms: &'p [VariantArm<Stmt>],
+        arms: &'p VariantArms<Stmt>,
         names: &Alternatives,
         nesting: usize,
         state: &mut State<'p>,

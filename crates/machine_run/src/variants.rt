@@ -1,19 +1,24 @@
 //! Variants of an enum: which an item is, and which a text is.
 
-ghost use Rattle.std.specs.Prelude.{◌≡◌, List, IfOk};
+ghost use Rattle.std.specs.Prelude.{◌≡◌, List, [], IfOk};
+ghost use Rattle.std.specs.List.{find};
+ghost use Rattle.std.specs.Option.{option_copied};
+ghost use Rattle.std.specs.Str.{bytes_eq};
 ghost use Rattle.base_core.specs.declared.text.Text.{Text};
 ghost use Rattle.error_core.specs.Answers.{Answers, Fails, refusal};
 ghost use Rattle.error_core.specs.ErrorView.{One};
-ghost use Rattle.error_fault.specs.Fault.{plain};
+ghost use Rattle.error_fault.specs.Fault.{at_span, plain};
 ghost use Rattle.error_fault.specs.Kind.{set_of};
 ghost use Rattle.error_fault.specs.Outcome as outcomes;
 ghost use Rattle.error_fault.specs.Outcome.{Outcome, on_value};
-ghost use Rattle.error_fault.specs.declared.kind.FaultKind.TheVariants.{UnknownValue};
+ghost use Rattle.error_fault.specs.declared.kind.FaultKind.TheVariants.{UnknownField, UnknownValue};
 ghost use Rattle.machine_read.specs.Asked.{asked_of, text_asked};
 ghost use Rattle.machine_read.specs.Convert.{cells};
 ghost use Rattle.machine_read.specs.Dispatch.{from_meta};
 ghost use Rattle.machine_read.specs.Names.{meta_name};
 ghost use Rattle.machine_read.specs.NestedMeta.{NestedMeta as Nested};
+ghost use Rattle.machine_read.specs.NestedMeta.TheVariants as nested;
+ghost use Rattle.machine_read.specs.Nodes.{nested_span};
 ghost use Rattle.machine_read.specs.Progress.{Built};
 ghost use Rattle.machine_read.specs.State.{State};
 ghost use Rattle.machine_run.specs.Chosen.{Chooses, Inside, chosen_by, chosen_of};
@@ -27,7 +32,10 @@ use crate::members::{bare, wrapped};
 use crate::progress::Progress;
 use crate::run::Run;
 use base_core::{Items, Mem, Text, TryClone};
-use codegen_program::{Alternatives, Stmt, UnitArm, UnitForm, VariantArm, VariantForm};
+use base_index::Tally;
+use codegen_program::{
+    Alternatives, Stmt, UnitArm, UnitArms, UnitForm, VariantArm, VariantArms, VariantForm,
+};
 use error_core::{Error, Fail, Result};
 use error_fault::{Alts, Fault, FaultKind};
 use machine_read::{Asked, Call, Declared, Host, NestedMeta, items_of};
@@ -64,7 +72,7 @@ impl<'p, H: Host, D: Declared> Run<'p, H, D> {
     pub(crate) fn chosen(
         &self,
         items: &[NestedMeta],
-        arms: &'p [VariantArm<Stmt>],
+        arms: &'p VariantArms<Stmt>,
         names: &Alternatives,
     ) -> Mem<Chosen<'p>>
         requires { D.reads_within self.now.scope.declared.now self.now.room }
@@ -82,7 +90,7 @@ impl<'p, H: Host, D: Declared> Run<'p, H, D> {
     fn one_item(
         &self,
         item: &NestedMeta,
-        arms: &'p [VariantArm<Stmt>],
+        arms: &'p VariantArms<Stmt>,
         names: &Alternatives,
     ) -> Mem<Chosen<'p>>
         requires { D.reads_within self.now.scope.declared.now self.now.room }
@@ -100,7 +108,7 @@ impl<'p, H: Host, D: Declared> Run<'p, H, D> {
     fn by_variant(
         &self,
         item: &Meta,
-        arms: &'p [VariantArm<Stmt>],
+        arms: &'p VariantArms<Stmt>,
         names: &Alternatives,
     ) -> Mem<Chosen<'p>>
         requires { D.reads_within self.now.scope.declared.now self.now.room }
@@ -109,13 +117,10 @@ impl<'p, H: Host, D: Declared> Run<'p, H, D> {
     {
         let alloc = self.scope.alloc;
         let name = path_to_string(alloc, item.path())?;
-        for arm in arms {
-            if arm.name == name {
-                return self.by_form(arm, item);
-            }
+        match find_variant(arms, name.as_str()) {
+            Some(arm) => self.by_form(arm, item),
+            None => unknown_name(alloc, &name, names, item),
         }
-        let fault = Fault::unknown_field_among(alloc, name.as_str(), names.set(), item.spanned())?;
-        Ok(refused(Error::from_fault(alloc, fault)?))
     }
 
     /// A variant by its form: a word, a list, or what the type of its one member reads.
@@ -172,7 +177,7 @@ impl<'p, H: Host, D: Declared> Run<'p, H, D> {
     pub(crate) fn unit_names(
         &self,
         asked: Asked<'_>,
-        arms: &[UnitArm],
+        arms: &UnitArms,
         names: &Alternatives,
         progress: Progress,
     ) -> Mem<Progress>
@@ -187,18 +192,15 @@ impl<'p, H: Host, D: Declared> Run<'p, H, D> {
     }
 
     /// The first variant of the name.
-    fn variant_named(&self, text: &str, arms: &[UnitArm], names: &Alternatives) -> Result<Value>
+    fn variant_named(&self, text: &str, arms: &UnitArms, names: &Alternatives) -> Result<Value>
         requires { D.reads_within self.now.scope.declared.now self.now.room }
         ensures { Answers (λ it. it) result (of_enum H.says D.earlier self.now
             (λ setting earlier enum. spec.unit_names setting earlier enum names.now arms.now text.now)) }
     {
-        for arm in arms {
-            if arm.name.is(text) {
-                return self.by_unit_form(arm);
-            }
+        match find_unit(arms, text) {
+            Some(arm) => self.by_unit_form(arm),
+            None => Err(Fail::Faults(unknown_value(self.scope.alloc, text, names)?)),
         }
-        let alloc = self.scope.alloc;
-        Err(Fail::Faults(unknown_value(alloc, text, names)?))
     }
 
     /// A variant whose name stands alone.
@@ -222,6 +224,24 @@ impl<'p, H: Host, D: Declared> Run<'p, H, D> {
     }
 }
 
+/// The first variant of the name.
+fn find_variant<'a>(arms: &'a VariantArms<Stmt>, name: &str) -> Option<&'a VariantArm<Stmt>>
+    ensures { option_copied result ≡ find (λ arm. bytes_eq arm.name name.now) arms.now }
+{
+    let mut tally = Tally::new();
+    let place = arms.find(name, &mut tally)?;
+    arms.as_slice().get(place)
+}
+
+/// The first variant of the name, of those whose names are read as texts.
+fn find_unit<'a>(arms: &'a UnitArms, name: &str) -> Option<&'a UnitArm>
+    ensures { option_copied result ≡ find (λ arm. bytes_eq arm.name name.now) arms.now }
+{
+    let mut tally = Tally::new();
+    let place = arms.find(name, &mut tally)?;
+    arms.as_slice().get(place)
+}
+
 /// The text of a string; nothing else has one.
 fn text_of(asked: Asked<'_>) -> &str
     ensures { result.now ≡ text_asked (asked_of asked.entry) }
@@ -236,6 +256,19 @@ fn refused<'p>(error: Error) -> Chosen<'p>
     ensures { (inside : Inside) (state : State) → chosen_by inside state result ≡ Built (refusal error) }
 {
     Chosen::Over(Progress::Built(Err(error)))
+}
+
+/// A name that no variant has.
+fn unknown_name<'p>(
+    alloc: Global,
+    name: &Text,
+    names: &Alternatives,
+    item: &Meta,
+) -> Mem<Chosen<'p>>
+    ensures { Chooses (λ inside. Built (outcomes.Faults (at_span (UnknownField name.now (set_of names.now)) (nested_span (nested.Meta item.now))) [])) result }
+{
+    let fault = Fault::unknown_field_among(alloc, name.as_str(), names.set(), item.spanned())?;
+    Ok(refused(Error::from_fault(alloc, fault)?))
 }
 
 /// Something of another format than is read.

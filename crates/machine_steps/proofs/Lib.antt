@@ -1,3 +1,4 @@
 pub mod Building
 pub mod Slots
 pub mod Statements
+mod Words

@@ -17,6 +17,7 @@ pub mod Parts
 pub mod Building
 pub mod Variants
 pub mod Calls
+pub mod Words
 pub mod Statements
 pub mod Machine
 pub use Rattle.machine_cells.specs.Defaults

@@ -1,12 +1,12 @@
 //! The closures that stand for words: which variant a callable is the closure of.
 
-ghost use Rattle.std.specs.Prelude.{◌≡◌, ◌&&◌, ◌∷◌, ◌++◌, [], IfOk, OnOk, codes};
+ghost use Rattle.std.specs.Prelude.{◌≡◌, ◌∷◌, ◌++◌, [], IfOk, OnOk, codes};
 ghost use Rattle.std.specs.Option.{option_copied};
 ghost use Rattle.machine_steps.specs.Calls as spec;
+ghost use Rattle.machine_steps.specs.Words as words;
 ghost use Rattle.print_core.specs.Marks.{ident, mark, word};
 ghost use Rattle.print_core.specs.Nodes.{expr_tokens};
 ghost use Rattle.tok_types.specs.Stream.{stream_of};
-ghost use Rattle.tok_types.specs.contracts.tree.TokenStreamPartialEq.TheImpl as stream_eq;
 ghost use Rattle.tok_types.specs.declared.span.Span.TheVariants.{CallSite};
 
 use base_core::{Items, Mem, Text, TryClone};
@@ -16,7 +16,8 @@ use print_core::{ToTokens, push_group};
 use std::alloc::Global;
 use tok_types::{Delimiter, Ident, Punct, Span, TokenStream, TokenTree};
 
-/// The variant without members that the callable is the closure of.
+/// The variant without members that the callable is the closure of. One closure is made, whatever the count of variants:
+/// that of the word with which the callable ends.
 pub fn word_variant<'v>(
     alloc: Global,
     callable: &Callable,
@@ -25,10 +26,12 @@ pub fn word_variant<'v>(
     ensures { IfOk result (λ it. option_copied it ≡ spec.word_variant callable.now variants.now) }
 {
     let written = tokens_of(alloc, callable)?;
-    for variant in variants {
-        if is_word_of(alloc, &written, variant)? {
-            return Ok(Some(&variant.ident));
-        }
+    let Some(word) = last_word(&written) else {
+        return Ok(None);
+    };
+    let closure = word_closure(alloc, word)?;
+    if written == closure {
+        return Ok(variant_of(word, variants));
     }
     Ok(None)
 }
@@ -41,16 +44,37 @@ fn tokens_of(alloc: Global, callable: &Callable) -> Mem<TokenStream>
     Ok(TokenStream { trees })
 }
 
-/// Whether the tokens are the closure of the variant, which has no members.
-fn is_word_of(alloc: Global, written: &TokenStream, variant: &Variant) -> Mem<bool>
-    ensures { IfOk result (λ it. it ≡ spec.are_none variant.now.fields && stream_eq.ghosts.eq written.now (stream_of (spec.word_closure variant.now.ident))) }
+/// The identifier at the end of the group at the end of the tokens.
+fn last_word(stream: &TokenStream) -> Option<&Ident>
+    ensures { option_copied result ≡ words.last_word stream.now }
+{
+    match stream.trees.last()? {
+        TokenTree::Group(group) => match group.get().stream.trees.last()? {
+            TokenTree::Ident(word) => Some(word),
+            _ => None,
+        },
+        _ => None,
+    }
+}
+
+/// The first variant of the word that has no members.
+fn variant_of<'v>(word: &Ident, variants: &'v [Variant]) -> Option<&'v Ident>
+    ensures { option_copied result ≡ words.variant_of word.now variants.now }
+{
+    for variant in variants {
+        if is_bare(variant) && variant.ident == *word {
+            return Some(&variant.ident);
+        }
+    }
+    None
+}
+
+fn is_bare(variant: &Variant) -> bool
+    ensures { result ≡ spec.are_none variant.now.fields }
 {
     match &variant.fields {
-        Fields::Named(_) | Fields::Unnamed(_) => Ok(false),
-        Fields::Unit => {
-            let closure = word_closure(alloc, &variant.ident)?;
-            Ok(*written == closure)
-        }
+        Fields::Named(_) | Fields::Unnamed(_) => false,
+        Fields::Unit => true,
     }
 }
 

@@ -3,15 +3,13 @@ use Rattle.std.specs.declared.alloc.AllocError.{AllocError}
 use Rattle.base_core.specs.declared.text.Text.{Text}
 use Rattle.node_core.specs.declared.attr.Attribute.{Attribute}
 use Rattle.codegen_program.specs.declared.stmt.Stmt.{Stmt}
-use Rattle.codegen_program.specs.declared.variant.UnitArm.{UnitArm}
-use Rattle.codegen_program.specs.declared.variant.VariantArm.{VariantArm}
 use Rattle.machine_read.proofs.Statements as steps
 use Rattle.machine_read.specs.NestedMeta.{NestedMeta}
-use Rattle.machine_read.specs.Asked.{asked_of, attributes_asked, element_asked, items_asked, text_asked}
+use Rattle.machine_read.specs.Asked.{asked_of, attributes_asked, element_asked, items_asked}
 use Rattle.machine_read.specs.Attributes.{on_attribute}
 use Rattle.machine_read.specs.Building.{build_step}
 use Rattle.machine_steps.specs.Parts.{body_step}
-use Rattle.machine_read.specs.Progress.{Aside, Progress, Built, Going, going, no_aside, unless_faults}
+use Rattle.machine_read.specs.Progress.{Aside, Progress, Going, going, no_aside, unless_faults}
 use Rattle.machine_read.specs.Reads.{metas}
 use Rattle.machine_read.specs.Scopes.{setting_in}
 use Rattle.machine_read.specs.Slots.{read_flat}
@@ -21,7 +19,7 @@ use Rattle.machine_run.specs.Runs.{from_start, of_enum, on_list}
 use Rattle.machine_run.specs.Seen.{progress_of, receiver_of, state_of}
 use Rattle.machine_run.specs.Steps.{Goes, Moves, change_at}
 use Rattle.machine_run.specs.declared.progress.Progress.{Progress as Come}
-use Rattle.machine_steps.specs.Variants.{unit_names, variants}
+use Rattle.machine_steps.specs.Variants.{variants}
 use Rattle.machine_run.proofs.Chosen.{over_is, runs_is}
 use Rattle.machine_run.proofs.Forms as forms
 use Rattle.machine_run.proofs.Metas.{itemed, unlisted}
@@ -192,11 +190,9 @@ act-returns-in-Variants g t c =
     let before = g.D.Declared.earlier c.args.self.now.scope.declared.now in
     let receiver = receiver_of c.args.self.now.receiver in
     let progress = progress_of (state_of c.args.state.now) c.args.progress in
-    let read : List (VariantArm Stmt) → List NestedMeta → Progress = λ arms items.
-    going (λ state aside. variants setting (metas before) receiver.name (forms.run_inside setting before receiver) c.in-Variants.names arms items) progress in
-    let arms = c.in-Variants.arms in
-    let all : read c.as_slice-in-Variants.result.now c.items-items.result.now ≡ read arms (items_asked (asked_of c.args.asked)) =
-    ap (λ arms. read arms c.items-items.result.now) c.as_slice-in-Variants.ensures ∙ ap (read arms) c.items-items.ensures in
+    let read : List NestedMeta → Progress = λ items.
+    going (λ state aside. variants setting (metas before) receiver.name (forms.run_inside setting before receiver) c.in-Variants.names c.in-Variants.arms items) progress in
+    let all : read c.items-items.result.now ≡ read (items_asked (asked_of c.args.asked)) = ap read c.items-items.ensures in
     let act = acted g.H.Host.says g.D.Declared.earlier c.args.self.now (asked_of c.args.asked) c.args.state.now c.args.progress c.args.stmt.now in
     act _ _ c.variants.new.state c.variants.result c.in-Variants.is (forms.variants setting before receiver _ _)
     (ok_same c.variants.result (progress_of (state_of c.variants.new.state)) _ _ all c.variants.ensures)
@@ -207,11 +203,8 @@ act-returns-in-UnitNames g t c =
     let before = g.D.Declared.earlier c.args.self.now.scope.declared.now in
     let receiver = receiver_of c.args.self.now.receiver in
     let state = state_of c.args.state.now in
-    let named : List UnitArm → Progress = λ arms.
-    going (λ state aside. Built (unit_names setting (metas before) receiver.name c.in-UnitNames.names arms (text_asked (asked_of c.args.asked)))) (progress_of state c.args.progress) in
     let act = acted g.H.Host.says g.D.Declared.earlier c.args.self.now (asked_of c.args.asked) c.args.state.now c.args.progress c.args.stmt.now in
-    act _ _ c.args.state.now c.unit_names.result c.in-UnitNames.is (steps.unit_names setting before receiver _ _)
-    (ok_same c.unit_names.result (progress_of state) _ _ (ap named c.as_slice-in-UnitNames.ensures) (c.unit_names.ensures state state))
+    act _ _ c.args.state.now c.unit_names.result c.in-UnitNames.is (steps.unit_names setting before receiver _ _) (c.unit_names.ensures state state)
 
 pub act-returns-in-Call : goal.act-returns-in-Call
 act-returns-in-Call g t c =
