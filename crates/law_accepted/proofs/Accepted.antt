@@ -41,6 +41,7 @@ use Rattle.law_options.specs.Texts.{input_decl, meta_decls}
 use Rattle.law_options.proofs.Declared.{decl_is, input_options_are, meta_own, meta_whole_is}
 use Rattle.law_options.proofs.Metas.{plain_meant}
 use Rattle.law_options.proofs.Idents.{no_ident}
+use Rattle.law_options.proofs.Parts.{is_bare}
 use Rattle.law_asks.specs.Compiles.{IsInputUnit}
 use Rattle.law_asks.specs.LawFitsClaims.{AreSound, has_names}
 use Rattle.law_asks.specs.Sound.{AreNamed, Differ, IsSound}
@@ -133,13 +134,13 @@ module _ (host : HostSays) (rules : Rules) (decls : List DeriveInput) (program :
       let own = made.decl in
       let meant = input_decl rules number own in
       let bare = bare_at number own made.stands in
-      let whole = input_is rules number own (is_named number own made.stands) (have_idents number own made.stands) (names_differ number own made.stands) made.faultless in
-      let (left, left_is, compiled) = made.made in
       let input = input_built own (at_place IsPlainDecl decls number own plain made.stands).built (made.derives refl) in
+      let whole = input_is rules number own (is_named number own made.stands) (have_idents number own made.stands) (names_differ number own made.stands) input made.faultless in
+      let (left, left_is, compiled) = made.made in
       let unit_is : IsInputUnit made.unit meant = (
         left,
         compiled,
-        input_options_are rules own left number left_is (left_is.ident ∙ no_ident rules own input),
+        input_options_are rules own left number left_is (is_bare rules own input left left_is) (left_is.from_ident ∙ no_ident rules own input),
         ap unit_type compiled ∙ ap (λ ident. named_type ident.text) left_is.base.ident,
       ) in
       let met =

@@ -1,7 +1,7 @@
 -- Options without faults leave a declaration its name, and its fields their names and types.
-use Rattle.std.proofs.Common.{◌≡◌, ◌∙◌, ℕ, true, List, [], ◌∷◌, ◌++◌, flat_map, map, Option, Some, None, option_map, unwrap_or, IsSomeAnd, refl, sym, ap, ap₂, subst}
+use Rattle.std.proofs.Common.{◌≡◌, ◌∙◌, ℕ, true, List, [], ◌∷◌, ◌++◌, map, Option, Some, None, option_map, unwrap_or, IsSomeAnd, refl, sym, ap, ap₂, subst}
 use Rattle.std.specs.List.{AllByRecursion, AllZip}
-use mathlib.Core.List.{append-eq-nil_iff, map-map}
+use mathlib.Core.List.{map-map}
 use Rattle.base_core.specs.declared.text.Text.{Text}
 use Rattle.tok_types.specs.Ident.{IsToken, ident_text}
 use Rattle.tok_types.specs.declared.ident.Ident.{Ident}
@@ -19,22 +19,25 @@ use Rattle.meaning_core.specs.Decls.{member_name}
 use Rattle.meaning_core.specs.Made.{named_type}
 use Rattle.meaning_core.specs.Decl.{FieldDecl}
 use Rattle.run_accepted.specs.Attributes.{body_without, field_without, fields_without, without_attributes}
-use Rattle.run_source.specs.Body.{field_ident, field_meaning, field_start, inherited, start_body, union_faults, unnamed, with_fields}
+use Rattle.run_source.specs.Body.{field_ident, field_meaning, field_start, inherited, start_body, unnamed, with_fields}
 use Rattle.run_source.specs.Core.{Core}
 use Rattle.run_source.specs.Entries.{items, option_entries}
 use Rattle.run_source.specs.FieldOptions.{of_field, of_field_faults}
 use Rattle.run_source.specs.InputField.{InputField}
-use Rattle.run_source.specs.Members.{body_fields, variants_of}
-use Rattle.node_core.specs.Bodies.{is_union, field_list}
+use Rattle.run_source.specs.Members.{body_fields}
+use Rattle.node_core.specs.Bodies.{field_list}
 use Rattle.run_accepted.specs.Pairs.{faults_under}
-use Rattle.run_source.specs.Rows.{else_faults, list_of}
-use Rattle.run_source.specs.Stages.{Reader, body_faults, container_options, fdi_reader, field_faults, good_fields, meta_reader, option_faults, options_of}
-use Rattle.run_accepted.specs.Unbuilt.{are_named, has_named_fields}
+use Rattle.run_source.specs.Rows.{list_of}
+use Rattle.run_source.specs.Stages.{container_options, field_faults, good_fields, meta_reader, options_of}
+use Rattle.run_accepted.specs.Readers.{fdi_reader}
+use Rattle.run_accepted.specs.Unbuilt.{are_named, has_named_fields, input_places}
 use Rattle.run_accepted.proofs.PlainLemmas.{struct_core}
 use Rattle.run_source.specs.Values.{Rules}
 use Rattle.run_source.specs.Walk.{all_faults}
 use Rattle.law_options.specs.Meant.{fields_in, meant_decl, meant_field}
 use Rattle.law_options.specs.Texts.{input_decl}
+use Rattle.law_options.proofs.Faultless.{no_field_faults}
+use Rattle.law_options.proofs.Parts.{own_faults, own_same}
 use Rattle.law_asks.specs.Sound.{Differ, IsFieldOf, named_fields, named_of}
 use Rattle.law_asks.specs.Asked.{IsOf}
 use Rattle.law_accepted.proofs.Lists.{none_made}
@@ -122,34 +125,19 @@ module _ (decl : DeriveInput) (named : has_named_fields decl.body ≡ true) (hav
 
 -- ---- faults
 
-none_later : (first later : List Fault) → else_faults first later ≡ [] → later ≡ []
-none_later [] later none = none
-none_later (fault ∷ more) later none = cc
-
-module _ {S : Type 0} (reader : Reader S) (decl : DeriveInput) where
-  -- where nothing is wrong with a declaration, nothing is with any of its fields
-  pub no_field_faults : option_faults reader decl ≡ []
-      → AllByRecursion (λ field. reader.field_faults (container_options reader decl) field ≡ []) (body_fields decl.body)
-  no_field_faults none =
-      let of_fields = flat_map (reader.field_faults (container_options reader decl)) (body_fields decl.body) in
-      let of_variants = flat_map (reader.variant_faults (container_options reader decl)) (variants_of decl.body) in
-      let of_items = all_faults reader.options reader.item_faults reader.start [] (option_entries decl.attrs) in
-      let of_body =
-      none_later of_items (body_faults reader decl) (none_later (union_faults (is_union decl.body)) (else_faults of_items (body_faults reader decl)) none) in
-      let of_members = (append-eq-nil_iff {p = of_fields ++ of_variants} {q = reader.checks (options_of reader decl)}).0 of_body in
-      none_made (reader.field_faults (container_options reader decl)) (body_fields decl.body) ((append-eq-nil_iff {p = of_fields} {q = of_variants}).0 of_members.0).0
-
 -- what the options mean is of the declaration
 module _ (rules : Rules) (number : ℕ) (decl : DeriveInput) (named : has_named_fields decl.body ≡ true) (have : AllByRecursion IsTextField (body_fields decl.body))
     (differ : Differ (map member_name (body_fields decl.body))) where
-  pub input_is : faults_under rules decl derive.FromDeriveInput ≡ [] → IsOf (without_attributes decl) (input_decl rules number decl)
-  input_is none =
+  pub input_is : input_places decl ≡ [] → faults_under rules decl derive.FromDeriveInput ≡ [] → IsOf (without_attributes decl) (input_decl rules number decl)
+  input_is built none =
       let set = container_options (fdi_reader rules decl) decl in
       let core = set.base.container in
       let goods = good_fields rules core (body_fields decl.body) in
       let whole = options_of (fdi_reader rules decl) decl in
-      meant_is decl named have differ number (map path_text whole.base.attr_names.0) whole.base.container goods refl refl
-      (goods_are rules core (body_fields decl.body) (no_field_faults (fdi_reader rules decl) decl none))
+      let of_fields = sym (own_faults rules core decl built) ∙ no_field_faults (fdi_reader rules decl) decl none in
+      meant_is decl named have differ number (map path_text whole.base.attr_names.0) whole.base.container goods refl
+      (ap (λ its. with_fields (start_body decl.body) (good_fields rules core its)) (own_same decl built))
+      (goods_are rules core (body_fields decl.body) (none_made (field_faults rules core) (body_fields decl.body) of_fields))
 
   pub items_are : faults_under rules decl derive.FromMeta ≡ [] → IsOf (without_attributes decl) (meant_decl number [] (options_of (meta_reader rules decl) decl).base)
   items_are none =
@@ -159,4 +147,4 @@ module _ (rules : Rules) (number : ℕ) (decl : DeriveInput) (named : has_named_
       let whole = options_of (meta_reader rules decl) decl in
       let same = struct_core rules core decl.body named in
       meant_is decl named have differ number [] whole.base goods (ap (λ (core : Core). core.ident) same) (ap (λ (core : Core). core.body) same)
-      (goods_are rules core (body_fields decl.body) (no_field_faults (meta_reader rules decl) decl none))
+      (goods_are rules core (body_fields decl.body) (none_made (field_faults rules core) (body_fields decl.body) (no_field_faults (meta_reader rules decl) decl none)))

@@ -12,13 +12,16 @@ use Rattle.codegen_program.specs.declared.init.Init.{Init}
 use Rattle.codegen_program.specs.declared.shape.ShapeSpec.TheVariants as shapes
 use Rattle.codegen_program.specs.declared.stmt.Stmt.{Stmt}
 use Rattle.codegen_program.specs.declared.stmt.Stmt.TheVariants as stmt
-use Rattle.codegen_core.specs.Compiled.{closing, compiled_derive_input, compiled_list, default_of, fields_of, for_items, input_stmts, list_stmts, over_attributes, set_default, transform}
+use Rattle.codegen_core.specs.Compiled.{closing, compiled_list, default_of, fields_of, for_items, list_stmts, set_default, transform}
 use Rattle.codegen_core.specs.Fields.{at_slots, check, check_without, checks, declarations, flattens, inits}
 use Rattle.codegen_core.specs.declared.default_expression.DefaultExpression.{DefaultExpression}
 use Rattle.codegen_core.specs.declared.field.Field.{Field}
-use Rattle.codegen_core.specs.declared.from_derive_impl.FromDeriveInputImpl.{FromDeriveInputImpl}
 use Rattle.codegen_core.specs.declared.from_meta_impl.FromMetaImpl.{FromMetaImpl}
 use Rattle.codegen_core.specs.declared.trait_impl.TraitImpl.{TraitImpl}
+use Rattle.codegen_outer.specs.Bare.{bare_stmts, over_read}
+use Rattle.codegen_outer.specs.BareLaws.{bare_unit}
+use Rattle.codegen_outer.specs.CompiledOuter.{compiled_derive_input}
+use Rattle.codegen_outer.specs.declared.from_derive_impl.FromDeriveInputImpl.{FromDeriveInputImpl}
 use Rattle.machine_forms.specs.Asks.{Ask, Read, Whole, Member, Transform, all_asks, asks_in, unit_asks}
 use Rattle.law_fits.specs.Decl.{Decl}
 use Rattle.law_fits.specs.EntrySteps.{arms, rest}
@@ -97,7 +100,7 @@ module _ (decl : Decl) (base : TraitImpl) (is : IsDecl base decl) where
       ∙ ap (λ asks. all_asks (declarations (fields_of base)) ++ (asks ++ (asks_in (for_items base) ++ all_asks (closing false base)))) asked.declare_errors
       ∙ ap₂ (λ asks more. all_asks (declarations (fields_of base)) ++ (asks ++ more)) items_ask (closing_is base)
 
-  over_asks : (names : List Text) → all_asks (over_attributes names base) ≡ read_asks (has_names names) decl
+  over_asks : (names : List Text) → all_asks (over_read names base) ≡ read_asks (has_names names) decl
   over_asks [] = refl
   over_asks (name ∷ names) =
       ap (λ asks. asks ++ []) (asked.for_attributes (name ∷ names) (for_items base ∷ []) forward.Nothing)
@@ -105,11 +108,11 @@ module _ (decl : Decl) (base : TraitImpl) (is : IsDecl base decl) where
       ∙ append-nil (asks_in (for_items base))
       ∙ items_ask
 
-input_asks : (decl : Decl) (left : FromDeriveInputImpl) → IsInputDecl left decl → all_asks (input_stmts left) ≡ base_asks (has_names decl.attributes) decl left.base
+input_asks : (decl : Decl) (left : FromDeriveInputImpl) → IsInputDecl left decl → all_asks (bare_stmts left) ≡ base_asks (has_names decl.attributes) decl left.base
 input_asks decl left is =
     let base = left.base in
     let declared : List Stmt = declarations (fields_of base) in
-    let over : List Text → List Stmt = λ names. over_attributes names base in
+    let over : List Text → List Stmt = λ names. over_read names base in
     let ending : List Stmt = closing left.from_ident base in
     let rest : List Stmt = stmt.CheckShape shapes.Any ∷ (stmt.ReadBody None None ∷ ending) in
     let names : List Text = map path_text left.attr_names.now.0 in
@@ -127,7 +130,8 @@ meta_unit_asks decl left number is = append-nil (all_asks (list_stmts left.base)
 
 pub input_unit_asks : (decl : Decl) (left : FromDeriveInputImpl) (number : ℕ) → IsInputDecl left decl
     → unit_asks (compiled_derive_input left number) ≡ base_asks (has_names decl.attributes) decl left.base
-input_unit_asks decl left number is = append-nil (all_asks (input_stmts left)) ∙ input_asks decl left is
+input_unit_asks decl left number is =
+    ap unit_asks (bare_unit left number is.bare) ∙ append-nil (all_asks (bare_stmts left)) ∙ input_asks decl left is
 
 -- ---- what is among them
 

@@ -10,7 +10,7 @@ use Rattle.node_core.specs.declared.style.Style.{Style}
 use Rattle.node_core.specs.declared.style.Style.TheVariants as style
 use Rattle.body_core.specs.declared.ast.data.«Data».{«Data»}
 use Rattle.body_core.specs.declared.ast.data.«Data».TheVariants as body
-use Rattle.codegen_core.specs.Compiled.{HasNamedFields, IsPlain, compiled_derive_input, compiled_meta, fields_of, struct_fields}
+use Rattle.codegen_core.specs.Compiled.{HasNamedFields, IsPlain, compiled_meta, fields_of, struct_fields}
 use Rattle.codegen_core.specs.Variants.{transparent_field}
 use Rattle.codegen_core.specs.Defaults.{fallback as falls}
 use Rattle.codegen_core.specs.declared.default_expression.DefaultExpression.{DefaultExpression}
@@ -18,6 +18,7 @@ use Rattle.codegen_core.specs.declared.default_expression.DefaultExpression.TheV
 use Rattle.codegen_core.specs.declared.field.Field.{Field}
 use Rattle.codegen_core.specs.declared.trait_impl.TraitImpl.{TraitImpl}
 use Rattle.codegen_core.specs.declared.variant.Variant.{Variant}
+use Rattle.codegen_outer.specs.CompiledOuter.{compiled_derive_input}
 use Rattle.law_options.specs.Values.{Rules}
 use Rattle.run_accepted.specs.Compiled.{IsUnitUnder}
 use Rattle.run_accepted.specs.Plain.{IsPlainDecl}
@@ -30,6 +31,7 @@ use Rattle.law_machine.specs.Left.{IsLeft, IsLeftBody, IsLeftDefault, IsLeftFiel
 use Rattle.law_options.proofs.Declared.{decl_is, input_options_are, meta_own, meta_whole_is}
 use Rattle.run_accepted.specs.Stages.{container_options, meta_reader, options_of}
 use Rattle.law_options.proofs.Idents.{no_ident}
+use Rattle.law_options.proofs.Parts.{is_bare}
 
 -- ---- fields
 
@@ -105,9 +107,10 @@ module _ (rules : Rules) where
       inl (left, compiled ∙ ap (compiled_meta left) (sym own), plain_is_left left.base left.base.body refl listed.plain (is_left left.base _ (decl_is left.base options.base number [] is.base kept)))
   unit_is_left number decl derive.FromDeriveInput unit plain built (left, is, compiled) =
       let own = number_is rules number decl derive.FromDeriveInput unit (left, is, compiled) in
-      let ident : left.from_ident ≡ false = is.ident ∙ no_ident rules decl built in
-      let meant = input_options_are rules decl left number is ident in
-      inr (left, compiled ∙ ap (compiled_derive_input left) (sym own), is_left left.base _ meant.base, ident)
+      let bare = is_bare rules decl built left is in
+      let ident : left.from_ident ≡ false = is.from_ident ∙ no_ident rules decl built in
+      let meant = input_options_are rules decl left number is bare ident in
+      inr (left, compiled ∙ ap (compiled_derive_input left) (sym own), is_left left.base _ meant.base, bare, ident)
   unit_is_left number decl derive.FromAttributes unit plain built is = absurd is
   unit_is_left number decl derive.FromField unit plain built is = absurd is
   unit_is_left number decl derive.FromTypeParam unit plain built is = absurd is

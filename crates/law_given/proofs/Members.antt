@@ -4,11 +4,9 @@ use Rattle.std.specs.List.{AllZip}
 use Rattle.std.proofs.lemmas.List.{map-append}
 use mathlib.Core.List.{append-eq-nil_iff}
 use Rattle.tok_types.specs.declared.ident.Ident.{Ident}
-use Rattle.node_core.specs.Bodies.{is_union}
 use Rattle.node_core.specs.declared.data.Field.{Field}
 use Rattle.node_core.specs.declared.data.«Data».{«Data» as NodeData}
 use Rattle.node_core.specs.declared.data.«Data».TheVariants as node
-use Rattle.node_core.specs.declared.derive.DeriveInput.{DeriveInput}
 use Rattle.error_fault.specs.Outcome.{Value, faults_of, on_value, settle, value_of}
 use Rattle.error_fault.specs.declared.fault.Fault.{Fault}
 use Rattle.body_core.specs.declared.ast.data.«Data».{«Data»}
@@ -17,15 +15,15 @@ use Rattle.codegen_core.specs.Compiled.{fields_of as left_fields, struct_fields}
 use Rattle.codegen_core.specs.declared.field.Field.{Field as Left}
 use Rattle.codegen_core.specs.declared.trait_impl.TraitImpl.{TraitImpl}
 use Rattle.codegen_core.specs.declared.variant.Variant.{Variant}
-use Rattle.law_options.specs.Body.{Body, field_meaning, field_start, inherited, start_body, union_faults, with_fields}
+use Rattle.law_options.specs.Body.{Body, field_meaning, field_start, inherited, start_body, with_fields}
 use Rattle.law_options.specs.Core.{Core}
 use Rattle.law_options.specs.Entries.{items, option_entries}
 use Rattle.law_options.specs.FieldOptions.{of_field, of_field_faults}
 use Rattle.law_options.specs.InputField.{InputField}
 use Rattle.law_options.specs.Meant.{fields_in}
-use Rattle.law_options.specs.Members.{body_fields, variants_of}
-use Rattle.law_options.specs.Rows.{else_faults, list_of}
-use Rattle.law_options.specs.Stages.{Reader, body_faults, container_options, field_faults, good_fields, option_faults, options_of}
+use Rattle.law_options.specs.Members.{body_fields}
+use Rattle.law_options.specs.Rows.{list_of}
+use Rattle.law_options.specs.Stages.{field_faults, good_fields}
 use Rattle.law_options.specs.Values.{Rules}
 use Rattle.law_options.specs.Walk.{all_faults}
 use Rattle.run_accepted.specs.MemberViews as views
@@ -91,21 +89,3 @@ pub struct_members : (rules : Rules) (core : Core) (it : NodeData) (left : Trait
     → map left_member (left_fields left) ≡ map member_of (body_fields it)
 struct_members rules core it left whole is same none =
     body_members whole.ident left.body whole.body is.members ∙ ap (λ body. map option_member (fields_in body)) same ∙ members_kept rules core it none
-
--- ---- faults
-
-none_later : (first later : List Fault) → else_faults first later ≡ [] → later ≡ []
-none_later [] later none = none
-none_later (fault ∷ more) later none = cc
-
-module _ {S : Type 0} (reader : Reader S) (decl : DeriveInput) where
-  -- where nothing is wrong with a declaration, nothing is with its fields
-  pub no_field_faults : option_faults reader decl ≡ [] → flat_map (reader.field_faults (container_options reader decl)) (body_fields decl.body) ≡ []
-  no_field_faults none =
-      let of_fields = flat_map (reader.field_faults (container_options reader decl)) (body_fields decl.body) in
-      let of_variants = flat_map (reader.variant_faults (container_options reader decl)) (variants_of decl.body) in
-      let of_items = all_faults reader.options reader.item_faults reader.start [] (option_entries decl.attrs) in
-      let of_rest = none_later (union_faults (is_union decl.body)) (else_faults of_items (body_faults reader decl)) none in
-      let of_body = none_later of_items (body_faults reader decl) of_rest in
-      let of_members = (append-eq-nil_iff {p = of_fields ++ of_variants} {q = reader.checks (options_of reader decl)}).0 of_body in
-      ((append-eq-nil_iff {p = of_fields} {q = of_variants}).0 of_members.0).0

@@ -17,24 +17,29 @@ use Rattle.codegen_program.specs.declared.program.Func.{Func}
 use Rattle.codegen_program.specs.declared.program.«Unit».{«Unit» as Unit'}
 use Rattle.codegen_core.specs.Compiled.{fields_of as left_fields, is_usual, other_krate, unit_with}
 use Rattle.codegen_core.specs.declared.trait_impl.TraitImpl.{TraitImpl}
+use Rattle.codegen_outer.specs.BareLaws.{bare_unit}
 use Rattle.node_core.specs.Bodies.{field_list}
 use Rattle.law_options.specs.Body.{start_body, with_fields}
 use Rattle.law_options.specs.Core.{Core}
 use Rattle.law_options.specs.Members.{body_fields}
-use Rattle.law_options.specs.Stages.{container_options, fdi_reader, field_faults, good_fields, meta_reader, options_of}
+use Rattle.law_options.specs.Stages.{container_options, field_faults, good_fields, meta_reader, options_of}
+use Rattle.law_options.specs.Readers.{fdi_reader}
 use Rattle.law_options.specs.Values.{Rules}
 use Rattle.run_accepted.specs.Attributes.{body_without, field_without, fields_without, generics_without, without_attributes}
 use Rattle.run_accepted.specs.Compiled.{IsUnitUnder}
 use Rattle.run_accepted.specs.Pairs.{faults_under}
 use Rattle.run_accepted.specs.MemberViews.{IsImpl}
 use Rattle.run_accepted.specs.Plain.{IsPlainDecl}
+use Rattle.run_accepted.specs.Unbuilt.{IsBuiltUnder}
 use Rattle.run_accepted.proofs.ListLemmas.{at_place}
 use Rattle.run_accepted.proofs.PlainLemmas.{listed_unit, meta_core_is, meta_is_listed}
+use Rattle.law_options.proofs.Faultless.{no_field_faults}
+use Rattle.law_options.proofs.Parts.{is_bare, own_faults, own_same}
 use Rattle.law_given.specs.Claims.{GivenIsOfDeclarations}
 use Rattle.law_given.specs.Given.{HasFewFields, IsGivenUnit}
 use Rattle.law_given.specs.Owned.{IsOfDeclaration, member_of, numbered, slots_of}
-use Rattle.law_given.proofs.Members.{no_field_faults, struct_members}
-use Rattle.law_given.proofs.Runs.{left_at}
+use Rattle.law_given.proofs.Members.{struct_members}
+use Rattle.law_given.proofs.Runs.{built_so, left_at}
 use Rattle.law_given.proofs.Slots.{input_slots, left_member, list_slots}
 
 -- ---- fields without attributes
@@ -86,31 +91,32 @@ module _ (rules : Rules) (decl : DeriveInput) (few : HasFewFields decl) where
         krate = unusual (option_copied left.krate);
       }
 
-  owned : (number : ℕ) (it : Derive) (unit : Unit') → IsPlainDecl decl → faults_under rules decl it ≡ [] → IsUnitUnder rules number decl it unit
+  owned : (number : ℕ) (it : Derive) (unit : Unit') → IsPlainDecl decl → IsBuiltUnder decl it → faults_under rules decl it ≡ [] → IsUnitUnder rules number decl it unit
       → IsOfDeclaration (without_attributes decl) unit
-  owned number derive.FromMeta unit built none (left, is, compiled) =
+  owned number derive.FromMeta unit plain built none (left, is, compiled) =
       let set = container_options (meta_reader rules decl) decl in
       let whole = (options_of (meta_reader rules decl) decl).base in
-      let listed = compiled ∙ listed_unit left number (meta_is_listed rules decl left built is) in
-      let same = meta_core_is rules decl built in
+      let listed = compiled ∙ listed_unit left number (meta_is_listed rules decl left plain is) in
+      let same = meta_core_is rules decl plain in
       subst (IsOfDeclaration (without_attributes decl)) (sym listed)
       (unit_owned set.base whole left.base number derive.FromMeta left.derive_syn_parse _ is.base
       (ap (λ (core : Core). core.ident) same) (ap (λ (core : Core). core.generics) same) (ap (λ (core : Core). core.body) same)
       (no_field_faults (meta_reader rules decl) decl none) (list_slots left.base))
-  owned number derive.FromDeriveInput unit built none (left, is, compiled) =
-      let set = container_options (fdi_reader rules decl) decl in
+  owned number derive.FromDeriveInput unit plain built none (left, is, compiled) =
+      let core = (container_options (fdi_reader rules decl) decl).base.container in
       let whole = (options_of (fdi_reader rules decl) decl).base.container in
-      subst (IsOfDeclaration (without_attributes decl)) (sym compiled)
-      (unit_owned set.base.container whole left.base number derive.FromDeriveInput false _ is.base refl refl refl
-      (no_field_faults (fdi_reader rules decl) decl none) (input_slots left))
-  owned number derive.FromAttributes unit built none is = absurd is
-  owned number derive.FromField unit built none is = absurd is
-  owned number derive.FromTypeParam unit built none is = absurd is
-  owned number derive.FromVariant unit built none is = absurd is
+      subst (IsOfDeclaration (without_attributes decl)) (sym (compiled ∙ bare_unit left number (is_bare rules decl built left is)))
+      (unit_owned core whole left.base number derive.FromDeriveInput false _ is.base refl refl
+      (ap (λ its. with_fields (start_body decl.body) (good_fields rules core its)) (own_same decl built))
+      (sym (own_faults rules core decl built) ∙ no_field_faults (fdi_reader rules decl) decl none) (input_slots left))
+  owned number derive.FromAttributes unit plain built none is = absurd is
+  owned number derive.FromField unit plain built none is = absurd is
+  owned number derive.FromTypeParam unit plain built none is = absurd is
+  owned number derive.FromVariant unit plain built none is = absurd is
 
 pub given_is_of_declarations : GivenIsOfDeclarations
 given_is_of_declarations program number unit given at =
     let is = at_place (IsGivenUnit program.decls) program.units number unit given.units at in (
       left_at program number unit given at,
-      (without_attributes is.written, is.stands, owned is.rules is.written is.few unit.decl unit.derive unit is.built is.faultless is.compiled),
+      (without_attributes is.written, is.stands, owned is.rules is.written is.few unit.decl unit.derive unit is.built (built_so is.written unit.derive is.built is.named) is.faultless is.compiled),
     )

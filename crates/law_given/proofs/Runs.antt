@@ -34,7 +34,7 @@ use Rattle.law_given.proofs.Left.{unit_is_left}
 -- ---- a unit
 
 -- a declaration that names the derive can be run so
-built_so : (decl : DeriveInput) (it : Derive) → IsPlainDecl decl → NamesDerive decl it → IsBuiltUnder decl it
+pub built_so : (decl : DeriveInput) (it : Derive) → IsPlainDecl decl → NamesDerive decl it → IsBuiltUnder decl it
 built_so decl it plain (place, one, within, at, same) =
     let P : Derived → Type 0 = λ some. IsBuiltUnder decl some.derive in
     subst (IsBuiltUnder decl) same (subst P at (built_under decl plain.built place one within))

@@ -12,12 +12,13 @@ use Rattle.codegen_program.specs.declared.init.DefaultSource.{DefaultSource}
 use Rattle.codegen_program.specs.declared.shape.ShapeSpec.TheVariants as shapes
 use Rattle.codegen_program.specs.declared.stmt.Stmt.{Stmt}
 use Rattle.codegen_program.specs.declared.stmt.Stmt.TheVariants as stmt
-use Rattle.codegen_core.specs.Compiled.{closing, default_of, fields_of, for_attributes, for_items, input_stmts, list_stmts, over_attributes, set_default, transform}
+use Rattle.codegen_core.specs.Compiled.{closing, default_of, fields_of, for_items, list_stmts, set_default, transform}
 use Rattle.codegen_core.specs.Fields.{arms, at_slots, check, check_without, checks, declaration, declarations, flatten, flattens, inits, names, rest}
 use Rattle.codegen_core.specs.declared.default_expression.DefaultExpression.{DefaultExpression}
 use Rattle.codegen_core.specs.declared.field.Field.{Field}
-use Rattle.codegen_core.specs.declared.from_derive_impl.FromDeriveInputImpl.{FromDeriveInputImpl}
 use Rattle.codegen_core.specs.declared.trait_impl.TraitImpl.{TraitImpl}
+use Rattle.codegen_outer.specs.Bare.{bare_stmts, over_read}
+use Rattle.codegen_outer.specs.declared.from_derive_impl.FromDeriveInputImpl.{FromDeriveInputImpl}
 use Rattle.law_options.proofs.Owns.{all-append}
 use Rattle.law_given.specs.Owned.{Member, layer_slot, numbered, stmt_slot}
 
@@ -83,7 +84,7 @@ closing_none from_ident base =
 items_none : (base : TraitImpl) → DeclaresNone (for_items base)
 items_none base = ap layer_slot (stmt.outs-ForItems (arms (fields_of base)) (rest base.allow_unknown_fields (fields_of base)))
 
-attributes_none : (paths : List Text) (base : TraitImpl) → DeclareNone (over_attributes paths base)
+attributes_none : (paths : List Text) (base : TraitImpl) → DeclareNone (over_read paths base)
 attributes_none [] base = tt
 attributes_none (path ∷ paths) base = (ap layer_slot (stmt.outs-ForAttributes (path ∷ paths) (for_items base ∷ []) forward.Nothing), tt)
 
@@ -117,13 +118,15 @@ declared number (field ∷ fields) more none =
 pub list_slots : (base : TraitImpl) → filter_map stmt_slot (list_stmts base) ≡ numbered (map left_member (fields_of base))
 list_slots base = declared 0 (fields_of base) _ (no_errors, (items_none base, closing_none false base))
 
--- so does `from_derive_input`
-pub input_slots : (it : FromDeriveInputImpl) → filter_map stmt_slot (input_stmts it) ≡ numbered (map left_member (fields_of it.base))
+-- so does `from_derive_input` that reads attributes alone
+pub input_slots : (it : FromDeriveInputImpl) → filter_map stmt_slot (bare_stmts it) ≡ numbered (map left_member (fields_of it.base))
 input_slots it =
     let shape : DeclaresNone (stmt.CheckShape shapes.Any) = ap layer_slot (stmt.outs-CheckShape shapes.Any) in
     let body : DeclaresNone (stmt.ReadBody None None) = ap layer_slot (stmt.outs-ReadBody None None) in
-    let later = for_attributes it ++ (stmt.CheckShape shapes.Any ∷ (stmt.ReadBody None None ∷ closing it.from_ident it.base)) in
+    let names = map path_text it.attr_names.now.0 in
+    let over = over_read names it.base in
+    let later = over ++ (stmt.CheckShape shapes.Any ∷ (stmt.ReadBody None None ∷ closing it.from_ident it.base)) in
     ap (λ slot. cons_option slot (filter_map stmt_slot (declarations (fields_of it.base) ++ later))) no_errors
     ∙ declared 0 (fields_of it.base) later
-    (all-append DeclaresNone (for_attributes it) _ (attributes_none (map path_text it.attr_names.now.0) it.base)
+    (all-append DeclaresNone over _ (attributes_none names it.base)
     (shape, (body, closing_none it.from_ident it.base)))

@@ -25,7 +25,7 @@ use Rattle.codegen_program.specs.declared.program.«Unit».{«Unit» as Unit'}
 use Rattle.codegen_program.specs.declared.stmt.Stmt.{Stmt}
 use Rattle.codegen_program.specs.declared.stmt.Stmt.TheVariants as stmt
 use Rattle.codegen_program.specs.declared.variant.VariantArm.{VariantArm}
-use Rattle.codegen_core.specs.Compiled.{call_func, call_funcs, compiled_derive_input, compiled_meta, enum_funcs, fields_of, funcs_by, funcs_in, list_funcs, list_stmts, own_funcs, struct_fields, unit_funcs, whole_funcs}
+use Rattle.codegen_core.specs.Compiled.{call_func, call_funcs, compiled_meta, enum_funcs, fields_of, funcs_by, funcs_in, list_funcs, list_stmts, own_funcs, struct_fields, unit_funcs, whole_funcs}
 use Rattle.codegen_core.specs.Defaults.{fallback as falls}
 use Rattle.codegen_core.specs.Fields.{inits}
 use Rattle.codegen_core.specs.Variants.{form_by, member_name, own_form, proxy_of, slotted, transparent_field, unit_arms, variant_arms, variant_form, variant_names, variant_stmts}
@@ -35,6 +35,8 @@ use Rattle.codegen_core.specs.declared.field.Field.{Field}
 use Rattle.codegen_core.specs.declared.from_meta_impl.FromMetaImpl.{FromMetaImpl}
 use Rattle.codegen_core.specs.declared.trait_impl.TraitImpl.{TraitImpl}
 use Rattle.codegen_core.specs.declared.variant.Variant.{Variant}
+use Rattle.codegen_outer.specs.Bare.{compiled_bare}
+use Rattle.codegen_outer.specs.BareLaws.{bare_unit}
 use Rattle.machine_steps.specs.Asked.{Asked, Items, OnElement, items_asked}
 use Rattle.machine_steps.specs.Convert.{Earlier}
 use Rattle.machine_execute.specs.Elements.{OnInput}
@@ -255,11 +257,11 @@ meta_funcs_have_outcomes setting before unit (left, compiled, is) =
     subst P (sym compiled) (meta_runs setting before (receiver_of setting (compiled_meta left unit.decl)) left left.base.body refl is)
 
 pub inputs_have_outcomes : InputsHaveOutcomes
-inputs_have_outcomes setting before unit input (left, compiled, is, no_ident) =
+inputs_have_outcomes setting before unit input (left, compiled, is, bare, no_ident) =
     let names = map path_text left.attr_names.now.0 in
     let decl = meant_decl (unit_type unit) names left.base in (
       _,
-      ap (λ u. run_func setting before is_from_derive_input u (OnElement (OnInput input))) compiled
-          ∙ input_outcome setting before (receiver_of setting (compiled_derive_input left unit.decl)) left decl input
-          (record { base = decl_is (unit_type unit) names left.base is; attributes = refl; no_ident = no_ident }),
+      ap (λ u. run_func setting before is_from_derive_input u (OnElement (OnInput input))) (compiled ∙ bare_unit left unit.decl bare)
+          ∙ input_outcome setting before (receiver_of setting (compiled_bare left unit.decl)) left decl input
+          (record { base = decl_is (unit_type unit) names left.base is; attributes = refl; bare = bare; no_ident = no_ident }),
     )

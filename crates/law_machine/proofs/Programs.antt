@@ -5,7 +5,7 @@ use Rattle.meta_entries.specs.Entries.{named_entries}
 use Rattle.meta_entries.specs.declared.entry.Entry.{Entry}
 use Rattle.codegen_program.specs.declared.program.Derive.TheVariants as derives
 use Rattle.codegen_program.specs.declared.program.«Unit».{«Unit» as Unit'}
-use Rattle.codegen_core.specs.Compiled.{compiled_derive_input}
+use Rattle.codegen_outer.specs.CompiledOuter.{compiled_derive_input}
 use Rattle.machine_steps.specs.Asked.{OnElement}
 use Rattle.machine_execute.specs.Elements.{OnInput}
 use Rattle.machine_execute.specs.Machine.{cells_by, earlier_units, is_from_derive_input, run_func, setting_of, unit_reads, unit_under, unit_type}

@@ -54,6 +54,6 @@ pub units_can_be_run : UnitsCanBeRun
 units_can_be_run host program number unit element is (inl (left, compiled, kept)) kind =
     let of_derive : unit.derive ≡ derives.FromMeta = ap (λ (u : Unit'). u.derive) compiled in
     by_meta host program number unit is element of_derive (subst (λ derive. IsOfKind derive element) of_derive kind)
-units_can_be_run host program number unit element is (inr (left, compiled, kept, no_ident)) kind =
+units_can_be_run host program number unit element is (inr (left, compiled, kept, bare, no_ident)) kind =
     let of_derive : unit.derive ≡ derives.FromDeriveInput = ap (λ (u : Unit'). u.derive) compiled in
-    by_input host program number unit is element of_derive (left, compiled, kept, no_ident) (subst (λ derive. IsOfKind derive element) of_derive kind)
+    by_input host program number unit is element of_derive (left, compiled, kept, bare, no_ident) (subst (λ derive. IsOfKind derive element) of_derive kind)

@@ -22,10 +22,12 @@ use Rattle.codegen_program.specs.declared.forward.Forward.TheVariants as forward
 use Rattle.codegen_program.specs.declared.shape.ShapeSpec.TheVariants as shapes
 use Rattle.codegen_program.specs.declared.stmt.Stmt.{Stmt}
 use Rattle.codegen_program.specs.declared.stmt.Stmt.TheVariants as stmt
-use Rattle.codegen_core.specs.Compiled.{closing, default_of, fields_of, for_items, input_stmts, list_stmts, over_attributes, set_default}
-use Rattle.codegen_core.specs.declared.from_derive_impl.FromDeriveInputImpl.{FromDeriveInputImpl}
+use Rattle.codegen_core.specs.Compiled.{closing, default_of, fields_of, for_items, list_stmts, set_default}
 use Rattle.codegen_core.specs.Fields.{at_slots, checks, declarations, flatten, flattens}
 use Rattle.codegen_core.specs.declared.trait_impl.TraitImpl.{TraitImpl}
+use Rattle.codegen_outer.specs.Bare.{bare_stmts, over_read}
+use Rattle.codegen_outer.specs.BareLaws.{bare_func}
+use Rattle.codegen_outer.specs.declared.from_derive_impl.FromDeriveInputImpl.{FromDeriveInputImpl}
 use Rattle.meaning_core.specs.Decl.{Decl, has_flat}
 use Rattle.machine_steps.specs.Setting.{Setting}
 use Rattle.machine_steps.specs.Convert.{Earlier}
@@ -106,7 +108,7 @@ module _ (setting : Setting) (before : Before) (receiver : Receiver) (aside : As
           | false ↦ attributes_fold ns s as'
         ]
 
-    over_is : (ns : List Text) (s : State) (asked : Asked) → run_from setting before receiver (over_attributes ns left) asked (Going s aside) ≡ Going (fold (entry_step setting earlier decl.body) s (named_entries ns (attributes_asked asked))) aside
+    over_is : (ns : List Text) (s : State) (asked : Asked) → run_from setting before receiver (over_read ns left) asked (Going s aside) ≡ Going (fold (entry_step setting earlier decl.body) s (named_entries ns (attributes_asked asked))) aside
     over_is [] s asked = ap (λ es. Going (fold (entry_step setting earlier decl.body) s es) aside) (sym (entries-unnamed (attributes_asked asked)))
     over_is (n ∷ ns) s asked =
         statement.for_attributes setting before receiver (n ∷ ns) (for_items left ∷ []) forward.Nothing asked (Going s aside)
@@ -179,9 +181,9 @@ list_outcome setting before receiver left decl asked is =
     ∙ ap (go behind_items) (for_items_fold setting before receiver no_aside decl left is (state_behind setting (metas before) decl.body [] []) asked ∙ walked setting before receiver no_aside decl left is asked es))
     ∙ close setting before receiver no_aside decl left is asked es
 
--- the function that reads an item of a text
+-- the function that reads an item of a text, where it reads attributes alone
 pub input_outcome : (setting : Setting) (before : Before) (receiver : Receiver) (left : FromDeriveInputImpl) (decl : Decl) (input : DeriveInput) → IsInputDecl left decl
-    → outcome (run setting before receiver (input_stmts left) (OnElement (OnInput input)))
+    → outcome (run setting before receiver (bare_stmts left) (OnElement (OnInput input)))
     ≡ Some (written_meaning setting (metas before) decl receiver.type (declared_style receiver.decl) (named_entries decl.attributes input.attrs))
 input_outcome setting before receiver left decl input is =
     let asked = OnElement (OnInput input) in
@@ -191,7 +193,7 @@ input_outcome setting before receiver left decl input is =
     let start = with_slots_kept setting before receiver asked no_aside decl.body [] [] [] in
     let behind_body : Bool → List Stmt = λ b. closing b base in
     let behind_attributes = stmt.CheckShape shapes.Any ∷ (stmt.ReadBody None None ∷ behind_body left.from_ident) in
-    let loop : List Text → List Stmt = λ ns. over_attributes ns base in
+    let loop : List Text → List Stmt = λ ns. over_read ns base in
     let ns = map path_text left.attr_names.now.0 in
     let behind_slots = loop ns ++ behind_attributes in
     let state = state_behind setting (metas before) decl.body [] [] in
@@ -215,5 +217,6 @@ list_is_meaning setting before receiver left decl list is type_is =
 
 pub input_is_meaning : InputIsMeaning
 input_is_meaning setting before receiver left decl input is type_is braced =
-    input_outcome setting before receiver left decl input is
+    ap (λ stmts. outcome (run setting before receiver stmts (OnElement (OnInput input)))) (bare_func left is.bare)
+    ∙ input_outcome setting before receiver left decl input is
     ∙ ap₂ (λ t s. Some (written_meaning setting (metas before) decl t s (named_entries decl.attributes input.attrs))) type_is braced

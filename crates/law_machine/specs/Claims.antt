@@ -7,9 +7,11 @@ use Rattle.meaning_core.specs.HostSays.{HostSays}
 use Rattle.codegen_program.specs.declared.program.Func.{Func}
 use Rattle.codegen_program.specs.declared.program.Program.{Program}
 use Rattle.codegen_program.specs.declared.program.«Unit».{«Unit» as Unit'}
-use Rattle.codegen_core.specs.Compiled.{list_stmts, input_stmts}
-use Rattle.codegen_core.specs.declared.from_derive_impl.FromDeriveInputImpl.{FromDeriveInputImpl}
+use Rattle.codegen_core.specs.Compiled.{list_stmts}
 use Rattle.codegen_core.specs.declared.trait_impl.TraitImpl.{TraitImpl}
+use Rattle.codegen_outer.specs.CompiledOuter.{func_stmts}
+use Rattle.codegen_outer.specs.Outer.{input_outer}
+use Rattle.codegen_outer.specs.declared.from_derive_impl.FromDeriveInputImpl.{FromDeriveInputImpl}
 use Rattle.meaning_core.specs.Decl.{Decl}
 use Rattle.machine_steps.specs.Setting.{Setting}
 use Rattle.machine_steps.specs.Reads.{Before, metas}
@@ -44,7 +46,8 @@ abbrev pub InputIsMeaning : Type 0
 InputIsMeaning =
     (setting : Setting) (before : Before) (receiver : Receiver) (left : FromDeriveInputImpl) (decl : Decl) (input : DeriveInput)
     → IsInputDecl left decl → receiver.type ≡ decl.type → IsBraced receiver.decl
-    → outcome (run setting before receiver (input_stmts left) (OnElement (OnInput input))) ≡ Some (struct_meaning setting (metas before) decl (named_entries decl.attributes input.attrs))
+    → outcome (run setting before receiver (func_stmts (input_outer left)) (OnElement (OnInput input)))
+    ≡ Some (struct_meaning setting (metas before) decl (named_entries decl.attributes input.attrs))
 
 -- what a unit reads of metas under `FromMeta`, whatever the declarations before it read, is what the declaration reads
 abbrev pub CellsAreMeant : Type 0

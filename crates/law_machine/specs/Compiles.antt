@@ -21,15 +21,17 @@ use Rattle.codegen_program.specs.declared.init.Fallback.{Fallback as Falls}
 use Rattle.codegen_program.specs.declared.init.Fallback.TheVariants as fallbacks
 use Rattle.codegen_program.specs.declared.program.Derive.TheVariants as derives
 use Rattle.codegen_program.specs.declared.program.«Unit».{«Unit» as Unit'}
-use Rattle.codegen_core.specs.Compiled.{compiled_derive_input, compiled_meta, fields_of, default_of}
+use Rattle.codegen_core.specs.Compiled.{compiled_meta, fields_of, default_of}
 use Rattle.codegen_core.specs.Defaults.{custom}
 use Rattle.codegen_core.specs.Fields.{fallback_of}
 use Rattle.codegen_core.specs.Variants.{member_name, proxy_of, transparent_field}
 use Rattle.codegen_core.specs.declared.field.Field.{Field}
-use Rattle.codegen_core.specs.declared.from_derive_impl.FromDeriveInputImpl.{FromDeriveInputImpl}
 use Rattle.codegen_core.specs.declared.from_meta_impl.FromMetaImpl.{FromMetaImpl}
 use Rattle.codegen_core.specs.declared.trait_impl.TraitImpl.{TraitImpl}
 use Rattle.codegen_core.specs.declared.variant.Variant.{Variant}
+use Rattle.codegen_outer.specs.Bare.{IsBare}
+use Rattle.codegen_outer.specs.CompiledOuter.{compiled_derive_input}
+use Rattle.codegen_outer.specs.declared.from_derive_impl.FromDeriveInputImpl.{FromDeriveInputImpl}
 use Rattle.machine_steps.specs.Calls.{word_variant}
 use Rattle.machine_execute.specs.Machine.{unit_under, unit_type}
 use Rattle.machine_steps.specs.Receivers.{declared_style, declared_variants}
@@ -69,10 +71,11 @@ pub record IsDecl (left : TraitImpl) (decl : Decl) : Type 0 where
   pub transform : option_copied left.post_transform ≡ decl.transform
   pub allows_unknown : left.allow_unknown_fields ≡ decl.body.allows_unknown
 
--- the same with the names of the attributes that are read; its default comes from no identifier
+-- the same with the names of the attributes that are read, where nothing else of an item is; its default comes from no identifier
 pub record IsInputDecl (left : FromDeriveInputImpl) (decl : Decl) : Type 0 where
   pub base : IsDecl left.base decl
   pub attributes : map path_text left.attr_names.now.0 ≡ decl.attributes
+  pub bare : IsBare left
   pub no_ident : left.from_ident ≡ false
 
 -- ---- `FromMeta`

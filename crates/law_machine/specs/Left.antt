@@ -10,16 +10,18 @@ use Rattle.node_core.specs.declared.style.Style.TheVariants as style
 use Rattle.body_core.specs.declared.ast.data.«Data».{«Data»}
 use Rattle.body_core.specs.declared.ast.data.«Data».TheVariants as body
 use Rattle.codegen_program.specs.declared.program.«Unit».{«Unit» as Unit'}
-use Rattle.codegen_core.specs.Compiled.{compiled_derive_input, compiled_meta, default_of, fields_of}
+use Rattle.codegen_core.specs.Compiled.{compiled_meta, default_of, fields_of}
 use Rattle.codegen_core.specs.Defaults.{custom}
 use Rattle.codegen_core.specs.Variants.{proxy_of, transparent_field}
 use Rattle.codegen_core.specs.declared.default_expression.DefaultExpression.{DefaultExpression}
 use Rattle.codegen_core.specs.declared.default_expression.DefaultExpression.TheVariants as defaults
 use Rattle.codegen_core.specs.declared.field.Field.{Field}
-use Rattle.codegen_core.specs.declared.from_derive_impl.FromDeriveInputImpl.{FromDeriveInputImpl}
 use Rattle.codegen_core.specs.declared.from_meta_impl.FromMetaImpl.{FromMetaImpl}
 use Rattle.codegen_core.specs.declared.trait_impl.TraitImpl.{TraitImpl}
 use Rattle.codegen_core.specs.declared.variant.Variant.{Variant}
+use Rattle.codegen_outer.specs.Bare.{IsBare}
+use Rattle.codegen_outer.specs.CompiledOuter.{compiled_derive_input}
+use Rattle.codegen_outer.specs.declared.from_derive_impl.FromDeriveInputImpl.{FromDeriveInputImpl}
 use Rattle.meaning_core.specs.Decl.{Decl, FieldDecl, Shape, Single, Many, Flat, Default, ByType, ByCall}
 use Rattle.law_machine.specs.Compiles.{meant_default, read_variants}
 
@@ -108,9 +110,10 @@ IsLeftBody left (body.Enum variants) = AllByRecursion IsLeftVariant (read_varian
 abbrev pub IsLeftMeta : Unit' → Type 0
 IsLeftMeta unit = (left : FromMetaImpl) × (unit ≡ compiled_meta left unit.decl) × IsLeftBody left.base left.base.body
 
--- the unit of `FromDeriveInput` that options leave; none of its defaults comes from the identifier
+-- the unit of `FromDeriveInput` that options leave, which reads attributes alone; none of its defaults comes from the identifier
 abbrev pub IsLeftInput : Unit' → Type 0
-IsLeftInput unit = (left : FromDeriveInputImpl) × (unit ≡ compiled_derive_input left unit.decl) × IsLeft left.base × (left.from_ident ≡ false)
+IsLeftInput unit =
+    (left : FromDeriveInputImpl) × (unit ≡ compiled_derive_input left unit.decl) × IsLeft left.base × IsBare left × (left.from_ident ≡ false)
 
 -- a unit that options leave
 abbrev pub IsLeftUnit : Unit' → Type 0

@@ -6,10 +6,12 @@ use Rattle.base_core.specs.declared.text.Text.{Text}
 use Rattle.tok_types.specs.Ident.{ident_text}
 use Rattle.tok_types.specs.declared.ident.Ident.{Ident}
 use Rattle.node_make.specs.PathText.{path_text}
+use Rattle.node_core.specs.declared.data.Field.{Field as NodeField}
 use Rattle.node_core.specs.declared.data.«Data».{«Data» as NodeData}
 use Rattle.node_core.specs.declared.data.«Data».TheVariants as node
 use Rattle.node_core.specs.Bodies.{field_list}
 use Rattle.node_core.specs.declared.derive.DeriveInput.{DeriveInput}
+use Rattle.codegen_program.specs.declared.program.Derive.TheVariants as derive
 use Rattle.codegen_core.specs.Compiled.{struct_fields}
 use Rattle.codegen_core.specs.Defaults.{fallback as falls, source}
 use Rattle.codegen_core.specs.declared.default_expression.DefaultExpression.{DefaultExpression as Shown}
@@ -30,8 +32,11 @@ use Rattle.run_accepted.specs.Core.{Core}
 use Rattle.run_accepted.specs.InputField.{InputField}
 use Rattle.run_accepted.specs.Body.{Body, start_body, with_fields, with_variants}
 use Rattle.run_accepted.specs.CoreOptions.{default, same_core}
-use Rattle.options_core.specs.ContainerOptions.{core_items, fdi_named, from_ident_of, meta_core_items, meta_named, outer_items}
-use Rattle.run_accepted.specs.Stages.{container_options, core_with_body, fdi_reader, good_fields, good_variants, meta_reader}
+use Rattle.options_core.specs.Parts.{own_fields}
+use Rattle.options_core.specs.ContainerOptions.{core_items, fdi_named, from_ident_of, outer_items}
+use Rattle.options_core.specs.MetaOptions.{meta_core_items, meta_named}
+use Rattle.run_accepted.specs.Readers.{fdi_reader}
+use Rattle.run_accepted.specs.Stages.{container_options, core_with_body, good_fields, good_variants, meta_reader}
 use Rattle.run_accepted.specs.MemberViews as views
 use Rattle.run_accepted.specs.MemberViews.{AreDefaults, IsBody, IsImpl}
 use Rattle.law_machine.specs.Compiles.{IsDecl, IsField, meant_default, meant_fallback}
@@ -134,11 +139,11 @@ with_is P (container.Enum variants) fields are more = tt
 with_is P (container.Struct it) fields are more = all-append P it.fields fields are more
 
 -- the fields that a container ends with
-whole_is : (rules : Rules) (core : Core) (input : DeriveInput) → IsOwnIfAny core.default → core.body ≡ start_body input.body
-    → AllByRecursion (IsLeft (own_default core.default)) (fields_in (with_fields (start_body input.body) (good_fields rules core (body_fields input.body))))
-whole_is rules core input own is =
+whole_is : (rules : Rules) (core : Core) (it : NodeData) (fields : List NodeField) → IsOwnIfAny core.default
+    → AllByRecursion (IsLeft (own_default core.default)) (fields_in (with_fields (start_body it) (good_fields rules core fields)))
+whole_is rules core it fields own =
     let P = IsLeft (own_default core.default) in
-    with_is P (start_body input.body) (good_fields rules core (body_fields input.body)) (start_is P input.body) (fields_are rules core own (body_fields input.body))
+    with_is P (start_body it) (good_fields rules core fields) (start_is P it) (fields_are rules core own fields)
 
 -- the same of one that takes variants too
 pub meta_whole_is : (rules : Rules) (core : Core) (it : NodeData) → IsOwnIfAny core.default → core.body ≡ start_body it
@@ -159,15 +164,16 @@ meta_whole_is rules core (node.Union it) own is =
     subst Q (sym is) tt
 
 pub input_options_are : InputOptionsAreMeant
-input_options_are rules input left number is no_ident =
+input_options_are rules input left number is bare no_ident =
     let set = container_options (fdi_reader rules input) input in
     let named = outer_items (map fdi_named (items (option_entries input.attrs))) in
     let own =
     replaced_default _ (values _ from_ident_of named)
     (first_default (same_core default.name) None (core_items named) tt) in
     record {
-      base = decl_is left.base _ number _ is.base (whole_is rules set.base.container input own refl);
+      base = decl_is left.base _ number _ is.base (whole_is rules set.base.container input.body (own_fields derive.FromDeriveInput (body_fields input.body)) own);
       attributes = ap (λ names. map path_text names.0) is.names;
+      bare = bare;
       no_ident = no_ident;
     }
 

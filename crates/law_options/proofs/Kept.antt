@@ -26,30 +26,29 @@ use Rattle.codegen_core.specs.Forms.{form_if}
 use Rattle.codegen_core.specs.declared.form.Form.{Form}
 use Rattle.codegen_core.specs.declared.form.Form.TheVariants as form
 use Rattle.codegen_program.specs.declared.callable.Callable.{Callable}
-use Rattle.options_core.specs.Receivers.{call_faults, expr_faults, meta_checks, struct_faults, word_faults}
+use Rattle.options_core.specs.MetaChecks.{call_faults, expr_faults, meta_checks, struct_faults, word_faults}
 use Rattle.options_forms.specs.Forms.{body_forms, call_forms, container_forms, field_forms, generic_forms, has_fields, has_fields_by, is_bare_tuple, is_inherited, is_read_by_fields, is_read_tuple, is_whole, meta_forms, struct_forms, variant_field_forms, variant_forms}
 use Rattle.run_accepted.specs.Body.{Body, body_checks, core_checks, field_meaning, flat_spans, flatten_faults, is_delegated, is_skipped_variant, is_unit, not_single, start_body, transparent_faults, union_faults, variant_inherited, variant_meaning, variant_members, variant_with, with_fields, with_variants}
 use Rattle.run_accepted.specs.Core.{Core}
 use Rattle.run_accepted.specs.DefaultExpression.{DefaultExpression}
 use Rattle.run_accepted.specs.DefaultExpression.TheVariants as defaults
-use Rattle.options_core.specs.declared.from_meta.FromMetaOptions.{FromMetaOptions}
+use Rattle.options_core.specs.FromMetaOptions.{FromMetaOptions}
 use Rattle.run_accepted.specs.InputField.{InputField}
 use Rattle.run_accepted.specs.InputVariant.{InputVariant}
-use Rattle.run_accepted.specs.Entries.{option_entries}
 use Rattle.run_accepted.specs.Members.{body_fields, variants_of as options_variants}
-use Rattle.run_accepted.specs.Rows.{else_faults, list_of}
-use Rattle.run_accepted.specs.Walk.{all_faults}
-use Rattle.run_accepted.specs.Stages.{body_faults, container_options, core_with_body, good_fields, good_variants, meta_reader, options_of}
+use Rattle.run_accepted.specs.Rows.{list_of}
+use Rattle.run_accepted.specs.Stages.{container_options, core_with_body, good_fields, good_variants, meta_reader, options_of}
 use Rattle.run_accepted.specs.Values.{Rules}
-use Rattle.options_core.specs.Views.{body_word, from_word_of}
+use Rattle.options_core.specs.MetaViews.{body_word, from_word_of}
 use Rattle.law_machine.specs.Decl.{Default}
 use Rattle.law_options.specs.Claims.{MetaOptionsAreMeant}
 use Rattle.law_options.specs.Meant.{own_default, read_variants, whole_field}
 use Rattle.law_options.proofs.Declared.{meta_own}
+use Rattle.law_options.proofs.Faultless.{no_body_faults, no_union_faults}
 use Rattle.law_options.proofs.Fields.{Falls, IsLeft, field_is, fields_are, is_skipped}
 use Rattle.law_options.proofs.Metas.{IsEmptyUnit, IsLeftBody, IsLeftForm, IsLeftVariant, IsUncalled, meta_decl_is}
 use Rattle.law_options.proofs.Owns.{IsOwnIfAny, all-append}
-use Rattle.law_options.proofs.Shapes.{none-later, none-left, none-right}
+use Rattle.law_options.proofs.Shapes.{none-left, none-right}
 
 -- ---- tests
 
@@ -325,21 +324,13 @@ module _ (rules : Rules) (set : FromMetaOptions) (own : IsOwnIfAny set.base.defa
       let Q : Body → Type 0 = λ body. IsLeftBody options body in
       subst Q (sym body_is) (body_kept it same union (subst P body_is clear))
 
-none-first : (first later : List Fault) → else_faults first later ≡ [] → first ≡ []
-none-first [] later none = refl
-none-first (fault ∷ more) later none = cc
-
 pub meta_options_are : MetaOptionsAreMeant
 meta_options_are rules input left number variants faults forms is =
     let reader = meta_reader rules input in
     let set = container_options reader input in
     let options = options_of reader input in
-    let union = union_faults (is_union input.body) in
-    let walked = all_faults reader.options reader.item_faults reader.start [] (option_entries input.attrs) in
-    let inside = body_faults reader input in
-    let in_body : inside ≡ [] = none-later walked inside (none-later union (else_faults walked inside) faults) in
     let of_fields = flat_map (reader.field_faults set) (body_fields input.body) in
     let of_variants = flat_map (reader.variant_faults set) (options_variants input.body) in
-    let checks : meta_checks options ≡ [] = none-right (of_fields ++ of_variants) (meta_checks options) in_body in
+    let checks : meta_checks options ≡ [] = none-right (of_fields ++ of_variants) (meta_checks options) (no_body_faults reader input faults) in
     meta_decl_is left options is number variants
-    (kept rules set (meta_own rules input) input.body refl (none-first union (else_faults walked inside) faults) checks forms)
+    (kept rules set (meta_own rules input) input.body refl (no_union_faults reader input faults) checks forms)

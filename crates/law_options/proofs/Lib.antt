@@ -1,5 +1,6 @@
 pub mod Owns
 pub mod Shapes
+pub mod Faultless
 pub mod Fields
 pub mod Declared
 pub mod Metas
@@ -7,5 +8,6 @@ pub mod Words
 pub mod Kept
 pub mod Clear
 pub mod Idents
+pub mod Parts
 pub mod Programs
 pub mod OneProgram

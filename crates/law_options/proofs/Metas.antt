@@ -17,11 +17,11 @@ use Rattle.codegen_core.specs.declared.field.Field.{Field}
 use Rattle.codegen_core.specs.declared.from_meta_impl.FromMetaImpl.{FromMetaImpl}
 use Rattle.codegen_core.specs.declared.variant.Variant.{Variant}
 use Rattle.run_accepted.specs.Body.{Body, is_skipped_variant}
-use Rattle.options_core.specs.declared.from_meta.FromMetaOptions.{FromMetaOptions}
+use Rattle.options_core.specs.FromMetaOptions.{FromMetaOptions}
 use Rattle.run_accepted.specs.InputField.{InputField}
 use Rattle.run_accepted.specs.InputVariant.{InputVariant}
 use Rattle.run_accepted.specs.MemberViews as views
-use Rattle.options_core.specs.Views.{IsMetaImpl, from_word_of}
+use Rattle.options_core.specs.MetaViews.{IsMetaImpl, from_word_of}
 use Rattle.law_machine.specs.Receivers.{ByFields, MetaBody, MetaDecl, StructOf, listed as listed_decl}
 use Rattle.law_machine.specs.Compiles.{HasNoCalls, IsCalled, IsMetaBody, IsMetaDecl, IsOwnForm, IsOwnStruct, IsStructForm, IsVariantDecl, IsVariantForm, meant_word, read_variants as left_variants}
 use Rattle.law_options.specs.Meant.{fields_decl, fields_in, meant_body, meant_decl, meant_form, meant_meta, meant_variant, member_name, own_default, read_variants, sole, variant_fields, whole_field}

@@ -1,5 +1,5 @@
 -- Two programs of the same declarations are equal, since a unit depends on no more than what its options fix.
-use Rattle.std.proofs.Common.{◌≡◌, ◌∙◌, ℕ, suc, ◌+◌, Bool, true, false, ◌||◌, List, [], ◌∷◌, ◌++◌, length, map, Option, Some, None, option_map, refl, sym, ap, ap₂, subst₂}
+use Rattle.std.proofs.Common.{◌≡◌, ◌∙◌, ℕ, suc, ◌+◌, Bool, true, false, cond, ◌||◌, List, [], ◌∷◌, ◌++◌, length, map, Option, Some, None, option_map, refl, sym, ap, ap₂, subst₂}
 use Rattle.std.specs.Prelude.{option_and_then, if◌then◌else◌}
 use Rattle.std.specs.List.{AllZip, cons_option, list_any}
 use Rattle.std.specs.Option.{option_copied}
@@ -12,33 +12,43 @@ use Rattle.node_core.specs.declared.style.Style.{Style}
 use Rattle.node_core.specs.declared.style.Style.TheVariants as style
 use Rattle.body_core.specs.declared.ast.data.«Data».{«Data»}
 use Rattle.body_core.specs.declared.ast.data.«Data».TheVariants as body
+use Rattle.codegen_program.specs.declared.forward.Forward.{Forward}
+use Rattle.codegen_program.specs.declared.forwarded.Forwarded.{Forwarded}
+use Rattle.codegen_program.specs.declared.forwarded.Magic.TheVariants as magic
 use Rattle.codegen_program.specs.declared.program.Derive.{Derive}
 use Rattle.codegen_program.specs.declared.program.Derive.TheVariants as derive
 use Rattle.codegen_program.specs.declared.program.Program.{Program}
 use Rattle.codegen_program.specs.declared.program.«Unit».{«Unit» as Unit'}
-use Rattle.codegen_core.specs.Compiled.{build, call_funcs, closing, fields_of, for_items, funcs_by, funcs_in, input_stmts, list_funcs, list_stmts, meta_funcs, over_attributes, own_funcs, struct_fields}
+use Rattle.codegen_core.specs.Compiled.{build, call_funcs, closing_with, fields_of, for_items, funcs_by, funcs_in, list_funcs, list_stmts, meta_funcs, own_funcs, struct_fields, transform}
 use Rattle.codegen_core.specs.Defaults.{fallback, source}
 use Rattle.codegen_core.specs.Fields.{arm, at_slots, check, check_without, checks_from, core_loop_from, declaration, declarations_from, fallback_of, flatten, flattens, init, inits_from, name_of, named_arm, names}
 use Rattle.codegen_core.specs.Variants.{form_by, member_name, own_form, own_unit_form, proxy_of, read_name, slotted, slotted_by, sole, transparent_field, unit_arm, unit_arms, unit_form_by, variant_arm, variant_arms, variant_names, variant_stmts}
+use Rattle.codegen_program.specs.declared.stmt.Stmt.TheVariants as stmt
 use Rattle.codegen_program.specs.declared.variant.UnitForm.TheVariants as units
 use Rattle.codegen_program.specs.declared.variant.VariantForm.TheVariants as forms
 use Rattle.codegen_core.specs.declared.default_expression.DefaultExpression.{DefaultExpression as Shown}
 use Rattle.codegen_core.specs.declared.default_expression.DefaultExpression.TheVariants as shown
 use Rattle.codegen_core.specs.declared.field.Field.{Field}
-use Rattle.codegen_core.specs.declared.from_derive_impl.FromDeriveInputImpl.{FromDeriveInputImpl}
 use Rattle.codegen_core.specs.declared.from_meta_impl.FromMetaImpl.{FromMetaImpl}
 use Rattle.codegen_core.specs.declared.trait_impl.TraitImpl.{TraitImpl}
 use Rattle.codegen_core.specs.declared.variant.Variant.{Variant}
+use Rattle.codegen_outer.specs.CompiledOuter.{for_attributes, func_stmts, has_whole, outer_stmts, over_attributes, stmts_by, stmts_in, whole_field}
+use Rattle.codegen_outer.specs.Forwarding.{declare_forward, forward_done, forward_of, kept}
+use Rattle.codegen_outer.specs.Outer.{Outer, input_outer}
+use Rattle.codegen_outer.specs.Parts.{field_part, ident_part, read_body, read_generics}
+use Rattle.codegen_outer.specs.Shapes.{input_shapes}
+use Rattle.codegen_outer.specs.declared.from_derive_impl.FromDeriveInputImpl.{FromDeriveInputImpl}
 use Rattle.run_accepted.specs.DefaultExpression.{DefaultExpression}
 use Rattle.run_accepted.specs.DefaultExpression.TheVariants as defaults
 use Rattle.run_accepted.specs.Core.{Core}
 use Rattle.options_core.specs.declared.from_derive.FdiOptions.{FdiOptions}
-use Rattle.options_core.specs.declared.from_meta.FromMetaOptions.{FromMetaOptions}
+use Rattle.options_core.specs.FromMetaOptions.{FromMetaOptions}
 use Rattle.run_accepted.specs.InputField.{InputField}
 use Rattle.run_accepted.specs.InputVariant.{InputVariant}
 use Rattle.run_accepted.specs.Body.{Body}
 use Rattle.run_accepted.specs.MemberViews.{AreDefaults, IsBody, IsField, IsImpl, IsVariant}
-use Rattle.options_core.specs.Views.{IsInputImpl, IsMetaImpl}
+use Rattle.options_core.specs.Views.{IsInputImpl}
+use Rattle.options_core.specs.MetaViews.{IsMetaImpl}
 use Rattle.run_accepted.specs.Values.{Rules}
 use Rattle.run_accepted.specs.Compiled.{IsUnit, IsUnitUnder}
 use Rattle.run_accepted.specs.Pairs.{Pair, pairs_from}
@@ -285,8 +295,8 @@ module _ (one other : TraitImpl) (it : Core) (are : IsImpl one it) (also : IsImp
   same_build : build one ≡ build other
   same_build = cc (same_inits (fields_of one) (fields_of other) fields_have 0)
 
-  same_closing : (from_ident : Bool) → closing from_ident one ≡ closing from_ident other
-  same_closing from_ident =
+  same_closing : (parts : List Forwarded) (from_ident : Bool) → closing_with parts from_ident one ≡ closing_with parts from_ident other
+  same_closing parts from_ident =
       let flattens = same_flattens (fields_of one) (fields_of other) fields_have in
       let checks = same_checks (fields_of one) (fields_of other) fields_have 0 in
       let inits = same_inits (fields_of one) (fields_of other) fields_have 0 in
@@ -294,18 +304,99 @@ module _ (one other : TraitImpl) (it : Core) (are : IsImpl one it) (also : IsImp
       cc (flattens, checks, inits, default.1)
 
   same_list : list_stmts one ≡ list_stmts other
-  same_list = cc (same_declarations (fields_of one) (fields_of other) fields_have 0, same_for_items, same_closing false)
+  same_list = cc (same_declarations (fields_of one) (fields_of other) fields_have 0, same_for_items, same_closing [] false)
 
-  same_over_attributes : (paths : List Text) → over_attributes paths one ≡ over_attributes paths other
-  same_over_attributes [] = refl
-  same_over_attributes (path ∷ paths) = cc same_for_items
+  same_over_attributes : (paths : List Text) (keep : Forward) → over_attributes paths keep one ≡ over_attributes paths keep other
+  same_over_attributes [] keep = refl
+  same_over_attributes (path ∷ paths) keep = cc same_for_items
 
-same_input : (one other : FromDeriveInputImpl) (it : FdiOptions) → IsInputImpl one it → IsInputImpl other it → input_stmts one ≡ input_stmts other
+-- ---- what reads elements
+
+record HaveSameOuter (one other : Outer) : Type 0 where
+  core : Core
+  are : IsImpl one.base core
+  also : IsImpl other.base core
+  derive : one.derive ≡ other.derive
+  names : one.names ≡ other.names
+  filter : option_copied one.forward.filter ≡ option_copied other.forward.filter
+  field : option_copied one.forward.field ≡ option_copied other.forward.field
+  from_ident : one.from_ident ≡ other.from_ident
+  parts : one.parts ≡ other.parts
+  reads : one.reads ≡ other.reads
+
+-- two receivers of the same options of an outer derive compile to the same statements
+module _ (one other : Outer) (have : HaveSameOuter one other) where
+  same_attributes : for_attributes one.names one.forward one.base ≡ for_attributes other.names other.forward other.base
+  same_attributes =
+      same_over_attributes one.base other.base have.core have.are have.also (map path_text one.names) (forward_of one.forward)
+      ∙ (λ k. over_attributes (map path_text (have.names k)) (kept (have.field k) (have.filter k)) other.base)
+
+  same_ending : closing_with one.parts one.from_ident one.base ≡ closing_with other.parts other.from_ident other.base
+  same_ending =
+      same_closing one.base other.base have.core have.are have.also one.parts one.from_ident
+      ∙ (λ k. closing_with (have.parts k) (have.from_ident k) other.base)
+
+  same_outer : outer_stmts one ≡ outer_stmts other
+  same_outer =
+      let declared = same_declarations (fields_of one.base) (fields_of other.base) (fields_have one.base other.base have.core have.are have.also) 0 in
+      λ k. stmt.DeclareErrors
+      ∷ (declared k ++ (declare_forward (have.field k) ++ (same_attributes k ++ (forward_done (have.field k) ++ (have.reads k ++ same_ending k)))))
+
+  same_stmts_by : (left right : Option Field) → SameProxy left right → (it : Style) → stmts_by left it one ≡ stmts_by right it other
+  same_stmts_by None None same it = same_outer
+  same_stmts_by (Some left) (Some right) same it =
+      let ident : one.base.ident.now ≡ other.base.ident.now = have.are.ident ∙ sym have.also.ident in
+      let ty : left.ty.now ≡ right.ty.now = same.are.ty ∙ sym same.also.ty in
+      let post : option_copied one.base.post_transform ≡ option_copied other.base.post_transform = have.are.transform ∙ sym have.also.transform in
+      λ k. stmt.Delegate (ident k) (same_member it left right same k) (ty k) ∷ transform (post k)
+  same_stmts_by left right same it = absurd (assumption)
+
+  same_whole : (whole transparent : Bool) (it : Style) (lefts rights : List Field) → AllZip HaveSameOptions lefts rights
+      → SameProxy (cond whole (transparent_field transparent it lefts) None) (cond whole (transparent_field transparent it rights) None)
+  same_whole true transparent it lefts rights both = same_proxy transparent it lefts rights both
+  same_whole false transparent it lefts rights both = tt
+
+  same_stmts_in : (left : «Data» Variant Field) (it : Body) (right : «Data» Variant Field) → IsBody have.core.ident left it → IsBody have.core.ident right it
+      → stmts_in one left ≡ stmts_in other right
+  same_stmts_in (body.Struct left) (body.Struct it) (body.Struct right) left_is right_is =
+      let both = both_have it.fields left.fields right.fields left_is.1 right_is.1 in
+      let transparent : one.base.transparent ≡ other.base.transparent = have.are.transparent ∙ sym have.also.transparent in
+      let how : left.style ≡ right.style = left_is.0 ∙ sym right_is.0 in
+      let beside : Option Field = cond (has_whole one.derive) (transparent_field one.base.transparent left.style right.fields) None in
+      same_stmts_by (whole_field one left) beside (same_whole (has_whole one.derive) one.base.transparent left.style left.fields right.fields both) left.style
+      ∙ (λ k. stmts_by (cond (has_whole (have.derive k)) (transparent_field (transparent k) (how k) right.fields) None) (how k) other)
+  same_stmts_in (body.Enum lefts) (body.Enum its) (body.Enum rights) left_is right_is = same_outer
+  same_stmts_in left it right left_is right_is = absurd (assumption)
+
+  same_func : func_stmts one ≡ func_stmts other
+  same_func = same_stmts_in one.base.body have.core.body other.base.body have.are.members have.also.members
+
+same_input : (one other : FromDeriveInputImpl) (it : FdiOptions) → IsInputImpl one it → IsInputImpl other it
+    → func_stmts (input_outer one) ≡ func_stmts (input_outer other)
 same_input one other it are also =
-    let core = it.base.container in
-    let declarations = same_declarations (fields_of one.base) (fields_of other.base) (fields_have one.base other.base core are.base also.base) 0 in
-    let attributes = same_over_attributes one.base other.base core are.base also.base (map path_text one.attr_names.now.0) in
-    cc (declarations, attributes, same_closing one.base other.base core are.base also.base one.from_ident)
+    let ident : option_copied one.ident ≡ option_copied other.ident = are.ident ∙ sym also.ident in
+    let vis : option_copied one.vis ≡ option_copied other.vis = are.vis ∙ sym also.vis in
+    let attrs : option_copied one.forward_attrs.field ≡ option_copied other.forward_attrs.field = are.forward.field ∙ sym also.forward.field in
+    let generics : option_copied one.generics ≡ option_copied other.generics = are.generics ∙ sym also.generics in
+    let body : option_copied one.body ≡ option_copied other.body = are.body ∙ sym also.body in
+    let supports : option_copied one.supports ≡ option_copied other.supports = are.supports ∙ sym also.supports in
+    let parts : (input_outer one).parts ≡ (input_outer other).parts = λ k.
+    field_part magic.Ident (ident k)
+    ++ (ident_part magic.Vis (vis k)
+    ++ (field_part magic.Attrs (attrs k) ++ (field_part magic.Generics (generics k) ++ field_part magic.Body (body k)))) in
+    same_func (input_outer one) (input_outer other)
+    (record {
+      core = it.base.container;
+      are = are.base;
+      also = also.base;
+      derive = refl;
+      names = ap (λ names. names.0) (are.names ∙ sym also.names);
+      filter = are.forward.filter ∙ sym also.forward.filter;
+      field = attrs;
+      from_ident = are.from_ident ∙ sym also.from_ident;
+      parts = parts;
+      reads = λ k. stmt.CheckShape (input_shapes (supports k)) ∷ (read_body (body k) ++ read_generics (generics k));
+    })
 
 -- ---- what reads items
 

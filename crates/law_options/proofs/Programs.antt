@@ -13,8 +13,9 @@ use Rattle.node_core.specs.declared.derive.DeriveInput.{DeriveInput}
 use Rattle.codegen_program.specs.declared.program.Derive.{Derive}
 use Rattle.codegen_program.specs.declared.program.Derive.TheVariants as derive
 use Rattle.codegen_program.specs.declared.program.«Unit».{«Unit» as Unit'}
-use Rattle.codegen_core.specs.Compiled.{compiled_derive_input, compiled_meta}
+use Rattle.codegen_core.specs.Compiled.{compiled_meta}
 use Rattle.codegen_core.specs.declared.from_meta_impl.FromMetaImpl.{FromMetaImpl}
+use Rattle.codegen_outer.specs.CompiledOuter.{compiled_derive_input}
 use Rattle.run_accepted.specs.Made.{named_type}
 use Rattle.machine_steps.specs.Machine.{unit_under, unit_type}
 use Rattle.law_machine.specs.Receivers.{MetaDecl}
@@ -25,7 +26,7 @@ use Rattle.run_accepted.specs.Stages.{meta_reader, options_of}
 use Rattle.run_accepted.specs.Attributes.{body_without, fields_without, without_attributes}
 use Rattle.run_accepted.specs.Compiled.{IsUnit, IsUnitUnder}
 use Rattle.machine_steps.specs.Receivers.{body_style, declared_style, declared_variants, variants_of}
-use Rattle.options_core.specs.Views.{IsMetaImpl}
+use Rattle.options_core.specs.MetaViews.{IsMetaImpl}
 use Rattle.run_accepted.specs.Derives.{derives_of}
 use Rattle.run_accepted.specs.Forms.{forms_under}
 use Rattle.run_accepted.specs.Unbuilt.{IsBuilt, are_named, has_named_fields, input_places}
@@ -44,6 +45,7 @@ use Rattle.law_options.specs.Claims.{ProgramIsMeant}
 use Rattle.law_options.specs.Texts.{decls_under, input_decl, meta_decls, pair_decls}
 use Rattle.law_options.proofs.Idents.{no_ident}
 use Rattle.law_options.proofs.Owns.{all-append}
+use Rattle.law_options.proofs.Parts.{is_bare}
 
 -- the unit of the number that is asked for, or a later one
 chosen : (bare : List DeriveInput) (test : Bool) (unit : Unit') (decl : MetaDecl) (units : Option Unit') (decls : Option MetaDecl)
@@ -147,6 +149,6 @@ program_is_meant host rules decls program number decl unit subject is faultless 
     (λ asked.
     units_are rules program.decls asked (pairs_from 0 decls) program.units (each_faultless rules (pairs_from 0 decls) faultless) (each_supported rules decls supported)
     (bare_pairs program.decls 0 decls bare_all) is.units)
-    (left, compiled, input_options_are rules decl left number left_is (left_is.ident ∙ no_ident rules decl input), ap unit_type compiled ∙ ap (λ ident. named_type ident.text) left_is.base.ident)
+    (left, compiled, input_options_are rules decl left number left_is (is_bare rules decl input left left_is) (left_is.from_ident ∙ no_ident rules decl input), ap unit_type compiled ∙ ap (λ ident. named_type ident.text) left_is.base.ident)
     braced
     ∙ ap (λ bare. let setting : Setting = record { host = host; decls = bare } in Some (declared_meaning setting (meta_decls rules decls) meant subject)) is.bare

@@ -27,6 +27,10 @@ pub none-right : {A : Type 0} (xs ys : List A) → xs ++ ys ≡ [] → ys ≡ []
 none-right [] ys is = is
 none-right (x ∷ xs) ys is = cc
 
+pub none-first : (first later : List Fault) → else_faults first later ≡ [] → first ≡ []
+none-first [] later none = refl
+none-first (fault ∷ more) later none = cc
+
 pub none-later : (first later : List Fault) → else_faults first later ≡ [] → later ≡ []
 none-later [] later is = is
 none-later (fault ∷ more) later is = cc

@@ -8,9 +8,9 @@ use Rattle.node_core.specs.declared.data.«Data».TheVariants as body
 use Rattle.codegen_program.specs.declared.callable.Callable.{Callable}
 use Rattle.machine_steps.specs.Calls.{are_none, is_written, word_closure, word_variant}
 use Rattle.run_accepted.specs.Attributes.{body_without, fields_without, variant_without}
-use Rattle.options_core.specs.declared.from_meta.FromMetaOptions.{FromMetaOptions}
+use Rattle.options_core.specs.FromMetaOptions.{FromMetaOptions}
 use Rattle.machine_steps.specs.Receivers.{variants_of}
-use Rattle.options_core.specs.Views.{from_word_of}
+use Rattle.options_core.specs.MetaViews.{from_word_of}
 use Rattle.law_machine.specs.Compiles.{meant_word, word_by}
 use Rattle.law_machine.specs.Receivers.{MetaDecl, Word}
 use Rattle.law_options.specs.Meant.{meant_meta}

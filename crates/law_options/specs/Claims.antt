@@ -3,15 +3,18 @@ use Rattle.std.specs.Prelude.{◌≡◌, ℕ, true, false, List, [], Some, None,
 use Rattle.std.specs.List.{All}
 use Rattle.node_core.specs.declared.data.Variant.{Variant}
 use Rattle.node_core.specs.declared.derive.DeriveInput.{DeriveInput}
-use Rattle.codegen_core.specs.declared.from_derive_impl.FromDeriveInputImpl.{FromDeriveInputImpl}
 use Rattle.codegen_core.specs.declared.from_meta_impl.FromMetaImpl.{FromMetaImpl}
+use Rattle.codegen_outer.specs.Bare.{IsBare}
+use Rattle.codegen_outer.specs.declared.from_derive_impl.FromDeriveInputImpl.{FromDeriveInputImpl}
 use Rattle.codegen_program.specs.declared.program.Derive.TheVariants as derive
 use Rattle.codegen_program.specs.declared.program.Program.{Program}
 use Rattle.codegen_program.specs.declared.program.«Unit».{«Unit» as Unit'}
 use Rattle.run_accepted.specs.Values.{Rules}
 use Rattle.options_forms.specs.Forms.{meta_forms}
-use Rattle.run_accepted.specs.Stages.{fdi_reader, meta_reader, option_faults, options_of}
-use Rattle.options_core.specs.Views.{IsInputImpl, IsMetaImpl}
+use Rattle.run_accepted.specs.Readers.{fdi_reader}
+use Rattle.run_accepted.specs.Stages.{meta_reader, option_faults, options_of}
+use Rattle.options_core.specs.Views.{IsInputImpl}
+use Rattle.options_core.specs.MetaViews.{IsMetaImpl}
 use Rattle.law_machine.specs.Compiles.{IsInputDecl, IsMetaDecl}
 use Rattle.run_accepted.specs.HostSays.{HostSays}
 use Rattle.machine_steps.specs.Machine.{machine}
@@ -23,11 +26,11 @@ use Rattle.run_accepted.specs.Unbuilt.{IsBuilt, derives_input}
 use Rattle.law_options.specs.Meant.{meant_input, meant_meta}
 use Rattle.law_options.specs.Texts.{text_meaning}
 
--- what is compiled from the options of `FromDeriveInput` is of the declaration that they mean
+-- what is compiled from the options of `FromDeriveInput` is of the declaration that they mean, where it reads attributes alone
 abbrev pub InputOptionsAreMeant : Type 0
 InputOptionsAreMeant =
     (rules : Rules) (input : DeriveInput) (left : FromDeriveInputImpl) (number : ℕ)
-    → IsInputImpl left (options_of (fdi_reader rules input) input) → left.from_ident ≡ false
+    → IsInputImpl left (options_of (fdi_reader rules input) input) → IsBare left → left.from_ident ≡ false
     → IsInputDecl left (meant_input number (options_of (fdi_reader rules input) input))
 
 -- the same of `FromMeta`, where options have no faults and show no form without a program

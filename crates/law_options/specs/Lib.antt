@@ -9,6 +9,7 @@ pub use Rattle.run_accepted.specs.HostSays
 pub use Rattle.run_accepted.specs.InputField
 pub use Rattle.run_accepted.specs.Members
 pub use Rattle.run_accepted.specs.Places
+pub use Rattle.run_accepted.specs.Readers
 pub use Rattle.run_accepted.specs.Rows
 pub use Rattle.run_accepted.specs.Stages
 pub use Rattle.run_accepted.specs.Table

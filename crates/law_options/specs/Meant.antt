@@ -17,10 +17,10 @@ use Rattle.run_accepted.specs.Rows.{holds}
 use Rattle.run_accepted.specs.Body.{Body, is_skipped_variant}
 use Rattle.run_accepted.specs.Core.{Core}
 use Rattle.options_core.specs.declared.from_derive.FdiOptions.{FdiOptions}
-use Rattle.options_core.specs.declared.from_meta.FromMetaOptions.{FromMetaOptions}
+use Rattle.options_core.specs.FromMetaOptions.{FromMetaOptions}
 use Rattle.run_accepted.specs.InputField.{InputField}
 use Rattle.run_accepted.specs.InputVariant.{InputVariant}
-use Rattle.options_core.specs.Views.{from_word_of}
+use Rattle.options_core.specs.MetaViews.{from_word_of}
 use Rattle.law_machine.specs.Left.{shape_of}
 
 -- a default of one's own; what is inherited is the container's

@@ -12,7 +12,8 @@ use Rattle.law_machine.specs.Decl.{Decl}
 use Rattle.law_machine.specs.Receivers.{MetaDecl}
 use Rattle.law_machine.specs.Declarations.{declared_meaning}
 use Rattle.run_accepted.specs.Values.{Rules}
-use Rattle.run_accepted.specs.Stages.{fdi_reader, meta_reader, options_of}
+use Rattle.run_accepted.specs.Readers.{fdi_reader}
+use Rattle.run_accepted.specs.Stages.{meta_reader, options_of}
 use Rattle.run_accepted.specs.Attributes.{without_attributes}
 use Rattle.run_accepted.specs.Pairs.{Pair, pairs_from}
 use Rattle.law_options.specs.Meant.{meant_input, meant_meta}

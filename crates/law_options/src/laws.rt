@@ -2,7 +2,8 @@
 
 ghost use Rattle.law_options.specs.Claims.{InputOptionsAreMeant, MetaOptionsAreMeant, ProgramIsMeant, ProgramIsOne};
 
-/// What is compiled from the options of a receiver that derives `FromDeriveInput` is of the declaration that they mean.
+/// What is compiled from the options of a receiver that derives `FromDeriveInput`, and reads attributes alone, is of the
+/// declaration that they mean.
 pub fn input_options_are_meant()
     ensures { InputOptionsAreMeant }
 {}

@@ -34,7 +34,7 @@ each-weaker P Q weaker [] are = tt
 each-weaker P Q weaker (x ∷ xs) are = (weaker x are.0, each-weaker P Q weaker xs are.1)
 
 -- a list of places is empty, where nothing is told
-told-not : (test : Bool) (span : Span) → cond test (span ∷ []) [] ≡ [] → test ≡ false
+pub told-not : (test : Bool) (span : Span) → cond test (span ∷ []) [] ≡ [] → test ≡ false
 told-not true span is = cc
 told-not false span is = refl
 
@@ -108,3 +108,9 @@ module _ (decl : DeriveInput) (built : input_places decl ≡ []) where
       each-weaker (λ item. option_places item ≡ []) (λ item. is_unbuilt_word (word_of (path_of_meta item)) ≡ false)
       (λ item. told-not (is_unbuilt_word (word_of (path_of_meta item))) (meta_span item)) (items (option_entries decl.attrs))
       (each-none option_places (items (option_entries decl.attrs)) (none-right (body_places decl) of_options first_two))
+
+  -- no field has the name of a part
+  pub no_part_names : AllByRecursion (λ field. field_places field ≡ []) (body_fields decl.body)
+  no_part_names =
+      each-none field_places (body_fields decl.body)
+      (none-right (body_places decl ++ of_options) (flat_map field_places (body_fields decl.body)) built)

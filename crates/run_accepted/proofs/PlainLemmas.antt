@@ -25,7 +25,7 @@ use Rattle.options_rows.specs.Rows.{OptionRow, first_of, list_of, name_in, value
 use Rattle.options_rows.specs.Values.{Rules, present_of, word_of}
 use Rattle.options_core.specs.Body.{Body, core_with, start_body, with_fields}
 use Rattle.options_core.specs.MemberViews.{IsBody, IsImpl}
-use Rattle.options_core.specs.Views.{IsMetaImpl, body_word}
+use Rattle.options_core.specs.MetaViews.{IsMetaImpl, body_word}
 use Rattle.options_core.specs.Core.{Core}
 use Rattle.body_core.specs.declared.ast.data.«Data».{«Data» as Data'}
 use Rattle.body_core.specs.declared.ast.data.«Data».TheVariants as container
@@ -40,15 +40,26 @@ use Rattle.codegen_core.specs.declared.from_meta_impl.FromMetaImpl.{FromMetaImpl
 use Rattle.codegen_core.specs.declared.field.Field.{Field}
 use Rattle.codegen_core.specs.declared.trait_impl.TraitImpl.{TraitImpl}
 use Rattle.codegen_core.specs.declared.variant.Variant.{Variant}
-use Rattle.options_core.specs.ContainerOptions.{core_item, core_items, fdi_named, fdi_table, from_expr, from_none, from_word, meta_core_item, meta_core_items, meta_name_of, meta_named, meta_table, outer_item, outer_items, outer_table, same_meta}
+use Rattle.options_core.specs.MetaOptions.{from_expr, from_none, from_word, meta_core_item, meta_core_items, meta_name_of, meta_named, meta_table, same_meta}
+use Rattle.options_core.specs.ContainerOptions.{core_item, core_items, fdi_named, fdi_table, outer_item, outer_items, outer_table}
 use Rattle.options_core.specs.CoreOptions.{core_name_of, core_table, same_core, transparent}
-use Rattle.options_core.specs.declared.names.MetaName.{MetaName}
-use Rattle.options_core.specs.Stages.{container_options, core_with_body, fdi_reader, good_fields, meta_reader, options_of}
+use Rattle.options_core.specs.MetaName.{MetaName}
+use Rattle.options_core.specs.Stages.{container_options, core_with_body, good_fields, meta_reader, options_of}
+use Rattle.options_core.specs.Readers.{fdi_reader}
 use Rattle.options_core.specs.InputField.{InputField}
 use Rattle.run_accepted.specs.Plain.{IsPlainDecl, is_other_word}
 use Rattle.run_accepted.specs.Unbuilt.{are_named, has_named_fields, input_places, is_unbuilt_word}
 use Rattle.run_accepted.proofs.BuiltLemmas.{each-weaker, named, no_words}
-use Rattle.run_accepted.specs.Steps.{HasBraces, IsPlainCore}
+
+-- the options are those of a struct with braces
+abbrev pub HasBraces : Body → Type 0
+HasBraces (container.Struct it) = it.style ≡ style.Struct
+HasBraces (container.Enum variants) = ⊥
+
+-- which is not read as its one field is
+pub record IsPlainCore (core : Core) : Type 0 where
+  pub braces : HasBraces core.body
+  pub alone : core.transparent.0 ≡ None
 
 -- braces
 
@@ -228,7 +239,7 @@ has_named ty (container.Struct left) (container.Enum variants) same is = absurd 
 has_named ty (container.Enum variants) (container.Struct it) same is = absurd same
 has_named ty (container.Enum variants) (container.Enum others) same is = absurd is
 
-left_is_plain : (left : TraitImpl) (core : Core) → IsImpl left core → IsPlainCore core → IsPlain left
+pub left_is_plain : (left : TraitImpl) (core : Core) → IsImpl left core → IsPlainCore core → IsPlain left
 left_is_plain left core same plain = (has_named core.ident left.body core.body same.members plain.braces, same.transparent ∙ ap is_some plain.alone)
 
 -- ---- the unit of `FromMeta`

@@ -6,14 +6,17 @@ use Rattle.codegen_program.specs.declared.program.Derive.{Derive}
 use Rattle.codegen_program.specs.declared.program.Derive.TheVariants as derive
 use Rattle.codegen_program.specs.declared.program.Program.{Program}
 use Rattle.codegen_program.specs.declared.program.«Unit».{«Unit» as Unit'}
-use Rattle.codegen_core.specs.Compiled.{compiled_derive_input, compiled_meta}
-use Rattle.codegen_core.specs.declared.from_derive_impl.FromDeriveInputImpl.{FromDeriveInputImpl}
+use Rattle.codegen_core.specs.Compiled.{compiled_meta}
 use Rattle.codegen_core.specs.declared.from_meta_impl.FromMetaImpl.{FromMetaImpl}
+use Rattle.codegen_outer.specs.CompiledOuter.{compiled_derive_input}
+use Rattle.codegen_outer.specs.declared.from_derive_impl.FromDeriveInputImpl.{FromDeriveInputImpl}
 use Rattle.options_rows.specs.Values.{Rules}
-use Rattle.options_core.specs.Stages.{fdi_reader, meta_reader, options_of}
-use Rattle.options_core.specs.Views.{IsInputImpl, IsMetaImpl}
+use Rattle.options_core.specs.Stages.{meta_reader, options_of}
+use Rattle.options_core.specs.MetaViews.{IsMetaImpl}
+use Rattle.options_core.specs.FromMetaOptions.{FromMetaOptions}
+use Rattle.options_core.specs.Readers.{fdi_reader}
+use Rattle.options_core.specs.Views.{IsInputImpl}
 use Rattle.options_core.specs.declared.from_derive.FdiOptions.{FdiOptions}
-use Rattle.options_core.specs.declared.from_meta.FromMetaOptions.{FromMetaOptions}
 use Rattle.run_accepted.specs.Attributes.{without_attributes}
 use Rattle.run_accepted.specs.declared.rejected.CompileFail.{CompileFail}
 use Rattle.run_accepted.specs.declared.rejected.CompileFail.TheVariants as fails

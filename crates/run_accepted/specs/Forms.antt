@@ -7,8 +7,9 @@ use Rattle.codegen_core.specs.declared.form.Unsupported.{Unsupported}
 use Rattle.machine_forms.specs.Forms.{declared_forms}
 use Rattle.machine_forms.specs.Places.{earliest_of}
 use Rattle.options_rows.specs.Values.{Rules}
-use Rattle.options_core.specs.Stages.{fdi_reader, meta_reader, options_of}
+use Rattle.options_core.specs.Stages.{meta_reader, options_of}
 use Rattle.options_forms.specs.Forms.{input_forms, meta_forms}
+use Rattle.options_core.specs.Readers.{fdi_reader}
 use Rattle.run_accepted.specs.Derives.{derives_of}
 use Rattle.run_accepted.specs.declared.derives.Derived.{Derived}
 

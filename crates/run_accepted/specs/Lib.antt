@@ -21,6 +21,7 @@ pub use Rattle.options_core.specs.FieldLaws
 pub use Rattle.options_core.specs.FieldOptions
 pub use Rattle.options_core.specs.SpannedValue
 pub use Rattle.options_core.specs.MemberViews
+pub use Rattle.options_core.specs.Readers
 pub use Rattle.options_core.specs.Stages
 pub use Rattle.options_core.specs.Core
 pub use Rattle.options_core.specs.InputField

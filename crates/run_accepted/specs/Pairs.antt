@@ -6,7 +6,8 @@ use Rattle.error_fault.specs.declared.fault.Fault.{Fault}
 use Rattle.codegen_program.specs.declared.program.Derive.{Derive}
 use Rattle.codegen_program.specs.declared.program.Derive.TheVariants as derive
 use Rattle.options_rows.specs.Values.{Rules}
-use Rattle.options_core.specs.Stages.{fdi_reader, meta_reader, option_faults}
+use Rattle.options_core.specs.Stages.{meta_reader, option_faults}
+use Rattle.options_core.specs.Readers.{fdi_reader}
 use Rattle.run_accepted.specs.Derives.{derives_of}
 use Rattle.run_accepted.specs.declared.rejected.Rejected.{Rejected}
 

@@ -5,27 +5,13 @@ use Rattle.error_core.specs.ErrorView.{leaves}
 use Rattle.error_core.specs.declared.fail.Fail.{Fail}
 use Rattle.error_core.specs.declared.fail.Fail.TheVariants as told
 use Rattle.node_core.specs.declared.derive.DeriveInput.{DeriveInput}
-use Rattle.node_core.specs.declared.style.Style.TheVariants as style
 use Rattle.codegen_program.specs.declared.program.Derive.{Derive}
 use Rattle.codegen_program.specs.declared.program.«Unit».{«Unit» as Unit'}
-use Rattle.body_core.specs.declared.ast.data.«Data».TheVariants as body
 use Rattle.options_rows.specs.Values.{Rules}
-use Rattle.options_core.specs.Body.{Body}
-use Rattle.options_core.specs.Core.{Core}
 use Rattle.run_accepted.specs.declared.rejected.CompileFail.{CompileFail}
 use Rattle.run_accepted.specs.declared.rejected.CompileFail.TheVariants as fails
 use Rattle.run_accepted.specs.Compiled.{IsUnit, IsUnitUnder}
 use Rattle.run_accepted.specs.Pairs.{Pair, faults_under, rejected, rejected_with}
-
--- the options are those of a struct with braces
-abbrev pub HasBraces : Body → Type 0
-HasBraces (body.Struct it) = it.style ≡ style.Struct
-HasBraces (body.Enum variants) = ⊥
-
--- which is not read as its one field is
-pub record IsPlainCore (core : Core) : Type 0 where
-  pub braces : HasBraces core.body
-  pub alone : core.transparent.0 ≡ None
 
 -- why options with faults compile to no unit
 abbrev pub rejection : DeriveInput → Derive → Fail → CompileFail

@@ -1,8 +1,9 @@
 //! Forms of declarations that have no program, or that no run supports.
 
 ghost use Rattle.std.specs.Prelude.{◌≡◌, ◌++◌, flat_map, IfOk, OnOk};
-ghost use Rattle.options_core.specs.Stages.{fdi_reader, meta_reader, options_of};
+ghost use Rattle.options_core.specs.Stages.{meta_reader, options_of};
 ghost use Rattle.options_forms.specs.Forms.{input_forms, meta_forms};
+ghost use Rattle.options_core.specs.Readers.{fdi_reader};
 ghost use Rattle.run_accepted.specs.Forms as spec;
 
 use crate::{Derived, derives_of};

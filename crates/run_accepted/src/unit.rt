@@ -1,15 +1,13 @@
 //! What one derive of a declaration compiles to.
 
-ghost use Rattle.std.specs.Prelude.{◌≡◌, ◌<◌, ◌^◌, ◌↔◌, [], length, IsTrue, IfOk};
-ghost use Rattle.codegen_core.specs.Compiled.{fields_of};
-ghost use Rattle.run_accepted.specs.Unbuilt.{IsBuiltUnder, input_places};
+ghost use Rattle.std.specs.Prelude.{◌≡◌, IfOk};
+ghost use Rattle.run_accepted.specs.Unbuilt.{IsBuiltUnder};
 ghost use Rattle.run_accepted.specs.Compiled as spec;
 ghost use Rattle.run_accepted.specs.Steps as steps;
 
 use crate::rejected::{CompileFail, Rejected};
 use base_core::{Mem, TryClone};
-use body_core::ast::Data;
-use codegen_core::TraitImpl;
+use codegen_outer::OuterFromImpl;
 use codegen_program::{Derive, Unit};
 use error_core::Fail;
 use node_core::DeriveInput;
@@ -56,7 +54,6 @@ fn input_unit(
     number: u32,
     table: &RenameTable,
 ) -> Result<Unit, CompileFail>
-    requires { input_places decl.now ≡ [] }
     ensures { steps.MakesUnit table.now number decl.now Derive.FromDeriveInput result }
 {
     match FdiOptions::new(alloc, decl, table) {
@@ -77,24 +74,13 @@ fn compiled_meta(alloc: Global, options: &FromMetaOptions, number: u32) -> Mem<U
 }
 
 fn compiled_input(alloc: Global, options: &FdiOptions, number: u32) -> Mem<Unit>
-    requires { steps.IsPlainCore options.now.base.container }
     ensures { IfOk result (λ unit. spec.IsInputUnit options.now number unit) }
 {
     let left = options.as_impl(alloc)?;
-    if has_few_fields(&left.base) {
+    if left.base.has_few_fields() {
         return left.unit_of(alloc, number);
     }
     Err(AllocError)
-}
-
-/// Whether a `u32` counts the fields.
-fn has_few_fields(base: &TraitImpl) -> bool
-    ensures { IsTrue result ↔ (length (fields_of base.now) < 2 ^ 32) }
-{
-    match &base.body {
-        Data::Struct(it) => u32::try_from(it.fields.len()).is_ok(),
-        Data::Enum(_) => true,
-    }
 }
 
 /// The declaration and the derive with the faults of the options.

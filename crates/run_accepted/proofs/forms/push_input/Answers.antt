@@ -1,7 +1,8 @@
 use Rattle.std.proofs.Common.{◌≡◌, ◌++◌, OnOk, subst, sym}
-use Rattle.options_core.specs.Stages.{fdi_reader, option_faults, options_of}
-use Rattle.options_core.specs.declared.from_derive.FdiOptions.{FdiOptions}
+use Rattle.options_core.specs.Stages.{option_faults, options_of}
 use Rattle.options_forms.specs.Forms.{input_forms}
+use Rattle.options_core.specs.Readers.{fdi_reader}
+use Rattle.options_core.specs.declared.from_derive.FdiOptions.{FdiOptions}
 use Rattle.run_accepted.proofs.OutcomeLemmas.{no_faults}
 use Rattle.run_accepted.proofs.forms.push_input.Goals as goal
 

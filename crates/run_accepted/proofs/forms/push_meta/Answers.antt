@@ -1,6 +1,6 @@
 use Rattle.std.proofs.Common.{◌≡◌, ◌++◌, OnOk, subst, sym}
 use Rattle.options_core.specs.Stages.{meta_reader, option_faults, options_of}
-use Rattle.options_core.specs.declared.from_meta.FromMetaOptions.{FromMetaOptions}
+use Rattle.options_core.specs.FromMetaOptions.{FromMetaOptions}
 use Rattle.options_forms.specs.Forms.{meta_forms}
 use Rattle.run_accepted.proofs.OutcomeLemmas.{no_faults}
 use Rattle.run_accepted.proofs.forms.push_meta.Goals as goal

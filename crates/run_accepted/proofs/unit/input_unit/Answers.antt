@@ -1,19 +1,10 @@
 use Rattle.std.proofs.Common.{subst, sym}
-use Rattle.options_core.specs.Stages.{option_faults, options_of, fdi_reader}
+use Rattle.options_core.specs.Stages.{option_faults, options_of}
+use Rattle.options_core.specs.Readers.{fdi_reader}
 use Rattle.options_core.specs.declared.from_derive.FdiOptions.{FdiOptions}
 use Rattle.run_accepted.specs.Compiled.{IsInputUnit}
-use Rattle.run_accepted.specs.Steps.{IsPlainCore}
 use Rattle.run_accepted.proofs.OutcomeLemmas.{no_faults}
-use Rattle.run_accepted.proofs.PlainLemmas.{input_is_plain}
 use Rattle.run_accepted.proofs.unit.input_unit.Goals as goal
-
-pub compiled_input-requires : goal.compiled_input-requires
-compiled_input-requires c =
-    let decl = c.args.decl.now in
-    let rules = c.args.table.now in
-    let got = no_faults (option_faults (fdi_reader rules decl) decl) (options_of (fdi_reader rules decl) decl) c.in-Ok.options c.in-Ok.ensures in
-    let P : FdiOptions → Type 0 = λ options. IsPlainCore options.base.container in
-    subst P got.1 (input_is_plain rules decl c.requires)
 
 pub returns-in_ok-compiled_input-in-Ok : goal.returns-in_ok-compiled_input-in-Ok
 returns-in_ok-compiled_input-in-Ok c =

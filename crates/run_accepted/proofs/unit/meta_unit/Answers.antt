@@ -1,6 +1,6 @@
 use Rattle.std.proofs.Common.{subst, sym}
 use Rattle.options_core.specs.Stages.{option_faults, options_of, meta_reader}
-use Rattle.options_core.specs.declared.from_meta.FromMetaOptions.{FromMetaOptions}
+use Rattle.options_core.specs.FromMetaOptions.{FromMetaOptions}
 use Rattle.run_accepted.specs.Compiled.{IsMetaUnit}
 use Rattle.run_accepted.proofs.OutcomeLemmas.{no_faults}
 use Rattle.run_accepted.proofs.unit.meta_unit.Goals as goal
