@@ -7,7 +7,8 @@ use crate::ask::places;
 use crate::sources::{derive_name, item_of, items_of};
 use crate::statements::looked_up;
 use body_core::ast::{Data, Fields, Style};
-use codegen_core::{Field, FromDeriveInputImpl, OverrideableCallable, TraitImpl};
+use codegen_core::{Field, OverrideableCallable, TraitImpl};
+use codegen_outer::{ForwardAttrs, FromDeriveInputImpl, OuterFromImpl};
 use codegen_program::{Decls, Program, Unit};
 use error_fault::fault_line;
 use machine_execute::{Element, Outcome, try_execute};
@@ -165,7 +166,16 @@ pub fn by_hand(alloc: Global, row: &str) -> Tested<Program> {
             krate: Some(&usual),
         },
         attr_names: &attr_names,
+        forward_attrs: ForwardAttrs {
+            filter: None,
+            field: None,
+        },
+        ident: None,
+        vis: None,
+        generics: None,
+        body: None,
         from_ident: true,
+        supports: None,
     };
     let units = Items::of(alloc, receiver.unit_of(alloc, 0)?)?;
     let decls = Decls::new(alloc, Items::of(alloc, item.try_clone(alloc)?)?)?;

@@ -3,9 +3,9 @@
 use crate::ask::rows;
 use crate::programs::ran;
 use crate::sources::{item_of, items_of};
-use body_core::ast::Data;
+use codegen_outer::OuterFromImpl;
 use codegen_program::{Decls, Program, Unit};
-use node_core::{DeriveInput, Items, Style, Text};
+use node_core::{DeriveInput, Items, Text};
 use options_core::{FdiOptions, FromMetaOptions};
 use std::alloc::Global;
 use std::test::Fail;
@@ -135,15 +135,10 @@ fn input_unit(alloc: Global, decl: &DeriveInput, number: u32) -> Tested<Unit> {
         return Err(Fail::new(format_args!("options have faults")));
     };
     let left = options.as_impl(alloc)?;
-    if let Data::Struct(fields) = &left.base.body {
-        if left.base.transparent || fields.fields.len() > 100 {
-            return Err(Fail::new(format_args!("it is read otherwise")));
-        }
-        if let Style::Struct = fields.style {
-            return Ok(left.unit_of(alloc, number)?);
-        }
+    if !left.base.has_few_fields() {
+        return Err(Fail::new(format_args!("it has too many fields")));
     }
-    Err(Fail::new(format_args!("it is no struct of few fields")))
+    Ok(left.unit_of(alloc, number)?)
 }
 
 #[test]

@@ -1,6 +1,7 @@
 //! How a row `ARGUMENT => ANSWER` is asked: by its kind. `⟨3 x⟩` stands for `xxx`.
 
 use crate::bodies::{names_of, printed_members, read_nothing, shaped, taken};
+use crate::outer_units::{compiled_under, supported};
 use crate::searched::{declared, searched};
 use crate::units::compiled;
 use crate::values::{shown, table};
@@ -8,7 +9,10 @@ use crate::variants::{forms, shown_variants};
 use error_core::{Fail as Refusal, Text};
 use error_fault::push_fault_line;
 use node_core::DeriveInput;
-use options_core::{FdiOptions, FromMetaOptions};
+use options_core::{
+    FdiOptions, FromAttributesOptions, FromFieldOptions, FromMetaOptions, FromTypeParamOptions,
+    FromVariantOptions,
+};
 use print_core::ToTokens;
 use std::alloc::Global;
 use std::test::Fail;
@@ -39,10 +43,38 @@ fn told(alloc: Global, kind: &str, argument: &str) -> Tested<Text> {
             let item = item_of(alloc, argument)?;
             faults(alloc, FromMetaOptions::new(alloc, &item, &table(alloc)?))
         }
+        "under FromField" => {
+            let item = item_of(alloc, argument)?;
+            faults(alloc, FromFieldOptions::new(alloc, &item, &table(alloc)?))
+        }
+        "under FromTypeParam" => {
+            let item = item_of(alloc, argument)?;
+            faults(
+                alloc,
+                FromTypeParamOptions::new(alloc, &item, &table(alloc)?),
+            )
+        }
+        "under FromVariant" => {
+            let item = item_of(alloc, argument)?;
+            faults(alloc, FromVariantOptions::new(alloc, &item, &table(alloc)?))
+        }
+        "under FromAttributes" => {
+            let item = item_of(alloc, argument)?;
+            faults(
+                alloc,
+                FromAttributesOptions::new(alloc, &item, &table(alloc)?),
+            )
+        }
+        "supports" => supported(alloc, argument),
         "options" => shown(alloc, argument),
         "variants" => shown_variants(alloc, argument),
         "forms" => forms(alloc, argument),
         "units" => compiled(alloc, argument),
+        "unit of FromDeriveInput"
+        | "unit of FromField"
+        | "unit of FromTypeParam"
+        | "unit of FromVariant"
+        | "unit of FromAttributes" => { compiled_under(alloc, kind, argument) }
         "shapes" => shaped(alloc, argument),
         "taken" => taken(alloc, argument),
         "members" => printed_members(alloc, argument),

@@ -6,6 +6,10 @@ mod ask;
 #[cfg(test)]
 mod bodies;
 #[cfg(test)]
+mod outer;
+#[cfg(test)]
+mod outer_units;
+#[cfg(test)]
 mod receivers;
 #[cfg(test)]
 mod searched;

@@ -94,7 +94,7 @@ fn unit_of(alloc: Global, row: &str) -> Tested<Unit> {
     Err(Fail::new(format_args!("{row} has too many fields")))
 }
 
-fn name_of(name: FuncName) -> &'static str {
+pub fn name_of(name: FuncName) -> &'static str {
     match name {
         FuncName::FromMeta => "from_meta",
         FuncName::FromWord => "from_word",
@@ -102,7 +102,11 @@ fn name_of(name: FuncName) -> &'static str {
         FuncName::FromString => "from_string",
         FuncName::FromNone => "from_none",
         FuncName::FromExpr => "from_expr",
-        _ => "none of FromMeta",
+        FuncName::FromAttributes => "from_attributes",
+        FuncName::FromDeriveInput => "from_derive_input",
+        FuncName::FromField => "from_field",
+        FuncName::FromTypeParam => "from_type_param",
+        FuncName::FromVariant => "from_variant",
     }
 }
 
@@ -135,7 +139,7 @@ fn push_stmt(alloc: Global, text: &mut Text, stmt: &Stmt) -> Tested<()> {
 }
 
 /// Adds a statement in which no other stands.
-fn push_plain(alloc: Global, text: &mut Text, stmt: &Stmt) -> Tested<()> {
+pub fn push_plain(alloc: Global, text: &mut Text, stmt: &Stmt) -> Tested<()> {
     match stmt {
         Stmt::DeclareErrors => text.push_str("errors")?,
         Stmt::DeclareOne { slot, .. } => push_slot(alloc, text, "one ", *slot)?,
@@ -252,7 +256,7 @@ fn push_names(text: &mut Text, before: &str, names: &Alternatives) -> Tested<()>
     Ok(())
 }
 
-fn push_all(text: &mut Text, parts: &[&str]) -> Tested<()> {
+pub fn push_all(text: &mut Text, parts: &[&str]) -> Tested<()> {
     for part in parts {
         text.push_str(part)?;
     }
