@@ -1,5 +1,5 @@
 -- What a type is at its outermost name, where it reads an element.
-use Rattle.std.specs.Prelude.{ℕ, ◌-◌, if◌then◌else◌, List, take, length, slice_get, Option, Some, None}
+use Rattle.std.specs.Prelude.{◌-◌, if◌then◌else◌, List, take, length, slice_get, Option, Some, None}
 use Rattle.std.specs.Borrow.{Bor}
 use Rattle.base_core.specs.declared.text.Text.{Text}
 use Rattle.tok_types.specs.declared.ident.Ident.{Ident}

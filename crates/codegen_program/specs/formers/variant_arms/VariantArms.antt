@@ -1,6 +1,5 @@
 -- How `VariantArms` holds statements, for types that hold themselves through it: as the list of arms that clauses see.
 use mathlib.Core.Path.{◌≡◌, refl, sym, ap, subst}
-use mathlib.Core.Logic.{◌⊎◌, inl, inr}
 use mathlib.Core.List.{List, [], ◌∷◌, map}
 use mathlib.Core.Former.{Former, this, const, pair, or, list, via}
 use base.Stored.{code_map, gcons, gnum}
