@@ -18,13 +18,13 @@ use Rattle.codegen_outer.specs.declared.from_derive_impl.FromDeriveInputImpl.{Fr
 
 -- it takes no part, every shape, and is not read as its one field is
 pub record IsBare (it : FromDeriveInputImpl) : Type 0 where
-  pub ident : option_copied it.ident ≡ None
+  pub ident : option_copied it.outer.ident ≡ None
   pub vis : option_copied it.vis ≡ None
   pub generics : option_copied it.generics ≡ None
   pub body : option_copied it.body ≡ None
-  pub attrs : option_copied it.forward_attrs.field ≡ None
+  pub attrs : option_copied it.outer.forward_attrs.field ≡ None
   pub supports : option_copied it.supports ≡ None
-  pub own : body_whole it.base.transparent it.base.body ≡ None
+  pub own : body_whole it.outer.base.transparent it.outer.base.body ≡ None
 
 -- goes over the attributes of these names, if there are some
 abbrev pub over_read : List Text → TraitImpl → List Stmt
@@ -33,10 +33,10 @@ over_read names base = over_attributes names forward.Nothing base
 abbrev pub bare_stmts : FromDeriveInputImpl → List Stmt
 bare_stmts it =
     stmt.DeclareErrors
-    ∷ (declarations (fields_of it.base)
-    ++ (over_read (map path_text it.attr_names.now.0) it.base
-    ++ (stmt.CheckShape shapes.Any ∷ (stmt.ReadBody None None ∷ closing it.from_ident it.base))))
+    ∷ (declarations (fields_of it.outer.base)
+    ++ (over_read (map path_text it.outer.attr_names.now.0) it.outer.base
+    ++ (stmt.CheckShape shapes.Any ∷ (stmt.ReadBody None None ∷ closing it.outer.from_ident it.outer.base))))
 
 abbrev pub compiled_bare : FromDeriveInputImpl → ℕ → Unit'
 compiled_bare it decl =
-    unit_with decl derives.FromDeriveInput it.base false (record { name = func.FromDeriveInput; stmts = bare_stmts it } ∷ [])
+    unit_with decl derives.FromDeriveInput it.outer.base false (record { name = func.FromDeriveInput; stmts = bare_stmts it } ∷ [])

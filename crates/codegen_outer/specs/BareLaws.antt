@@ -55,23 +55,23 @@ module _ (it : FromDeriveInputImpl) where
   abbrev taking : (ident generics content attrs : Option ForwardedField) → Option Ident → Option DeriveInputShapeSet → List Stmt
   taking ident generics content attrs vis supports =
       stmt.DeclareErrors
-      ∷ (declarations (fields_of it.base)
+      ∷ (declarations (fields_of it.outer.base)
       ++ (declare_forward attrs
-      ++ (over_attributes (map path_text it.attr_names.now.0) (kept attrs (option_copied it.forward_attrs.filter)) it.base
+      ++ (over_attributes (map path_text it.outer.attr_names.now.0) (kept attrs (option_copied it.outer.forward_attrs.filter)) it.outer.base
       ++ (forward_done attrs
-      ++ (reads_of generics content supports ++ closing_with (parts_of ident generics content attrs vis) it.from_ident it.base)))))
+      ++ (reads_of generics content supports ++ closing_with (parts_of ident generics content attrs vis) it.outer.from_ident it.outer.base)))))
 
-  own_stmts : (b : «Data» Variant Field) → body_whole it.base.transparent b ≡ None → stmts_in (input_outer it) b ≡ outer_stmts (input_outer it)
+  own_stmts : (b : «Data» Variant Field) → body_whole it.outer.base.transparent b ≡ None → stmts_in (input_outer it) b ≡ outer_stmts (input_outer it)
   own_stmts (body.Enum variants) own = refl
   own_stmts (body.Struct fields) own = ap (λ field. stmts_by field fields.style (input_outer it)) own
 
   pub bare_func : IsBare it → func_stmts (input_outer it) ≡ bare_stmts it
   bare_func bare =
-      let ident = option_copied it.ident in
+      let ident = option_copied it.outer.ident in
       let generics = option_copied it.generics in
       let content = option_copied it.body in
-      let attrs = option_copied it.forward_attrs.field in
-      own_stmts it.base.body bare.own
+      let attrs = option_copied it.outer.forward_attrs.field in
+      own_stmts it.outer.base.body bare.own
       ∙ ap (λ s. taking ident generics content attrs (option_copied it.vis) s) bare.supports
       ∙ ap (λ v. taking ident generics content attrs v None) bare.vis
       ∙ ap (λ a. taking ident generics content a None None) bare.attrs
@@ -81,4 +81,4 @@ module _ (it : FromDeriveInputImpl) where
 
   pub bare_unit : (decl : ℕ) → IsBare it → compiled_derive_input it decl ≡ compiled_bare it decl
   bare_unit decl bare =
-      ap (λ s. unit_with decl derives.FromDeriveInput it.base false (record { name = func.FromDeriveInput; stmts = s } ∷ [])) (bare_func bare)
+      ap (λ s. unit_with decl derives.FromDeriveInput it.outer.base false (record { name = func.FromDeriveInput; stmts = s } ∷ [])) (bare_func bare)

@@ -1,30 +1,22 @@
 //! What `FromDeriveInput` compiles to.
 
-use crate::attrs_field::ForwardAttrs;
 use crate::outer_from_impl::OuterFromImpl;
+use crate::outer_impl::OuterImpl;
 use crate::parts::{push_body, push_field, push_generics, push_ident};
 use crate::shapes::input_shapes;
 use base_core::{Items, Mem};
-use codegen_core::TraitImpl;
 use codegen_program::{Derive, Forwarded, Magic, Stmt};
-use options_types::{DeriveInputShapeSet, ForwardedField, PathList};
+use options_types::{DeriveInputShapeSet, ForwardedField};
 use std::alloc::Global;
 use tok_types::Ident;
 
 /// A receiver that derives `FromDeriveInput`, and its fields that take a part of the item.
 pub struct FromDeriveInputImpl<'a> {
-    pub base: TraitImpl<'a>,
-    /// The attributes that are read.
-    pub attr_names: &'a PathList,
-    /// The attributes that are kept, and the field that takes them.
-    pub forward_attrs: ForwardAttrs<'a>,
-    pub ident: Option<&'a ForwardedField>,
+    pub outer: OuterImpl<'a>,
     pub vis: Option<&'a Ident>,
     pub generics: Option<&'a ForwardedField>,
     /// The field `data`.
     pub body: Option<&'a ForwardedField>,
-    /// Whether the receiver's default is made from the element's identifier.
-    pub from_ident: bool,
     /// The items that it takes.
     pub supports: Option<&'a DeriveInputShapeSet>,
 }
@@ -38,27 +30,20 @@ impl<'a> OuterFromImpl<'a> for FromDeriveInputImpl<'a> {
         Derive::FromDeriveInput
     }
 
-    fn base(&self) -> &TraitImpl<'a> {
-        &self.base
-    }
-
-    fn attr_names(&self) -> &PathList {
-        self.attr_names
-    }
-
-    fn forward_attrs(&self) -> &ForwardAttrs<'a> {
-        &self.forward_attrs
-    }
-
-    fn is_from_ident(&self) -> bool {
-        self.from_ident
+    fn as_outer(&self) -> &OuterImpl<'a> {
+        &self.outer
     }
 
     fn parts(&self, alloc: Global) -> Mem<Items<Forwarded>> {
         let mut parts = Items::new(alloc);
-        push_field(alloc, Magic::Ident, self.ident, &mut parts)?;
+        push_field(alloc, Magic::Ident, self.outer.ident, &mut parts)?;
         push_ident(alloc, Magic::Vis, self.vis, &mut parts)?;
-        push_field(alloc, Magic::Attrs, self.forward_attrs.field, &mut parts)?;
+        push_field(
+            alloc,
+            Magic::Attrs,
+            self.outer.forward_attrs.field,
+            &mut parts,
+        )?;
         push_field(alloc, Magic::Generics, self.generics, &mut parts)?;
         push_field(alloc, Magic::Body, self.body, &mut parts)?;
         Ok(parts)
@@ -75,14 +60,10 @@ impl<'a> OuterFromImpl<'a> for FromDeriveInputImpl<'a> {
 impl<'a> Drop for FromDeriveInputImpl<'a> {
     fn drop(self) {
         let Self {
-            base: _base,
-            attr_names: _,
-            forward_attrs: _forward_attrs,
-            ident: _,
+            outer: _outer,
             vis: _,
             generics: _,
             body: _,
-            from_ident: _,
             supports: _,
         } = self;
     }

@@ -1,27 +1,18 @@
 //! What `FromTypeParam` compiles to.
 
-use crate::attrs_field::ForwardAttrs;
 use crate::outer_from_impl::OuterFromImpl;
+use crate::outer_impl::OuterImpl;
 use crate::parts::{push_field, push_ident};
 use base_core::{Items, Mem};
-use codegen_core::TraitImpl;
 use codegen_program::{Derive, Forwarded, Magic, Stmt};
-use options_types::{ForwardedField, PathList};
 use std::alloc::Global;
 use tok_types::Ident;
 
 /// A receiver that derives `FromTypeParam`, and its fields that take a part of the parameter.
 pub struct FromTypeParamImpl<'a> {
-    pub base: TraitImpl<'a>,
-    /// The attributes that are read.
-    pub attr_names: &'a PathList,
-    /// The attributes that are kept, and the field that takes them.
-    pub forward_attrs: ForwardAttrs<'a>,
-    pub ident: Option<&'a ForwardedField>,
+    pub outer: OuterImpl<'a>,
     pub bounds: Option<&'a Ident>,
     pub default: Option<&'a Ident>,
-    /// Whether the receiver's default is made from the element's identifier.
-    pub from_ident: bool,
 }
 
 impl<'a> OuterFromImpl<'a> for FromTypeParamImpl<'a> {
@@ -33,26 +24,19 @@ impl<'a> OuterFromImpl<'a> for FromTypeParamImpl<'a> {
         Derive::FromTypeParam
     }
 
-    fn base(&self) -> &TraitImpl<'a> {
-        &self.base
-    }
-
-    fn attr_names(&self) -> &PathList {
-        self.attr_names
-    }
-
-    fn forward_attrs(&self) -> &ForwardAttrs<'a> {
-        &self.forward_attrs
-    }
-
-    fn is_from_ident(&self) -> bool {
-        self.from_ident
+    fn as_outer(&self) -> &OuterImpl<'a> {
+        &self.outer
     }
 
     fn parts(&self, alloc: Global) -> Mem<Items<Forwarded>> {
         let mut parts = Items::new(alloc);
-        push_field(alloc, Magic::Ident, self.ident, &mut parts)?;
-        push_field(alloc, Magic::Attrs, self.forward_attrs.field, &mut parts)?;
+        push_field(alloc, Magic::Ident, self.outer.ident, &mut parts)?;
+        push_field(
+            alloc,
+            Magic::Attrs,
+            self.outer.forward_attrs.field,
+            &mut parts,
+        )?;
         push_ident(alloc, Magic::Bounds, self.bounds, &mut parts)?;
         push_ident(alloc, Magic::Default, self.default, &mut parts)?;
         Ok(parts)
@@ -66,13 +50,9 @@ impl<'a> OuterFromImpl<'a> for FromTypeParamImpl<'a> {
 impl<'a> Drop for FromTypeParamImpl<'a> {
     fn drop(self) {
         let Self {
-            base: _base,
-            attr_names: _,
-            forward_attrs: _forward_attrs,
-            ident: _,
+            outer: _outer,
             bounds: _,
             default: _,
-            from_ident: _,
         } = self;
     }
 }

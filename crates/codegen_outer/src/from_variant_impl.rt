@@ -1,28 +1,20 @@
 //! What `FromVariant` compiles to.
 
-use crate::attrs_field::ForwardAttrs;
 use crate::outer_from_impl::OuterFromImpl;
+use crate::outer_impl::OuterImpl;
 use crate::parts::{push_body, push_field, push_ident};
 use crate::shapes::variant_shapes;
 use base_core::{Items, Mem};
-use codegen_core::TraitImpl;
 use codegen_program::{DataShape, Derive, Forwarded, Magic, Stmt};
-use options_types::{ForwardedField, PathList};
+use options_types::ForwardedField;
 use std::alloc::Global;
 use tok_types::Ident;
 
 /// A receiver that derives `FromVariant`, and its fields that take a part of the variant.
 pub struct FromVariantImpl<'a> {
-    pub base: TraitImpl<'a>,
-    /// The attributes that are read.
-    pub attr_names: &'a PathList,
-    /// The attributes that are kept, and the field that takes them.
-    pub forward_attrs: ForwardAttrs<'a>,
-    pub ident: Option<&'a ForwardedField>,
+    pub outer: OuterImpl<'a>,
     pub discriminant: Option<&'a Ident>,
     pub fields: Option<&'a ForwardedField>,
-    /// Whether the receiver's default is made from the element's identifier.
-    pub from_ident: bool,
     /// The variants that it takes.
     pub supports: Option<&'a DataShape>,
 }
@@ -36,27 +28,20 @@ impl<'a> OuterFromImpl<'a> for FromVariantImpl<'a> {
         Derive::FromVariant
     }
 
-    fn base(&self) -> &TraitImpl<'a> {
-        &self.base
-    }
-
-    fn attr_names(&self) -> &PathList {
-        self.attr_names
-    }
-
-    fn forward_attrs(&self) -> &ForwardAttrs<'a> {
-        &self.forward_attrs
-    }
-
-    fn is_from_ident(&self) -> bool {
-        self.from_ident
+    fn as_outer(&self) -> &OuterImpl<'a> {
+        &self.outer
     }
 
     fn parts(&self, alloc: Global) -> Mem<Items<Forwarded>> {
         let mut parts = Items::new(alloc);
-        push_field(alloc, Magic::Ident, self.ident, &mut parts)?;
+        push_field(alloc, Magic::Ident, self.outer.ident, &mut parts)?;
         push_ident(alloc, Magic::Discriminant, self.discriminant, &mut parts)?;
-        push_field(alloc, Magic::Attrs, self.forward_attrs.field, &mut parts)?;
+        push_field(
+            alloc,
+            Magic::Attrs,
+            self.outer.forward_attrs.field,
+            &mut parts,
+        )?;
         push_field(alloc, Magic::Fields, self.fields, &mut parts)?;
         Ok(parts)
     }
@@ -71,13 +56,9 @@ impl<'a> OuterFromImpl<'a> for FromVariantImpl<'a> {
 impl<'a> Drop for FromVariantImpl<'a> {
     fn drop(self) {
         let Self {
-            base: _base,
-            attr_names: _,
-            forward_attrs: _forward_attrs,
-            ident: _,
+            outer: _outer,
             discriminant: _,
             fields: _,
-            from_ident: _,
             supports: _,
         } = self;
     }

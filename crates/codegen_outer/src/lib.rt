@@ -12,6 +12,7 @@ mod from_field;
 mod from_type_param;
 mod from_variant_impl;
 mod outer_from_impl;
+mod outer_impl;
 mod parts;
 mod shapes;
 
@@ -24,3 +25,4 @@ pub use from_type_param::FromTypeParamImpl;
 pub use from_variant_impl::FromVariantImpl;
 pub use options_types::{DeriveInputShapeSet, ForwardAttrsFilter, ForwardedField};
 pub use outer_from_impl::OuterFromImpl;
+pub use outer_impl::OuterImpl;

@@ -6,6 +6,7 @@ ghost use Rattle.codegen_outer.specs.CompiledOuter as spec;
 ghost use Rattle.codegen_outer.specs.Forwarding.{is_nothing};
 
 use crate::attrs_field::ForwardAttrs;
+use crate::outer_impl::OuterImpl;
 use base_core::{Items, Mem};
 use body_core::ast::{Data, Fields};
 use codegen_core::{Field, TraitImpl, extract_transparent};
@@ -24,20 +25,12 @@ pub trait OuterFromImpl<'a>: Sized {
     fn derive(&self) -> Derive
         ensures { result ≡ (outer self.now).derive };
 
-    fn base(&self) -> &TraitImpl<'a>
-        ensures { result.now ≡ (outer self.now).base };
-
-    /// The attributes that are read.
-    fn attr_names(&self) -> &PathList
-        ensures { result.now.0 ≡ (outer self.now).names };
-
-    /// The attributes that are kept, and the field that takes them.
-    fn forward_attrs(&self) -> &ForwardAttrs<'a>
-        ensures { result.now ≡ (outer self.now).forward };
-
-    /// Whether the receiver's default is made from the element's identifier.
-    fn is_from_ident(&self) -> bool
-        ensures { result ≡ (outer self.now).from_ident };
+    /// What it is compiled from whatever element it reads.
+    fn as_outer(&self) -> &OuterImpl<'a>
+        ensures base { result.now.base ≡ (outer self.now).base }
+        ensures names { result.now.attr_names.now.0 ≡ (outer self.now).names }
+        ensures forward { result.now.forward_attrs ≡ (outer self.now).forward }
+        ensures from_ident { result.now.from_ident ≡ (outer self.now).from_ident };
 
     /// The members that take a part of the element, in the order in which they are written.
     fn parts(&self, alloc: Global) -> Mem<Items<Forwarded>>
@@ -56,7 +49,8 @@ pub trait OuterFromImpl<'a>: Sized {
         let name = func_of(derive);
         let stmts = func_stmts(self, alloc)?;
         let funcs = Items::of(alloc, Func { name, stmts })?;
-        self.base().unit_with(alloc, decl, derive, false, funcs)
+        let base = &self.as_outer().base;
+        base.unit_with(alloc, decl, derive, false, funcs)
     }
 }
 
@@ -88,7 +82,7 @@ fn func_stmts<'a, I: OuterFromImpl<'a>>(it: &I, alloc: Global) -> Mem<Items<Stmt
     requires { length (fields_of (I.outer it.now).base) < 2 ^ 32 }
     ensures { IfOk result (λ stmts. stmts ≡ spec.func_stmts (I.outer it.now)) }
 {
-    match &it.base().body {
+    match &it.as_outer().base.body {
         Data::Struct(fields) => struct_stmts(it, alloc, fields),
         Data::Enum(_) => outer_stmts(it, alloc),
     }
@@ -102,7 +96,7 @@ fn struct_stmts<'a, I: OuterFromImpl<'a>>(
     requires { length (fields_of (I.outer it.now).base) < 2 ^ 32 }
     ensures { IfOk result (λ stmts. stmts ≡ spec.struct_stmts (I.outer it.now) fields.now) }
 {
-    let base = it.base();
+    let base = &it.as_outer().base;
     if !has_whole(it.derive()) {
         return outer_stmts(it, alloc);
     }
@@ -131,17 +125,18 @@ fn outer_stmts<'a, I: OuterFromImpl<'a>>(it: &I, alloc: Global) -> Mem<Items<Stm
     requires { length (fields_of (I.outer it.now).base) < 2 ^ 32 }
     ensures { IfOk result (λ stmts. stmts ≡ spec.outer_stmts (I.outer it.now)) }
 {
-    let base = it.base();
-    let kept = it.forward_attrs();
+    let outer = it.as_outer();
+    let base = &outer.base;
+    let kept = &outer.forward_attrs;
     let mut stmts = Items::new(alloc);
     stmts.push(Stmt::DeclareErrors)?;
     base.fields_gen().push_declarations(alloc, &mut stmts)?;
     kept.push_declaration(alloc, &mut stmts)?;
-    push_attributes(alloc, base, it.attr_names(), kept, &mut stmts)?;
+    push_attributes(alloc, base, outer.attr_names, kept, &mut stmts)?;
     kept.push_done(alloc, &mut stmts)?;
     it.push_reads(alloc, &mut stmts)?;
     let parts = it.parts(alloc)?;
-    base.push_closing(alloc, parts, it.is_from_ident(), &mut stmts)?;
+    base.push_closing(alloc, parts, outer.from_ident, &mut stmts)?;
     Ok(stmts)
 }
 

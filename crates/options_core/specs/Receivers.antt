@@ -140,12 +140,12 @@ attributes_last set = cond (is_whole set.base.container || has_names set.base.at
 abbrev pub outer_start : Rules → DeriveInput → OuterFrom
 outer_start rules input =
     record {
-      ident = None;
-      attrs = None;
       container = core_start rules input;
       attr_names = record { 0 = [] };
       forward_attrs = None;
       from_ident = false;
+      attrs = None;
+      ident = None;
     }
 
 abbrev pub attributes_start : Rules → DeriveInput → FromAttributesOptions
@@ -161,4 +161,4 @@ abbrev pub type_param_start : Rules → DeriveInput → FromTypeParamOptions
 type_param_start rules input = record { base = outer_start rules input; bounds = None; default = None }
 
 abbrev pub from_variant_start : Rules → DeriveInput → FromVariantOptions
-from_variant_start rules input = record { base = outer_start rules input; discriminant = None; fields = None; supports = None }
+from_variant_start rules input = record { base = outer_start rules input; supports = None; fields = None; discriminant = None }

@@ -19,7 +19,6 @@ use error_core::{Accumulator, Error, Fail, Result};
 use node_core::{DeriveInput, Field, Meta, Variant};
 use node_expr::Path;
 use options_members::{Core, validate};
-use options_meta::is_delegated;
 use options_rows::{ParseAttribute, ParseData, RenameTable};
 use std::alloc::Global;
 
@@ -87,7 +86,7 @@ fn is_whole(core: &Core) -> bool
     ensures { result ≡ spec.is_whole core.now }
 {
     match &core.body {
-        Data::Struct(it) => is_delegated(it, &core.transparent),
+        Data::Struct(it) => core.is_delegated(it),
         Data::Enum(_) => false,
     }
 }

@@ -26,12 +26,12 @@ use tok_types::Ident;
 /// The options of a receiver that derives `FromVariant`.
 pub struct FromVariantOptions {
     pub base: OuterFrom,
-    /// The field that takes the discriminant.
-    pub discriminant: Option<Ident>,
-    /// The field that takes the fields.
-    pub fields: Option<ForwardedField>,
-    /// The variants that it takes.
+    /// The variants that it takes; all, while the option is absent.
     pub supports: Option<DataShape>,
+    /// The field `fields`, which takes the variant's fields.
+    pub fields: Option<ForwardedField>,
+    /// The field `discriminant`, which takes the expression behind `=`.
+    pub discriminant: Option<Ident>,
 }
 
 impl FromVariantOptions {
@@ -58,9 +58,9 @@ impl FromVariantOptions {
     {
         Ok(FromVariantOptions {
             base: OuterFrom::start(alloc, di, table)?,
-            discriminant: None,
-            fields: None,
             supports: None,
+            fields: None,
+            discriminant: None,
         })
     }
 
@@ -86,9 +86,9 @@ impl Drop for FromVariantOptions {
     fn drop(self) {
         let Self {
             base: _base,
-            discriminant: _discriminant,
-            fields: _fields,
             supports: _,
+            fields: _fields,
+            discriminant: _discriminant,
         } = self;
     }
 }

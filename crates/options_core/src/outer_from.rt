@@ -33,17 +33,17 @@ use tok_types::Ident;
 
 /// What the options of a receiver say that is read from an item or from a part of one.
 pub struct OuterFrom {
-    /// The field that takes the identifier.
-    pub ident: Option<ForwardedField>,
-    /// The field that takes the attributes that are handed on.
-    pub attrs: Option<ForwardedField>,
     pub container: Core,
     /// The attributes that are read.
     pub attr_names: PathList,
-    /// The attributes that are handed on.
+    /// The attributes that are handed on; of none while the option is absent.
     pub forward_attrs: Option<ForwardAttrsFilter>,
-    /// Whether the receiver's default is made from the item's identifier.
+    /// Whether the receiver's default is made from the element's identifier.
     pub from_ident: bool,
+    /// The field `attrs`, which takes the attributes that are handed on.
+    pub attrs: Option<ForwardedField>,
+    /// The field `ident`, which takes the element's identifier.
+    pub ident: Option<ForwardedField>,
 }
 
 impl OuterFrom {
@@ -53,12 +53,12 @@ impl OuterFrom {
             (settle (union_faults (is_union di.now.body)) (Value (spec.outer_start table.now di.now))) }
     {
         Ok(OuterFrom {
-            ident: None,
-            attrs: None,
             container: Core::start(alloc, di, table)?,
             attr_names: PathList::new(Vec::new(alloc)),
             forward_attrs: None,
             from_ident: false,
+            attrs: None,
+            ident: None,
         })
     }
 
@@ -148,12 +148,12 @@ impl Checks for OuterFrom {
 impl Drop for OuterFrom {
     fn drop(self) {
         let Self {
-            ident: _ident,
-            attrs: _attrs,
             container: _container,
             attr_names: _attr_names,
             forward_attrs: _forward_attrs,
             from_ident: _,
+            attrs: _attrs,
+            ident: _ident,
         } = self;
     }
 }

@@ -12,7 +12,7 @@ use crate::outer_from::OuterFrom;
 use base_core::Mem;
 use codegen_outer::{
     ForwardAttrs, FromAttributesImpl, FromDeriveInputImpl, FromFieldImpl, FromTypeParamImpl,
-    FromVariantImpl,
+    FromVariantImpl, OuterImpl,
 };
 use std::alloc::Global;
 
@@ -26,19 +26,31 @@ impl OuterFrom {
             field: self.attrs.as_ref(),
         }
     }
+
+    /// What is compiled from it, whatever element is read.
+    pub fn as_outer_impl(&self, alloc: Global) -> Mem<OuterImpl<'_>>
+        ensures { IfOk result (λ it. spec.IsOuterImpl it self.now) }
+    {
+        let base = self.container.as_trait_impl(alloc)?;
+        Ok(OuterImpl {
+            base,
+            attr_names: &self.attr_names,
+            forward_attrs: self.as_forward_attrs(),
+            ident: self.ident.as_ref(),
+            from_ident: self.from_ident,
+        })
+    }
 }
 
 impl FromAttributesOptions {
-    /// What is compiled from it.
+    /// What is compiled from it: attributes have no identifier.
     pub fn as_impl(&self, alloc: Global) -> Mem<FromAttributesImpl<'_>>
         ensures { IfOk result (λ it. spec.IsAttributesImpl it self.now) }
     {
-        let base = self.base.container.as_trait_impl(alloc)?;
-        Ok(FromAttributesImpl {
-            base,
-            attr_names: &self.base.attr_names,
-            forward_attrs: self.base.as_forward_attrs(),
-        })
+        let mut outer = self.base.as_outer_impl(alloc)?;
+        outer.ident = None;
+        outer.from_ident = false;
+        Ok(FromAttributesImpl { outer })
     }
 }
 
@@ -47,16 +59,12 @@ impl FdiOptions {
     pub fn as_impl(&self, alloc: Global) -> Mem<FromDeriveInputImpl<'_>>
         ensures { IfOk result (λ it. spec.IsInputImpl it self.now) }
     {
-        let base = self.base.container.as_trait_impl(alloc)?;
+        let outer = self.base.as_outer_impl(alloc)?;
         Ok(FromDeriveInputImpl {
-            base,
-            attr_names: &self.base.attr_names,
-            forward_attrs: self.base.as_forward_attrs(),
-            ident: self.base.ident.as_ref(),
+            outer,
             vis: self.vis.as_ref(),
             generics: self.generics.as_ref(),
             body: self.body.as_ref(),
-            from_ident: self.base.from_ident,
             supports: self.supports.as_ref(),
         })
     }
@@ -67,15 +75,11 @@ impl FromFieldOptions {
     pub fn as_impl(&self, alloc: Global) -> Mem<FromFieldImpl<'_>>
         ensures { IfOk result (λ it. spec.IsFieldImpl it self.now) }
     {
-        let base = self.base.container.as_trait_impl(alloc)?;
+        let outer = self.base.as_outer_impl(alloc)?;
         Ok(FromFieldImpl {
-            base,
-            attr_names: &self.base.attr_names,
-            forward_attrs: self.base.as_forward_attrs(),
-            ident: self.base.ident.as_ref(),
+            outer,
             vis: self.vis.as_ref(),
             ty: self.ty.as_ref(),
-            from_ident: self.base.from_ident,
         })
     }
 }
@@ -85,15 +89,11 @@ impl FromTypeParamOptions {
     pub fn as_impl(&self, alloc: Global) -> Mem<FromTypeParamImpl<'_>>
         ensures { IfOk result (λ it. spec.IsTypeParamImpl it self.now) }
     {
-        let base = self.base.container.as_trait_impl(alloc)?;
+        let outer = self.base.as_outer_impl(alloc)?;
         Ok(FromTypeParamImpl {
-            base,
-            attr_names: &self.base.attr_names,
-            forward_attrs: self.base.as_forward_attrs(),
-            ident: self.base.ident.as_ref(),
+            outer,
             bounds: self.bounds.as_ref(),
             default: self.default.as_ref(),
-            from_ident: self.base.from_ident,
         })
     }
 }
@@ -103,15 +103,11 @@ impl FromVariantOptions {
     pub fn as_impl(&self, alloc: Global) -> Mem<FromVariantImpl<'_>>
         ensures { IfOk result (λ it. spec.IsVariantImpl it self.now) }
     {
-        let base = self.base.container.as_trait_impl(alloc)?;
+        let outer = self.base.as_outer_impl(alloc)?;
         Ok(FromVariantImpl {
-            base,
-            attr_names: &self.base.attr_names,
-            forward_attrs: self.base.as_forward_attrs(),
-            ident: self.base.ident.as_ref(),
+            outer,
             discriminant: self.discriminant.as_ref(),
             fields: self.fields.as_ref(),
-            from_ident: self.base.from_ident,
             supports: self.supports.as_ref(),
         })
     }

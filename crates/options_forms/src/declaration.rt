@@ -1,6 +1,6 @@
 //! Forms of declarations that are read from items, and what all declarations share.
 
-ghost use Rattle.std.specs.Prelude.{◌≡◌, ◌++◌, length, OnOk};
+ghost use Rattle.std.specs.Prelude.{◌≡◌, ◌++◌, OnOk};
 ghost use Rattle.options_core.specs.Body as body;
 ghost use Rattle.options_forms.specs.Forms as spec;
 
@@ -78,7 +78,7 @@ fn push_struct(
 {
     let ident = &options.base.ident;
     let unit = is_unit(fields.style);
-    let whole = unit || is_delegated(&options.base, fields);
+    let whole = unit || options.base.is_delegated(fields);
     push_form_if(
         is_bare_tuple(fields.style, fields.len()),
         Form::Tuple,
@@ -118,17 +118,6 @@ fn push_enum(
     let transformed = options.base.post_transform.is_some();
     push_form_if(transformed, Form::Transform, &options.base.ident, places)?;
     push_variants(variants, places)
-}
-
-/// Whether a struct is read as its one field is.
-pub(crate) fn is_delegated(core: &Core, fields: &Fields<InputField>) -> bool
-    ensures { result ≡ body.is_delegated fields.now.style (length fields.now.fields) core.now.transparent.0 }
-{
-    match fields.style {
-        Style::Tuple => fields.len() == 1,
-        Style::Struct => core.transparent.is_present(),
-        Style::Unit => false,
-    }
 }
 
 fn is_unit(style: Style) -> bool

@@ -3,7 +3,7 @@
 ghost use Rattle.std.specs.Prelude.{◌≡◌, ◌++◌, OnOk};
 ghost use Rattle.options_forms.specs.Forms as spec;
 
-use crate::declaration::{is_delegated, push_container, push_generic, push_members};
+use crate::declaration::{push_container, push_generic, push_members};
 use crate::forms::Forms;
 use crate::paths::push_call;
 use base_core::{Items, Mem};
@@ -137,7 +137,7 @@ fn is_whole(core: &Core) -> bool
     ensures { result ≡ spec.is_core_whole core.now }
 {
     match &core.body {
-        Data::Struct(fields) => is_delegated(core, fields),
+        Data::Struct(fields) => core.is_delegated(fields),
         Data::Enum(_) => false,
     }
 }

@@ -1,5 +1,5 @@
 -- The options of a container behind items, cut anywhere.
-use Rattle.std.specs.Prelude.{◌≡◌, List, [], ◌++◌, map, refl}
+use Rattle.std.specs.Prelude.{◌≡◌, List, ◌++◌, map, refl}
 use Rattle.std.proofs.Common.{◌∙◌, ap, sym}
 use Rattle.std.proofs.lemmas.List.{map-append}
 use Rattle.node_core.specs.declared.attr.Meta.{Meta}

@@ -1,5 +1,5 @@
 -- What is compiled from options, beside the options.
-use Rattle.std.specs.Prelude.{◌≡◌, Bool, false, [], Option, Some, None, is_some, unwrap_or}
+use Rattle.std.specs.Prelude.{◌≡◌, Bool, false, Option, Some, None, is_some, unwrap_or}
 use Rattle.std.specs.List.{AllZip}
 use Rattle.std.specs.Option.{option_copied}
 use Rattle.tok_types.specs.declared.ident.Ident.{Ident}

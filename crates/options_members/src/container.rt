@@ -1,6 +1,6 @@
 //! What the options of a declaration say, whatever it derives.
 
-ghost use Rattle.std.specs.Prelude.{◌≡◌, ◌++◌, ◌∷◌, [], map, IfOk, OnOk, OnErr};
+ghost use Rattle.std.specs.Prelude.{◌≡◌, ◌++◌, ◌∷◌, [], length, map, IfOk, OnOk, OnErr};
 ghost use Rattle.error_fault.specs.Outcome.{Value, settle};
 ghost use Rattle.error_core.specs.Answers.{Answers};
 ghost use Rattle.error_core.specs.ErrorView.{One, held};
@@ -15,10 +15,10 @@ use crate::input_field::InputField;
 use crate::input_variant::InputVariant;
 use crate::names::CoreName;
 use base_core::{Items, Mem, TryClone};
-use body_core::ast::Data;
+use body_core::ast::{Data, Fields};
 use codegen_program::PostfixTransform;
 use error_core::{Accumulator, Error, Result};
-use node_core::{DeriveInput, Field, Generics, Meta, Variant, WherePredicate};
+use node_core::{DeriveInput, Field, Generics, Meta, Style, Variant, WherePredicate};
 use node_expr::Path;
 use options_rows::{
     DefaultExpression, Flag, ParseAttribute, ParseData, RenameRule, RenameTable, last_given,
@@ -91,6 +91,17 @@ impl Core {
             CoreName::Transparent => once(alloc, &mut self.transparent.0, item),
             CoreName::Crate => once(alloc, &mut self.krate, item),
             CoreName::Unknown => unknown(alloc, item),
+        }
+    }
+
+    /// Whether a struct of these fields is read as its one field is: a tuple of one, or one with names that says so.
+    pub fn is_delegated(&self, fields: &Fields<InputField>) -> bool
+        ensures { result ≡ spec.is_delegated fields.now.style (length fields.now.fields) self.now.transparent.0 }
+    {
+        match fields.style {
+            Style::Tuple => fields.len() == 1,
+            Style::Struct => self.transparent.is_present(),
+            Style::Unit => false,
         }
     }
 

@@ -1,6 +1,6 @@
 //! The options of a receiver that derives `FromMeta`.
 
-ghost use Rattle.std.specs.Prelude.{◌≡◌, ◌++◌, codes, length, IfOk, OnOk};
+ghost use Rattle.std.specs.Prelude.{◌≡◌, ◌++◌, codes, IfOk, OnOk};
 ghost use Rattle.error_fault.specs.Outcome.{Value, settle};
 ghost use Rattle.error_core.specs.Answers.{Answers};
 ghost use Rattle.error_core.specs.ErrorView.{One, held};
@@ -19,7 +19,7 @@ use body_core::ast::{Data, Fields};
 use error_core::{Accumulator, Error, Result};
 use node_core::{DeriveInput, Field, Meta, Style, Variant};
 use options_members::{Checks, Core, InputField, validate};
-use options_rows::{Callable, Flag, ParseAttribute, ParseData, RenameTable, once_at_path};
+use options_rows::{Callable, ParseAttribute, ParseData, RenameTable, once_at_path};
 use std::alloc::Global;
 
 /// The options of a receiver that derives `FromMeta`.
@@ -104,7 +104,7 @@ impl FromMetaOptions {
     ) -> Mem<()>
         ensures { OnOk result (held errors.new ≡ held errors.old ++ checks.struct_faults self.now fields.now) }
     {
-        let delegated = is_delegated(fields, &self.base.transparent);
+        let delegated = self.base.is_delegated(fields);
         check_word(
             alloc,
             is_unit(fields.style),
@@ -187,17 +187,6 @@ impl ParseData for FromMetaOptions {
 
     fn validate_body(&self, alloc: Global, errors: &mut Accumulator) -> Mem<()> {
         validate(self, alloc, errors)
-    }
-}
-
-/// Whether a struct is read as its one field is: a tuple of one, or one with names that says so.
-pub fn is_delegated(fields: &Fields<InputField>, transparent: &Flag) -> bool
-    ensures { result ≡ body.is_delegated fields.now.style (length fields.now.fields) transparent.now.0 }
-{
-    match fields.style {
-        Style::Tuple => fields.len() == 1,
-        Style::Struct => transparent.is_present(),
-        Style::Unit => false,
     }
 }
 

@@ -9,5 +9,5 @@ mod from_meta;
 mod names;
 mod views;
 
-pub use from_meta::{FromMetaOptions, is_delegated};
+pub use from_meta::FromMetaOptions;
 pub use names::MetaName;
