@@ -43,7 +43,8 @@ impl<H: Host> Checker<'_, H> {
         units: &[&Unit],
         decl: &DeriveInput,
     ) -> Mem<()>
-        ensures { OnOk result (places.new ≡ places.old ++ spec.unknown_callables_in (H.says self.now.host.now) self.now.program.now (map (λ unit. unit.now) units.now) decl.now) }
+        ensures { OnOk result (places.new
+            ≡ places.old ++ spec.unknown_callables_in (H.says self.now.host.now) self.now.program.now (map (λ unit. unit.now) units.now) decl.now) }
     {
         let asks = asks_of(self.alloc, units)?;
         if self.lacks_ident(decl, asks.as_slice())? {
@@ -53,7 +54,8 @@ impl<H: Host> Checker<'_, H> {
     }
 
     fn push_units(&self, places: &mut Items<Span>, decl: &DeriveInput, units: &[&Unit]) -> Mem<()>
-        ensures { OnOk result (places.new ≡ places.old ++ flat_map (spec.unoffered_unit (H.says self.now.host.now) self.now.program.now decl.now) (map (λ unit. unit.now) units.now)) }
+        ensures { OnOk result (places.new
+            ≡ places.old ++ flat_map (spec.unoffered_unit (H.says self.now.host.now) self.now.program.now decl.now) (map (λ unit. unit.now) units.now)) }
     {
         for unit in units {
             self.push_unit_of(places, decl, unit)?;
@@ -102,7 +104,9 @@ impl<H: Host> Checker<'_, H> {
         fields: &[&Field],
         asks: &[Ask<'_>],
     ) -> Mem<()>
-        ensures { OnOk result (places.new ≡ places.old ++ flat_map (spec.unoffered_ask (H.says self.now.host.now) self.now.program.now ty.now variants.now (map (λ field. field.now) fields.now)) (map asked.seen asks.now)) }
+        ensures { OnOk result (places.new ≡ places.old
+            ++ flat_map (spec.unoffered_ask (H.says self.now.host.now) self.now.program.now ty.now variants.now (map (λ field. field.now) fields.now))
+            (map asked.seen asks.now)) }
     {
         for ask in asks {
             self.push_ask_of(places, ty, variants, fields, *ask)?;
@@ -118,7 +122,8 @@ impl<H: Host> Checker<'_, H> {
         fields: &[&Field],
         ask: Ask<'_>,
     ) -> Mem<()>
-        ensures { OnOk result (places.new ≡ places.old ++ spec.unoffered_ask (H.says self.now.host.now) self.now.program.now ty.now variants.now (map (λ field. field.now) fields.now) (asked.seen ask.entry)) }
+        ensures { OnOk result (places.new ≡ places.old ++ spec.unoffered_ask (H.says self.now.host.now) self.now.program.now
+            ty.now variants.now (map (λ field. field.now) fields.now) (asked.seen ask.entry)) }
     {
         match ask {
             Ask::Read(arm) => self.push_read(places, arm, field_at(fields, arm.slot)),
@@ -141,7 +146,8 @@ impl<H: Host> Checker<'_, H> {
         callable: &Callable,
         at: FuncName,
     ) -> Mem<()>
-        ensures { OnOk result (places.new ≡ places.old ++ spec.unoffered_call (H.says self.now.host.now) self.now.program.now ty.now variants.now callable.now at) }
+        ensures { OnOk result (places.new
+            ≡ places.old ++ spec.unoffered_call (H.says self.now.host.now) self.now.program.now ty.now variants.now callable.now at) }
     {
         match at {
             FuncName::FromWord => match word_variant(self.alloc, callable, variants)? {
@@ -156,7 +162,8 @@ impl<H: Host> Checker<'_, H> {
 
     /// Looks at the functions of an arm for this field.
     fn push_read(&self, places: &mut Items<Span>, arm: &Arm, field: Option<&Field>) -> Mem<()>
-        ensures { OnOk result (places.new ≡ places.old ++ spec.unoffered_read (H.says self.now.host.now) self.now.program.now arm.now (option_copied field.entry)) }
+        ensures { OnOk result (places.new
+            ≡ places.old ++ spec.unoffered_read (H.says self.now.host.now) self.now.program.now arm.now (option_copied field.entry)) }
     {
         match field {
             Some(field) => self.push_arm(places, arm, self.value_type(arm.many, &field.ty)),
@@ -200,7 +207,8 @@ impl<H: Host> Checker<'_, H> {
     }
 
     fn push_member(&self, places: &mut Items<Span>, init: &Init, field: Option<&Field>) -> Mem<()>
-        ensures { OnOk result (places.new ≡ places.old ++ spec.unoffered_member (H.says self.now.host.now) self.now.program.now init.now (option_copied field.entry)) }
+        ensures { OnOk result (places.new
+            ≡ places.old ++ spec.unoffered_member (H.says self.now.host.now) self.now.program.now init.now (option_copied field.entry)) }
     {
         match field {
             Some(field) => {
@@ -218,7 +226,8 @@ impl<H: Host> Checker<'_, H> {
         ty: &Type,
         callable: Option<&Callable>,
     ) -> Mem<()>
-        ensures { OnOk result (places.new ≡ places.old ++ spec.unoffered (H.says self.now.host.now) self.now.program.now at ty.now (option_copied callable.entry)) }
+        ensures { OnOk result (places.new
+            ≡ places.old ++ spec.unoffered (H.says self.now.host.now) self.now.program.now at ty.now (option_copied callable.entry)) }
     {
         let Some(callable) = callable else {
             return Ok(());

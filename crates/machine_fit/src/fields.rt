@@ -167,7 +167,8 @@ fn push_held<'d>(
 
 /// Adds the fields of a variant, where they have slots.
 fn push_held_by<'d>(fields: &mut Items<&'d Field>, place: FieldsAt, variant: &'d Variant) -> Mem<()>
-    ensures { OnOk result (map (λ field. field.now) fields.new ≡ map (λ field. field.now) fields.old ++ spec.held_by place (field_list variant.now.fields)) }
+    ensures { OnOk result (map (λ field. field.now) fields.new
+        ≡ map (λ field. field.now) fields.old ++ spec.held_by place (field_list variant.now.fields)) }
 {
     match place {
         FieldsAt::Slots(_) => push_fields(fields, variant.fields.as_slice()),

@@ -48,7 +48,8 @@ impl<H: Host> Checker<'_, H> {
         number: usize,
         decl: &DeriveInput,
     ) -> Mem<()>
-        ensures { OnOk result (places.new ≡ places.old ++ spec.unknown_types_in (H.says self.now.host.now) self.now.program.now (map (λ unit. unit.now) units.now) number decl.now) }
+        ensures { OnOk result (places.new
+            ≡ places.old ++ spec.unknown_types_in (H.says self.now.host.now) self.now.program.now (map (λ unit. unit.now) units.now) number decl.now) }
     {
         let asks = asks_of(self.alloc, units)?;
         if self.lacks_default(decl, asks.as_slice())? {
@@ -77,7 +78,8 @@ impl<H: Host> Checker<'_, H> {
         readings: &[Reading],
         body: &Data,
     ) -> Mem<()>
-        ensures { OnOk result (places.new ≡ places.old ++ spec.unfit_members (H.says self.now.host.now) self.now.program.now here (map seen_reading readings.now) body.now) }
+        ensures { OnOk result (places.new
+            ≡ places.old ++ spec.unfit_members (H.says self.now.host.now) self.now.program.now here (map seen_reading readings.now) body.now) }
     {
         match body {
             Data::Struct(it) => self.push_fields(places, here, readings, 0, it.fields.as_slice()),
@@ -95,7 +97,8 @@ impl<H: Host> Checker<'_, H> {
         readings: &[Reading],
         variants: &[Variant],
     ) -> Mem<()>
-        ensures { OnOk result (places.new ≡ places.old ++ places_from (spec.unfit_variant (H.says self.now.host.now) self.now.program.now here (map seen_reading readings.now)) 0 variants.now) }
+        ensures { OnOk result (places.new ≡ places.old
+            ++ places_from (spec.unfit_variant (H.says self.now.host.now) self.now.program.now here (map seen_reading readings.now)) 0 variants.now) }
     {
         for number in 0..variants.len() {
             let fields = variants[number].fields.as_slice();
@@ -113,7 +116,8 @@ impl<H: Host> Checker<'_, H> {
         variant: usize,
         fields: &[Field],
     ) -> Mem<()>
-        ensures { OnOk result (places.new ≡ places.old ++ spec.unfit_fields (H.says self.now.host.now) self.now.program.now here (map seen_reading readings.now) variant fields.now) }
+        ensures { OnOk result (places.new
+            ≡ places.old ++ spec.unfit_fields (H.says self.now.host.now) self.now.program.now here (map seen_reading readings.now) variant fields.now) }
     {
         for number in 0..fields.len() {
             self.push_field(places, here, readings, variant, number, &fields[number])?;
@@ -130,7 +134,8 @@ impl<H: Host> Checker<'_, H> {
         number: usize,
         field: &Field,
     ) -> Mem<()>
-        ensures { OnOk result (places.new ≡ places.old ++ spec.unfit_field (H.says self.now.host.now) self.now.program.now here (map seen_reading readings.now) variant number field.now) }
+        ensures { OnOk result (places.new
+            ≡ places.old ++ spec.unfit_field (H.says self.now.host.now) self.now.program.now here (map seen_reading readings.now) variant number field.now) }
     {
         if self.fits_readings(here, readings, variant, number, &field.ty)? {
             return Ok(());
@@ -146,7 +151,8 @@ impl<H: Host> Checker<'_, H> {
         number: usize,
         ty: &Type,
     ) -> Mem<bool>
-        ensures { IfOk result (λ fits. fits ≡ list_all (spec.fits_unit (H.says self.now.host.now) self.now.program.now here variant number ty.now) (map seen_reading readings.now)) }
+        ensures { IfOk result (λ fits. fits
+            ≡ list_all (spec.fits_unit (H.says self.now.host.now) self.now.program.now here variant number ty.now) (map seen_reading readings.now)) }
     {
         for reading in readings {
             if !self.fits_reading(here, reading, variant, number, ty)? {
@@ -165,7 +171,8 @@ impl<H: Host> Checker<'_, H> {
         number: usize,
         ty: &Type,
     ) -> Mem<bool>
-        ensures { IfOk result (λ fits. fits ≡ spec.fits_unit (H.says self.now.host.now) self.now.program.now here variant number ty.now (seen_reading reading.now)) }
+        ensures { IfOk result (λ fits. fits
+            ≡ spec.fits_unit (H.says self.now.host.now) self.now.program.now here variant number ty.now (seen_reading reading.now)) }
     {
         match place_at(reading.places.as_slice(), variant) {
             FieldsAt::Slots(first) => {
@@ -192,7 +199,8 @@ impl<H: Host> Checker<'_, H> {
 
     /// Adds the transforms that take a type which doesn't fit.
     fn push_taken(&self, places: &mut Items<Span>, here: usize, asks: &[Ask<'_>]) -> Mem<()>
-        ensures { OnOk result (places.new ≡ places.old ++ flat_map (spec.unfit_ask (H.says self.now.host.now) self.now.program.now here) (map asked.seen asks.now)) }
+        ensures { OnOk result (places.new
+            ≡ places.old ++ flat_map (spec.unfit_ask (H.says self.now.host.now) self.now.program.now here) (map asked.seen asks.now)) }
     {
         for ask in asks {
             self.push_ask(places, here, *ask)?;
@@ -230,7 +238,8 @@ impl<H: Host> Checker<'_, H> {
         post: &PostfixTransform,
         taken: Option<&Type>,
     ) -> Mem<()>
-        ensures { OnOk result (places.new ≡ places.old ++ spec.unfit_taken (H.says self.now.host.now) self.now.program.now here post.now (option_copied taken.entry)) }
+        ensures { OnOk result (places.new
+            ≡ places.old ++ spec.unfit_taken (H.says self.now.host.now) self.now.program.now here post.now (option_copied taken.entry)) }
     {
         let Some(ty) = taken else {
             return Ok(());
