@@ -1,3 +1,4 @@
 pub mod Filters
 pub mod Clean
 pub mod Owned
+pub mod Alone

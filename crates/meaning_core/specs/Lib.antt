@@ -7,6 +7,9 @@ pub mod Receivers
 pub mod Variants
 pub mod MetaCells
 pub mod Declarations
+pub mod Elements
+pub mod ElementMeaning
+pub mod ElementLaws
 pub mod EntrySteps
 pub mod Walk
 pub use Rattle.machine_steps.specs.Decls
