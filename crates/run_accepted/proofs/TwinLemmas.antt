@@ -5,8 +5,6 @@ use Rattle.std.specs.List.{AllZip}
 use Rattle.std.proofs.lemmas.List.Elements.{filter-append}
 use mathlib.Core.List.{append-eq-nil_iff}
 use Rattle.node_core.specs.declared.derive.DeriveInput.{DeriveInput}
-use Rattle.codegen_program.specs.declared.program.Derive.{Derive}
-use Rattle.codegen_program.specs.declared.program.Derive.TheVariants as derives
 use Rattle.codegen_program.specs.declared.program.Program.{Program}
 use Rattle.codegen_program.specs.declared.program.«Unit».{«Unit» as Unit'}
 use Rattle.machine_forms.specs.Names.{duplicate_names, names_in, repeated_names}
@@ -15,13 +13,14 @@ use Rattle.run_accepted.specs.Attributes.{without_attributes}
 use Rattle.run_accepted.specs.Derives.{derives_of}
 use Rattle.run_accepted.specs.declared.derives.Derived.{Derived}
 use Rattle.options_rows.specs.Values.{Rules}
-use Rattle.run_accepted.specs.Compiled.{IsProgram, IsUnit, IsUnitUnder}
+use Rattle.run_accepted.specs.Compiled.{IsProgram, IsUnit}
 use Rattle.run_accepted.specs.Pairs.{Pair, pair, pairs_from, pairs_of}
 use Rattle.run_accepted.specs.Accepted.{derives_named_again, duplicate}
 use Rattle.run_accepted.proofs.DeriveLemmas.{IsOf, no_twins}
 use Rattle.run_accepted.proofs.ListLemmas.{AllZip-filter, AllZip-of_map, filter-all, filter-none}
 use Rattle.run_accepted.proofs.NameLemmas.{only_names, same_names}
 use Rattle.run_accepted.proofs.PlaceLemmas.{none_first}
+use Rattle.run_accepted.proofs.UnitLemmas.{number_is, under_is}
 
 -- the pair is of the declaration of this number
 abbrev is_at : ℕ → Pair → Bool
@@ -37,18 +36,6 @@ none_before number from (decl ∷ decls) lt =
     (none_before number (suc from) decls (omega arith))
 
 module _ (rules : Rules) where
-  -- a unit has the number of its pair
-  number_is : (number : ℕ) (decl : DeriveInput) (derive : Derive) (unit : Unit') → IsUnitUnder rules number decl derive unit → unit.decl ≡ number
-  number_is number decl derives.FromMeta unit (left, is, compiled) = ap (λ (it : Unit'). it.decl) compiled
-  number_is number decl derives.FromDeriveInput unit (left, is, compiled) = ap (λ (it : Unit'). it.decl) compiled
-  number_is number decl _ unit is = absurd is
-
-  -- and its derive
-  derive_is : (number : ℕ) (decl : DeriveInput) (derive : Derive) (unit : Unit') → IsUnitUnder rules number decl derive unit → unit.derive ≡ derive
-  derive_is number decl derives.FromMeta unit (left, is, compiled) = ap (λ (it : Unit'). it.derive) compiled
-  derive_is number decl derives.FromDeriveInput unit (left, is, compiled) = ap (λ (it : Unit'). it.derive) compiled
-  derive_is number decl _ unit is = absurd is
-
   -- no two units of these pairs, of the declaration of the number, are of one derive
   abbrev HasNoTwins : ℕ → List Pair → Type 0
   HasNoTwins number pairs = (units : List Unit') → AllZip (IsUnit rules) (filter (is_at number) pairs) units → has_twins units ≡ false
@@ -65,7 +52,7 @@ module _ (rules : Rules) where
       ∙ ap₂ (λ xs ys. xs ++ ys) (filter-all (is_at number) with (λ it. is) its) (none_before number (suc from) decls (omega arith))
       ∙ append-nil (map with its) in
       no_twins its units single
-      (AllZip-of_map (IsUnit rules) IsOf with (λ it unit. derive_is from decl it.derive unit) its units (subst P kept are))
+      (AllZip-of_map (IsUnit rules) IsOf with (λ it unit. under_is rules from decl it.derive unit) its units (subst P kept are))
   by_number number from decl decls false is single rest units are =
       let with : Derived → Pair = λ it. pair from decl it.derive in
       let P : List Pair → Type 0 = λ pairs. AllZip (IsUnit rules) pairs units in
@@ -87,7 +74,7 @@ module _ (rules : Rules) where
   no_unit_twice decls units single are number =
       none_twice number 0 decls single (units_of units number)
       (AllZip-filter (IsUnit rules) (is_at number) (is_of number)
-      (λ it unit is. ap (λ n. n == number) (sym (number_is it.number it.decl it.derive unit is))) (pairs_from 0 decls) units are)
+      (λ it unit is. ap (λ n. n == number) (sym (number_is rules it.number it.decl it.derive unit is))) (pairs_from 0 decls) units are)
 
 -- where no name and no derive stands twice in the text, none does in the program
 pub no_duplicates : (rules : Rules) (decls : List DeriveInput) (program : Program) → duplicate decls ≡ None → IsProgram rules decls program

@@ -1,5 +1,5 @@
 -- Units, and the declarations and derives that they are made of.
-use Rattle.std.proofs.Common.{◌≡◌, ◌+◌, ℕ, suc, true, false, List, [], ◌∷◌, slice_get, Some, All, refl, ap, arith}
+use Rattle.std.proofs.Common.{◌≡◌, ◌∙◌, ◌+◌, ℕ, suc, true, List, [], ◌∷◌, slice_get, Some, All, refl, sym, ap, arith}
 use Rattle.std.proofs.lemmas.List.Elements.{All-append, All-map, All-nil}
 use Rattle.node_core.specs.declared.derive.DeriveInput.{DeriveInput}
 use Rattle.codegen_program.specs.declared.program.Derive.{Derive}
@@ -26,20 +26,34 @@ pairs_stand all number (decl ∷ decls) rest =
 pub all_stand : (decls : List DeriveInput) → All (Stands decls) (pairs_from 0 decls)
 all_stand decls = pairs_stand decls 0 decls (λ place at is. let same : at ≡ place = omega arith in ap (slice_get decls) same)
 
+-- items of a text are read under one derive
+input_is : (it : Derive) → is_input it ≡ true → it ≡ derive.FromDeriveInput
+input_is derive.FromMeta reads = absurd cc
+input_is derive.FromAttributes reads = absurd cc
+input_is derive.FromDeriveInput reads = refl
+input_is derive.FromField reads = absurd cc
+input_is derive.FromTypeParam reads = absurd cc
+input_is derive.FromVariant reads = absurd cc
+
 module _ (rules : Rules) where
   -- a unit has the number of its declaration
   pub number_is : (number : ℕ) (decl : DeriveInput) (it : Derive) (unit : Unit') → IsUnitUnder rules number decl it unit → unit.decl ≡ number
   number_is number decl derive.FromMeta unit (left, is, compiled) = ap (λ (it : Unit'). it.decl) compiled
+  number_is number decl derive.FromAttributes unit (left, is, compiled) = ap (λ (it : Unit'). it.decl) compiled
   number_is number decl derive.FromDeriveInput unit (left, is, compiled) = ap (λ (it : Unit'). it.decl) compiled
-  number_is number decl _ unit is = absurd is
+  number_is number decl derive.FromField unit (left, is, compiled) = ap (λ (it : Unit'). it.decl) compiled
+  number_is number decl derive.FromTypeParam unit (left, is, compiled) = ap (λ (it : Unit'). it.decl) compiled
+  number_is number decl derive.FromVariant unit (left, is, compiled) = ap (λ (it : Unit'). it.decl) compiled
+
+  -- and the derive that it is made under
+  pub under_is : (number : ℕ) (decl : DeriveInput) (it : Derive) (unit : Unit') → IsUnitUnder rules number decl it unit → unit.derive ≡ it
+  under_is number decl derive.FromMeta unit (left, is, compiled) = ap (λ (it : Unit'). it.derive) compiled
+  under_is number decl derive.FromAttributes unit (left, is, compiled) = ap (λ (it : Unit'). it.derive) compiled
+  under_is number decl derive.FromDeriveInput unit (left, is, compiled) = ap (λ (it : Unit'). it.derive) compiled
+  under_is number decl derive.FromField unit (left, is, compiled) = ap (λ (it : Unit'). it.derive) compiled
+  under_is number decl derive.FromTypeParam unit (left, is, compiled) = ap (λ (it : Unit'). it.derive) compiled
+  under_is number decl derive.FromVariant unit (left, is, compiled) = ap (λ (it : Unit'). it.derive) compiled
 
   -- a unit by which items of a text are read is made under `FromDeriveInput`
   pub derive_is : (number : ℕ) (decl : DeriveInput) (it : Derive) (unit : Unit') → IsUnitUnder rules number decl it unit → is_input unit.derive ≡ true → it ≡ derive.FromDeriveInput
-  derive_is number decl derive.FromMeta unit (left, is, compiled) reads =
-      let not : is_input unit.derive ≡ false = ap (λ (it : Unit'). is_input it.derive) compiled in
-      cc
-  derive_is number decl derive.FromDeriveInput unit is reads = refl
-  derive_is number decl derive.FromAttributes unit is reads = absurd is
-  derive_is number decl derive.FromField unit is reads = absurd is
-  derive_is number decl derive.FromTypeParam unit is reads = absurd is
-  derive_is number decl derive.FromVariant unit is reads = absurd is
+  derive_is number decl it unit is reads = input_is it (ap is_input (sym (under_is number decl it unit is)) ∙ reads)

@@ -7,7 +7,7 @@ use Rattle.codegen_program.specs.declared.program.Derive.{Derive}
 use Rattle.codegen_program.specs.declared.program.Derive.TheVariants as derive
 use Rattle.options_rows.specs.Values.{Rules}
 use Rattle.options_core.specs.Stages.{meta_reader, option_faults}
-use Rattle.options_core.specs.Readers.{fdi_reader}
+use Rattle.options_core.specs.Readers.{attributes_reader, fdi_reader, from_field_reader, from_variant_reader, type_param_reader}
 use Rattle.run_accepted.specs.Derives.{derives_of}
 use Rattle.run_accepted.specs.declared.rejected.Rejected.{Rejected}
 
@@ -32,8 +32,11 @@ pairs_from number (decl ∷ decls) = pairs_of number decl ++ pairs_from (suc num
 -- the faults of a declaration's options under a derive
 abbrev pub faults_under : Rules → DeriveInput → Derive → List Fault
 faults_under rules decl derive.FromMeta = option_faults (meta_reader rules decl) decl
+faults_under rules decl derive.FromAttributes = option_faults (attributes_reader rules decl) decl
 faults_under rules decl derive.FromDeriveInput = option_faults (fdi_reader rules decl) decl
-faults_under rules decl _ = []
+faults_under rules decl derive.FromField = option_faults (from_field_reader rules decl) decl
+faults_under rules decl derive.FromTypeParam = option_faults (type_param_reader rules decl) decl
+faults_under rules decl derive.FromVariant = option_faults (from_variant_reader rules decl) decl
 
 -- a declaration and its derive with these faults, where there are some
 abbrev pub rejected_with : DeriveInput → Derive → List Fault → Option Rejected

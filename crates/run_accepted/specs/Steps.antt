@@ -4,10 +4,12 @@ use Rattle.std.specs.List.{AllZip}
 use Rattle.error_core.specs.ErrorView.{leaves}
 use Rattle.error_core.specs.declared.fail.Fail.{Fail}
 use Rattle.error_core.specs.declared.fail.Fail.TheVariants as told
+use Rattle.error_fault.specs.declared.fault.Fault.{Fault}
 use Rattle.node_core.specs.declared.derive.DeriveInput.{DeriveInput}
 use Rattle.codegen_program.specs.declared.program.Derive.{Derive}
 use Rattle.codegen_program.specs.declared.program.«Unit».{«Unit» as Unit'}
 use Rattle.options_rows.specs.Values.{Rules}
+use Rattle.options_core.specs.Stages.{Reader, option_faults, options_of}
 use Rattle.run_accepted.specs.declared.rejected.CompileFail.{CompileFail}
 use Rattle.run_accepted.specs.declared.rejected.CompileFail.TheVariants as fails
 use Rattle.run_accepted.specs.Compiled.{IsUnit, IsUnitUnder}
@@ -18,15 +20,27 @@ abbrev pub rejection : DeriveInput → Derive → Fail → CompileFail
 rejection decl derive (told.Faults error) = fails.Rejected (record { decl = decl.ident; derive = derive; faults = leaves error })
 rejection decl derive told.NoMemory = fails.NoMemory
 
--- a pair has faults, and these are all; want of memory is free
+-- a declaration has these faults under a derive, and some; want of memory is free
+abbrev pub FailsWith : DeriveInput → Derive → List Fault → CompileFail → Type 0
+FailsWith decl derive faults (fails.Rejected it) = rejected_with decl derive faults ≡ Some it
+FailsWith decl derive faults fails.NoMemory = Unit {0}
+
 abbrev pub FailsUnder : Rules → DeriveInput → Derive → CompileFail → Type 0
-FailsUnder rules decl derive (fails.Rejected it) = rejected_with decl derive (faults_under rules decl derive) ≡ Some it
-FailsUnder rules decl derive fails.NoMemory = Unit {0}
+FailsUnder rules decl derive fail = FailsWith decl derive (faults_under rules decl derive) fail
+
+-- such a unit, where there are no faults, or all of these
+abbrev pub MakesWith : DeriveInput → Derive → List Fault → (Unit' → Type 0) → Result Unit' CompileFail → Type 0
+MakesWith decl derive faults Is (Ok unit) = (faults ≡ []) × Is unit
+MakesWith decl derive faults Is (Err fail) = FailsWith decl derive faults fail
+
+-- a unit that the options compile to, where these are read so, or all their faults
+abbrev pub MakesBy : {S : Type 0} → Reader S → (S → Unit' → Type 0) → DeriveInput → Derive → Result Unit' CompileFail → Type 0
+MakesBy reader Is decl derive result = MakesWith decl derive (option_faults reader decl) (Is (options_of reader decl)) result
 
 -- the unit of a declaration under a derive, or all its faults
 abbrev pub MakesUnit : Rules → ℕ → DeriveInput → Derive → Result Unit' CompileFail → Type 0
-MakesUnit rules number decl derive (Ok unit) = (faults_under rules decl derive ≡ []) × IsUnitUnder rules number decl derive unit
-MakesUnit rules number decl derive (Err fail) = FailsUnder rules decl derive fail
+MakesUnit rules number decl derive result =
+    MakesWith decl derive (faults_under rules decl derive) (IsUnitUnder rules number decl derive) result
 
 -- the units of these pairs, none of which is rejected
 pub record AreUnits (rules : Rules) (pairs : List Pair) (units : List Unit') : Type 0 where

@@ -1,8 +1,6 @@
 //! Which declarations can be run with a host.
 
 ghost use Rattle.std.specs.Prelude.{◌≡◌, ◌<◌, ◌^◌, ◌++◌, length, IfOk, OnOk};
-ghost use Rattle.std.specs.List.{All};
-ghost use Rattle.run_accepted.specs.Unbuilt.{IsBuilt};
 ghost use Rattle.machine_forms.specs.Names as names;
 ghost use Rattle.run_accepted.specs.Accepted as spec;
 
@@ -22,14 +20,13 @@ use tok_types::Span;
 
 /// Whether the declarations can be run with the host, and else why not.
 ///
-/// Declarations of forms that no run reads yet are told by [`unbuilt`](crate::unbuilt).
+/// Which declarations have forms that no run reads yet is told by [`unbuilt`](crate::unbuilt), and not here.
 pub fn accepted<H: Host>(
     alloc: Global,
     decls: &[DeriveInput],
     table: &RenameTable,
     host: &H,
 ) -> Result<(), RunError>
-    requires built { All IsBuilt decls.now }
     requires few { length decls.now < 2 ^ 32 }
     ensures { spec.Accepts (H.says host.now) table.now decls.now result }
 {
@@ -44,7 +41,6 @@ pub fn program_of<H: Host>(
     table: &RenameTable,
     host: &H,
 ) -> Result<Program, RunError>
-    requires built { All IsBuilt decls.now }
     requires few { length decls.now < 2 ^ 32 }
     ensures { spec.Compiles (H.says host.now) table.now decls.now result }
 {

@@ -1,17 +1,19 @@
 //! Forms of declarations that have no program, or that no run supports.
 
 ghost use Rattle.std.specs.Prelude.{◌≡◌, ◌++◌, flat_map, IfOk, OnOk};
-ghost use Rattle.options_core.specs.Stages.{meta_reader, options_of};
-ghost use Rattle.options_forms.specs.Forms.{input_forms, meta_forms};
-ghost use Rattle.options_core.specs.Readers.{fdi_reader};
+ghost use Rattle.options_core.specs.Stages.{options_of};
 ghost use Rattle.run_accepted.specs.Forms as spec;
 
+use crate::derive_options::DeriveOptions;
 use crate::{Derived, derives_of};
 use base_core::{Items, Mem};
 use codegen_program::Derive;
 use machine_forms::{earliest_form, push_declared_forms};
 use node_core::DeriveInput;
-use options_core::{FdiOptions, FromMetaOptions};
+use options_core::{
+    FdiOptions, FromAttributesOptions, FromFieldOptions, FromMetaOptions, FromTypeParamOptions,
+    FromVariantOptions,
+};
 use options_forms::{Forms, Unsupported};
 use options_rows::RenameTable;
 use std::alloc::{AllocError, Global};
@@ -72,38 +74,25 @@ fn push_under(
     ensures { OnOk result (places.new ≡ places.old ++ spec.forms_under table.now decl.now derive) }
 {
     match derive {
-        Derive::FromMeta => push_meta(alloc, decl, table, places),
-        Derive::FromAttributes => Ok(()),
-        Derive::FromDeriveInput => push_input(alloc, decl, table, places),
-        Derive::FromField => Ok(()),
-        Derive::FromTypeParam => Ok(()),
-        Derive::FromVariant => Ok(()),
+        Derive::FromMeta => push_by::<FromMetaOptions>(alloc, decl, table, places),
+        Derive::FromAttributes => push_by::<FromAttributesOptions>(alloc, decl, table, places),
+        Derive::FromDeriveInput => push_by::<FdiOptions>(alloc, decl, table, places),
+        Derive::FromField => push_by::<FromFieldOptions>(alloc, decl, table, places),
+        Derive::FromTypeParam => push_by::<FromTypeParamOptions>(alloc, decl, table, places),
+        Derive::FromVariant => push_by::<FromVariantOptions>(alloc, decl, table, places),
     }
 }
 
-fn push_meta(
+/// Adds what such options of the declaration show.
+fn push_by<O: DeriveOptions + Forms>(
     alloc: Global,
     decl: &DeriveInput,
     table: &RenameTable,
     places: &mut Items<Unsupported>,
 ) -> Mem<()>
-    ensures { OnOk result (places.new ≡ places.old ++ meta_forms (options_of (meta_reader table.now decl.now) decl.now)) }
+    ensures { OnOk result (places.new ≡ places.old ++ O.forms (options_of (O.reader table.now decl.now) decl.now)) }
 {
-    match FromMetaOptions::new(alloc, decl, table) {
-        Ok(options) => options.push_forms(places),
-        Err(_) => Err(AllocError),
-    }
-}
-
-fn push_input(
-    alloc: Global,
-    decl: &DeriveInput,
-    table: &RenameTable,
-    places: &mut Items<Unsupported>,
-) -> Mem<()>
-    ensures { OnOk result (places.new ≡ places.old ++ input_forms (options_of (fdi_reader table.now decl.now) decl.now)) }
-{
-    match FdiOptions::new(alloc, decl, table) {
+    match O::of(alloc, decl, table) {
         Ok(options) => options.push_forms(places),
         Err(_) => Err(AllocError),
     }

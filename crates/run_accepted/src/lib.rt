@@ -5,6 +5,7 @@
 mod acceptance;
 mod attributes;
 mod declaration;
+mod derive_options;
 mod derives;
 mod error;
 mod fields;

@@ -1,10 +1,8 @@
 //! Declarations compiled to a program.
 
 ghost use Rattle.std.specs.Prelude.{◌≡◌, ◌≤◌, ◌<◌, ◌^◌, ◌++◌, ◌∷◌, [], length, map, List, IfOk};
-ghost use Rattle.std.specs.List.{All};
 ghost use Rattle.run_accepted.specs.Attributes.{without_attributes};
 ghost use Rattle.run_accepted.specs.Derives.{derives_of};
-ghost use Rattle.run_accepted.specs.Unbuilt.{IsBuilt, IsBuiltUnder};
 ghost use Rattle.run_accepted.specs.Compiled as spec;
 ghost use Rattle.run_accepted.specs.Pairs.{Pair, pair, pairs_from, pairs_of};
 ghost use Rattle.run_accepted.specs.Steps as steps;
@@ -21,13 +19,12 @@ use std::alloc::Global;
 /// The program of the declarations, in which each of their derives has a unit, or the first declaration and derive whose
 /// options have faults, with all of these.
 ///
-/// Declarations of forms that no run reads yet are told by [`unbuilt`](crate::unbuilt).
+/// Which declarations have forms that no run reads yet is told by [`unbuilt`](crate::unbuilt), and not here.
 pub fn compile(
     alloc: Global,
     decls: &[DeriveInput],
     table: &RenameTable,
 ) -> Result<Program, CompileFail>
-    requires built { All IsBuilt decls.now }
     requires few { length decls.now < 2 ^ 32 }
     ensures { spec.Compiles table.now decls.now result }
 {
@@ -56,7 +53,6 @@ fn push_all(
     table: &RenameTable,
     units: &mut Items<Unit>,
 ) -> Result<(), CompileFail>
-    requires built { All IsBuilt decls.now }
     requires few { length decls.now < 2 ^ 32 }
     ensures { (before : List Pair) → steps.AreUnits table.now before units.old
         → steps.Leaves table.now (before ++ pairs_from 0 decls.now) units.new result }
@@ -75,7 +71,6 @@ fn push_units(
     table: &RenameTable,
     units: &mut Items<Unit>,
 ) -> Result<(), CompileFail>
-    requires { IsBuilt decl.now }
     ensures { (before : List Pair) → steps.AreUnits table.now before units.old
         → steps.Leaves table.now (before ++ pairs_of number decl.now) units.new result }
 {
@@ -95,7 +90,6 @@ fn push_unit(
     table: &RenameTable,
     units: &mut Items<Unit>,
 ) -> Result<(), CompileFail>
-    requires { IsBuiltUnder decl.now derive }
     ensures { (before : List Pair) → steps.AreUnits table.now before units.old
         → steps.Leaves table.now (before ++ pair number decl.now derive ∷ []) units.new result }
 {

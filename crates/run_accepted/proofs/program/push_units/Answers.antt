@@ -1,25 +1,14 @@
-use Rattle.std.proofs.Common.{arith, ◌≡◌, ◌∙◌, List, [], ◌∷◌, ◌++◌, ◌+◌, drop, map, get_or, ap, sym, subst}
-use Rattle.std.specs.List.{All}
+use Rattle.std.proofs.Common.{arith, ◌≡◌, ◌∙◌, List, [], ◌∷◌, ◌++◌, ◌+◌, drop, map, get_or, ap, subst}
 use Rattle.std.proofs.lemmas.List.{drop_all}
 use Rattle.std.proofs.lemmas.Result.{err_from_is_err_and}
 use Rattle.tok_types.specs.declared.span.Span.TheVariants.{CallSite}
 use Rattle.codegen_program.specs.declared.program.Derive.TheVariants.{FromMeta}
 use Rattle.run_accepted.specs.declared.derives.Derived.{Derived}
 use Rattle.run_accepted.specs.Derives.{derives_of}
-use Rattle.run_accepted.specs.Unbuilt.{IsBuiltUnder}
-use Rattle.run_accepted.proofs.BuiltLemmas.{built_under}
 use Rattle.run_accepted.specs.Pairs.{Pair, pair}
 use Rattle.run_accepted.specs.Steps.{AreUnits, Rejects}
 use Rattle.run_accepted.proofs.PairLemmas.{ends, map_next, stops}
 use Rattle.run_accepted.proofs.program.push_units.Goals as goal
-
-pub push_unit-requires : goal.push_unit-requires
-push_unit-requires c =
-    let decl = c.args.decl.now in
-    let P : List Derived → Type 0 = λ derives. All (λ it. IsBuiltUnder decl it.derive) derives in
-    let e : c.as_slice-it-items.result.now ≡ derives_of decl.attrs =
-    c.as_slice-it-items.ensures ∙ c.in_ok-derives.ensures ∙ ap derives_of c.as_slice.ensures in
-    subst P (sym e) (built_under decl c.requires) c.loop-it.it-index _ c.loop-it-test.true
 
 pub returns-in_err-push_unit : goal.returns-in_err-push_unit
 returns-in_err-push_unit c before are =
