@@ -140,8 +140,8 @@ module _ (host : HostSays) (rules : Rules) (decls : List DeriveInput) (program :
       let unit_is : IsInputUnit made.unit meant = (
         left,
         compiled,
-        input_options_are rules own left number left_is (is_bare rules own input left left_is) (left_is.from_ident ∙ no_ident rules own input),
-        ap unit_type compiled ∙ ap (λ ident. named_type ident.text) left_is.base.ident,
+        input_options_are rules own left number left_is (is_bare rules own input left left_is) (left_is.outer.from_ident ∙ no_ident rules own input),
+        ap unit_type compiled ∙ ap (λ ident. named_type ident.text) left_is.outer.base.ident,
       ) in
       let met =
       input_is_met host program made.unit meant (without_attributes own) made.among made.numbered unit_is known.0 known.1 bare whole in

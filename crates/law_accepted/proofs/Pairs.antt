@@ -94,10 +94,14 @@ module _ (rules : Rules) where
     item_step at decl derive.FromMeta unit pairs units made is rest = chosen at decl unit pairs units (at == number) refl made is rest
     item_step at decl derive.FromDeriveInput unit pairs units made is rest =
         later (IsItem number found) (pair at decl derive.FromDeriveInput) unit pairs units (rest is)
-    item_step at decl derive.FromAttributes unit pairs units made is rest = absurd made
-    item_step at decl derive.FromField unit pairs units made is rest = absurd made
-    item_step at decl derive.FromTypeParam unit pairs units made is rest = absurd made
-    item_step at decl derive.FromVariant unit pairs units made is rest = absurd made
+    item_step at decl derive.FromAttributes unit pairs units made is rest =
+        later (IsItem number found) (pair at decl derive.FromAttributes) unit pairs units (rest is)
+    item_step at decl derive.FromField unit pairs units made is rest =
+        later (IsItem number found) (pair at decl derive.FromField) unit pairs units (rest is)
+    item_step at decl derive.FromTypeParam unit pairs units made is rest =
+        later (IsItem number found) (pair at decl derive.FromTypeParam) unit pairs units (rest is)
+    item_step at decl derive.FromVariant unit pairs units made is rest =
+        later (IsItem number found) (pair at decl derive.FromVariant) unit pairs units (rest is)
 
     item_at : (pairs : List Pair) (units : List Unit') → AllZip (IsUnit rules) pairs units → meta_decl (flat_map (pair_decls rules) pairs) number ≡ Some found
         → IsAt rules pairs units (IsItem number found)

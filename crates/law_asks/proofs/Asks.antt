@@ -83,7 +83,7 @@ module _ (host : HostSays) (program : Program) (unit : Unit') (decl : Decl) (dec
 
 pub input_is_met : InputIsMet
 input_is_met host program unit decl declared held numbered (left, compiled, is, typed) types callables found of =
-    is_met host program unit decl declared (has_names decl.attributes) left.base held numbered
+    is_met host program unit decl declared (has_names decl.attributes) left.outer.base held numbered
     (ap unit_asks compiled ∙ input_unit_asks decl left decl.number is) is.base types callables found of
 
 pub items_are_met : ItemsAreMet

@@ -108,14 +108,14 @@ module _ (decl : Decl) (base : TraitImpl) (is : IsDecl base decl) where
       ∙ append-nil (asks_in (for_items base))
       ∙ items_ask
 
-input_asks : (decl : Decl) (left : FromDeriveInputImpl) → IsInputDecl left decl → all_asks (bare_stmts left) ≡ base_asks (has_names decl.attributes) decl left.base
+input_asks : (decl : Decl) (left : FromDeriveInputImpl) → IsInputDecl left decl → all_asks (bare_stmts left) ≡ base_asks (has_names decl.attributes) decl left.outer.base
 input_asks decl left is =
-    let base = left.base in
+    let base = left.outer.base in
     let declared : List Stmt = declarations (fields_of base) in
     let over : List Text → List Stmt = λ names. over_read names base in
-    let ending : List Stmt = closing left.from_ident base in
+    let ending : List Stmt = closing left.outer.from_ident base in
     let rest : List Stmt = stmt.CheckShape shapes.Any ∷ (stmt.ReadBody None None ∷ ending) in
-    let names : List Text = map path_text left.attr_names.now.0 in
+    let names : List Text = map path_text left.outer.attr_names.now.0 in
     ap (λ asks. asks ++ all_asks (declared ++ (over names ++ rest))) asked.declare_errors
     ∙ all_asks-append declared (over names ++ rest)
     ∙ ap (λ asks. all_asks declared ++ asks)
@@ -129,7 +129,7 @@ pub meta_unit_asks : (decl : Decl) (left : FromMetaImpl) (number : ℕ) → IsDe
 meta_unit_asks decl left number is = append-nil (all_asks (list_stmts left.base)) ∙ list_asks decl left.base is
 
 pub input_unit_asks : (decl : Decl) (left : FromDeriveInputImpl) (number : ℕ) → IsInputDecl left decl
-    → unit_asks (compiled_derive_input left number) ≡ base_asks (has_names decl.attributes) decl left.base
+    → unit_asks (compiled_derive_input left number) ≡ base_asks (has_names decl.attributes) decl left.outer.base
 input_unit_asks decl left number is =
     ap unit_asks (bare_unit left number is.bare) ∙ append-nil (all_asks (bare_stmts left)) ∙ input_asks decl left is
 

@@ -5,8 +5,6 @@ use Rattle.std.proofs.lemmas.List.{get_or_default}
 use Rattle.std.proofs.lemmas.List.Elements.{All-append, All-from_recursion, All-map, All-nil, recursion_from_All}
 use Rattle.std.proofs.lemmas.Option.{slice_get-map}
 use Rattle.node_core.specs.declared.derive.DeriveInput.{DeriveInput}
-use Rattle.codegen_program.specs.declared.program.Derive.{Derive}
-use Rattle.codegen_program.specs.declared.program.Derive.TheVariants as derive
 use Rattle.codegen_program.specs.declared.program.«Unit».{«Unit» as Unit'}
 use Rattle.law_options.specs.Values.{Rules}
 use Rattle.run_accepted.specs.Attributes.{without_attributes}
@@ -15,7 +13,7 @@ use Rattle.run_accepted.specs.Derives.{derives_of}
 use Rattle.run_accepted.specs.Pairs.{Pair, faults_under, pair, pairs_from, pairs_of, rejected}
 use Rattle.run_accepted.specs.Plain.{IsPlainDecl}
 use Rattle.run_accepted.proofs.ListLemmas.{at_place}
-use Rattle.run_accepted.proofs.UnitLemmas.{Stands, all_stand, number_is}
+use Rattle.run_accepted.proofs.UnitLemmas.{Stands, all_stand, number_is, under_is}
 use Rattle.law_options.proofs.Clear.{none_with}
 use Rattle.law_given.specs.Claims.{CompiledIsGiven}
 use Rattle.law_given.specs.Given.{HasFewFields, IsBare, IsGivenUnit, NamesDerive, NamesNoGenerated}
@@ -67,50 +65,41 @@ of_all decls built few (it ∷ pairs) stand name = (
 
 -- ---- units
 
-module _ (rules : Rules) where
-  derive_is : (number : ℕ) (decl : DeriveInput) (it : Derive) (unit : Unit') → IsUnitUnder rules number decl it unit → unit.derive ≡ it
-  derive_is number decl derive.FromMeta unit (left, is, compiled) = ap (λ (it : Unit'). it.derive) compiled
-  derive_is number decl derive.FromDeriveInput unit (left, is, compiled) = ap (λ (it : Unit'). it.derive) compiled
-  derive_is number decl derive.FromAttributes unit is = absurd is
-  derive_is number decl derive.FromField unit is = absurd is
-  derive_is number decl derive.FromTypeParam unit is = absurd is
-  derive_is number decl derive.FromVariant unit is = absurd is
+module _ (rules : Rules) (decls : List DeriveInput) where
+  abbrev bare : List DeriveInput
+  bare = map without_attributes decls
 
-  module _ (decls : List DeriveInput) where
-    abbrev bare : List DeriveInput
-    bare = map without_attributes decls
+  bare_at : (number : ℕ) (decl : DeriveInput) → slice_get decls number ≡ Some decl → slice_get bare number ≡ Some (without_attributes decl)
+  bare_at number decl stands = slice_get-map without_attributes decls number ∙ ap (option_map without_attributes) stands
 
-    bare_at : (number : ℕ) (decl : DeriveInput) → slice_get decls number ≡ Some decl → slice_get bare number ≡ Some (without_attributes decl)
-    bare_at number decl stands = slice_get-map without_attributes decls number ∙ ap (option_map without_attributes) stands
+  -- what is made of a pair is given
+  given : (it : Pair) (unit : Unit') → IsOf decls it → NamesNoGenerated unit
+      → faults_under rules it.decl it.derive ≡ [] → IsUnit rules it unit → IsGivenUnit bare unit
+  given it unit is plain none made =
+      let number = number_is rules it.number it.decl it.derive unit made in
+      let derive = under_is rules it.number it.decl it.derive unit made in
+      record {
+        written = it.decl;
+        rules = rules;
+        stands = ap (slice_get bare) number ∙ bare_at it.number it.decl is.stands;
+        named = subst (NamesDerive it.decl) (sym derive) is.named;
+        built = is.built;
+        faultless = ap (faults_under rules it.decl) derive ∙ none;
+        compiled =
+            subst (λ under. IsUnitUnder rules unit.decl it.decl under unit) (sym derive)
+            (subst (λ at. IsUnitUnder rules at it.decl it.derive unit) (sym number) made);
+        plain = plain;
+        few = is.few;
+      }
 
-    -- what is made of a pair is given
-    given : (it : Pair) (unit : Unit') → IsOf decls it → NamesNoGenerated unit
-        → faults_under rules it.decl it.derive ≡ [] → IsUnit rules it unit → IsGivenUnit bare unit
-    given it unit is plain none made =
-        let number = number_is rules it.number it.decl it.derive unit made in
-        let derive = derive_is it.number it.decl it.derive unit made in
-        record {
-          written = it.decl;
-          rules = rules;
-          stands = ap (slice_get bare) number ∙ bare_at it.number it.decl is.stands;
-          named = subst (NamesDerive it.decl) (sym derive) is.named;
-          built = is.built;
-          faultless = ap (faults_under rules it.decl) derive ∙ none;
-          compiled =
-              subst (λ under. IsUnitUnder rules unit.decl it.decl under unit) (sym derive)
-              (subst (λ at. IsUnitUnder rules at it.decl it.derive unit) (sym number) made);
-          plain = plain;
-          few = is.few;
-        }
-
-    all_given : (pairs : List Pair) (units : List Unit') → AllZip (IsUnit rules) pairs units → AllByRecursion (IsOf decls) pairs
-        → AllByRecursion NamesNoGenerated units → rejected rules pairs ≡ None → AllByRecursion (IsGivenUnit bare) units
-    all_given [] [] made are plain none = tt
-    all_given [] (unit ∷ units) made are plain none = absurd made
-    all_given (it ∷ pairs) [] made are plain none = absurd made
-    all_given (it ∷ pairs) (unit ∷ units) made are plain none =
-        let both = none_with it.decl it.derive (faults_under rules it.decl it.derive) (rejected rules pairs) none in
-        (given it unit are.0 plain.0 both.0 made.0, all_given pairs units made.1 are.1 plain.1 both.1)
+  all_given : (pairs : List Pair) (units : List Unit') → AllZip (IsUnit rules) pairs units → AllByRecursion (IsOf decls) pairs
+      → AllByRecursion NamesNoGenerated units → rejected rules pairs ≡ None → AllByRecursion (IsGivenUnit bare) units
+  all_given [] [] made are plain none = tt
+  all_given [] (unit ∷ units) made are plain none = absurd made
+  all_given (it ∷ pairs) [] made are plain none = absurd made
+  all_given (it ∷ pairs) (unit ∷ units) made are plain none =
+      let both = none_with it.decl it.derive (faults_under rules it.decl it.derive) (rejected rules pairs) none in
+      (given it unit are.0 plain.0 both.0 made.0, all_given pairs units made.1 are.1 plain.1 both.1)
 
 pub compiled_is_given : CompiledIsGiven
 compiled_is_given rules decls program built few plain none is =

@@ -108,10 +108,10 @@ module _ (rules : Rules) where
   unit_is_left number decl derive.FromDeriveInput unit plain built (left, is, compiled) =
       let own = number_is rules number decl derive.FromDeriveInput unit (left, is, compiled) in
       let bare = is_bare rules decl built left is in
-      let ident : left.from_ident ≡ false = is.from_ident ∙ no_ident rules decl built in
+      let ident : left.outer.from_ident ≡ false = is.outer.from_ident ∙ no_ident rules decl built in
       let meant = input_options_are rules decl left number is bare ident in
-      inr (left, compiled ∙ ap (compiled_derive_input left) (sym own), is_left left.base _ meant.base, bare, ident)
-  unit_is_left number decl derive.FromAttributes unit plain built is = absurd is
-  unit_is_left number decl derive.FromField unit plain built is = absurd is
-  unit_is_left number decl derive.FromTypeParam unit plain built is = absurd is
-  unit_is_left number decl derive.FromVariant unit plain built is = absurd is
+      inr (left, compiled ∙ ap (compiled_derive_input left) (sym own), is_left left.outer.base _ meant.base, bare, ident)
+  unit_is_left number decl derive.FromAttributes unit plain built is = absurd built
+  unit_is_left number decl derive.FromField unit plain built is = absurd built
+  unit_is_left number decl derive.FromTypeParam unit plain built is = absurd built
+  unit_is_left number decl derive.FromVariant unit plain built is = absurd built

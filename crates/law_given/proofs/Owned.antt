@@ -106,13 +106,13 @@ module _ (rules : Rules) (decl : DeriveInput) (few : HasFewFields decl) where
       let core = (container_options (fdi_reader rules decl) decl).base.container in
       let whole = (options_of (fdi_reader rules decl) decl).base.container in
       subst (IsOfDeclaration (without_attributes decl)) (sym (compiled ∙ bare_unit left number (is_bare rules decl built left is)))
-      (unit_owned core whole left.base number derive.FromDeriveInput false _ is.base refl refl
+      (unit_owned core whole left.outer.base number derive.FromDeriveInput false _ is.outer.base refl refl
       (ap (λ its. with_fields (start_body decl.body) (good_fields rules core its)) (own_same decl built))
       (sym (own_faults rules core decl built) ∙ no_field_faults (fdi_reader rules decl) decl none) (input_slots left))
-  owned number derive.FromAttributes unit plain built none is = absurd is
-  owned number derive.FromField unit plain built none is = absurd is
-  owned number derive.FromTypeParam unit plain built none is = absurd is
-  owned number derive.FromVariant unit plain built none is = absurd is
+  owned number derive.FromAttributes unit plain built none is = absurd built
+  owned number derive.FromField unit plain built none is = absurd built
+  owned number derive.FromTypeParam unit plain built none is = absurd built
+  owned number derive.FromVariant unit plain built none is = absurd built
 
 pub given_is_of_declarations : GivenIsOfDeclarations
 given_is_of_declarations program number unit given at =

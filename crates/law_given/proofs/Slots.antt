@@ -119,14 +119,14 @@ pub list_slots : (base : TraitImpl) → filter_map stmt_slot (list_stmts base) �
 list_slots base = declared 0 (fields_of base) _ (no_errors, (items_none base, closing_none false base))
 
 -- so does `from_derive_input` that reads attributes alone
-pub input_slots : (it : FromDeriveInputImpl) → filter_map stmt_slot (bare_stmts it) ≡ numbered (map left_member (fields_of it.base))
+pub input_slots : (it : FromDeriveInputImpl) → filter_map stmt_slot (bare_stmts it) ≡ numbered (map left_member (fields_of it.outer.base))
 input_slots it =
     let shape : DeclaresNone (stmt.CheckShape shapes.Any) = ap layer_slot (stmt.outs-CheckShape shapes.Any) in
     let body : DeclaresNone (stmt.ReadBody None None) = ap layer_slot (stmt.outs-ReadBody None None) in
-    let names = map path_text it.attr_names.now.0 in
-    let over = over_read names it.base in
-    let later = over ++ (stmt.CheckShape shapes.Any ∷ (stmt.ReadBody None None ∷ closing it.from_ident it.base)) in
-    ap (λ slot. cons_option slot (filter_map stmt_slot (declarations (fields_of it.base) ++ later))) no_errors
-    ∙ declared 0 (fields_of it.base) later
-    (all-append DeclaresNone over _ (attributes_none names it.base)
-    (shape, (body, closing_none it.from_ident it.base)))
+    let names = map path_text it.outer.attr_names.now.0 in
+    let over = over_read names it.outer.base in
+    let later = over ++ (stmt.CheckShape shapes.Any ∷ (stmt.ReadBody None None ∷ closing it.outer.from_ident it.outer.base)) in
+    ap (λ slot. cons_option slot (filter_map stmt_slot (declarations (fields_of it.outer.base) ++ later))) no_errors
+    ∙ declared 0 (fields_of it.outer.base) later
+    (all-append DeclaresNone over _ (attributes_none names it.outer.base)
+    (shape, (body, closing_none it.outer.from_ident it.outer.base)))

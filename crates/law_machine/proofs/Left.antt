@@ -258,10 +258,10 @@ meta_funcs_have_outcomes setting before unit (left, compiled, is) =
 
 pub inputs_have_outcomes : InputsHaveOutcomes
 inputs_have_outcomes setting before unit input (left, compiled, is, bare, no_ident) =
-    let names = map path_text left.attr_names.now.0 in
-    let decl = meant_decl (unit_type unit) names left.base in (
+    let names = map path_text left.outer.attr_names.now.0 in
+    let decl = meant_decl (unit_type unit) names left.outer.base in (
       _,
       ap (λ u. run_func setting before is_from_derive_input u (OnElement (OnInput input))) (compiled ∙ bare_unit left unit.decl bare)
           ∙ input_outcome setting before (receiver_of setting (compiled_bare left unit.decl)) left decl input
-          (record { base = decl_is (unit_type unit) names left.base is; attributes = refl; bare = bare; no_ident = no_ident }),
+          (record { base = decl_is (unit_type unit) names left.outer.base is; attributes = refl; bare = bare; no_ident = no_ident }),
     )

@@ -187,14 +187,14 @@ pub input_outcome : (setting : Setting) (before : Before) (receiver : Receiver) 
     ≡ Some (written_meaning setting (metas before) decl receiver.type (declared_style receiver.decl) (named_entries decl.attributes input.attrs))
 input_outcome setting before receiver left decl input is =
     let asked = OnElement (OnInput input) in
-    let base = left.base in
+    let base = left.outer.base in
     let es = named_entries decl.attributes input.attrs in
     let go : List Stmt → Progress → Progress = λ ss p. run_from setting before receiver ss asked p in
     let start = with_slots_kept setting before receiver asked no_aside decl.body [] [] [] in
     let behind_body : Bool → List Stmt = λ b. closing b base in
-    let behind_attributes = stmt.CheckShape shapes.Any ∷ (stmt.ReadBody None None ∷ behind_body left.from_ident) in
+    let behind_attributes = stmt.CheckShape shapes.Any ∷ (stmt.ReadBody None None ∷ behind_body left.outer.from_ident) in
     let loop : List Text → List Stmt = λ ns. over_read ns base in
-    let ns = map path_text left.attr_names.now.0 in
+    let ns = map path_text left.outer.attr_names.now.0 in
     let behind_slots = loop ns ++ behind_attributes in
     let state = state_behind setting (metas before) decl.body [] [] in
     let state_is = Going (state_behind setting (metas before) decl.body (items es) (all_entry_faults setting (metas before) decl.body [] es)) no_aside in
@@ -205,8 +205,8 @@ input_outcome setting before receiver left decl input is =
     ∙ statement.run_append setting before receiver (loop ns) behind_attributes asked (Going state no_aside)
     ∙ ap (λ ns. go behind_attributes (go (loop ns) (Going state no_aside))) is.attributes
     ∙ ap (go behind_attributes) (over_is setting before receiver no_aside decl base is.base decl.attributes state asked ∙ walked setting before receiver no_aside decl base is.base asked es)
-    ∙ ap (go (stmt.ReadBody None None ∷ behind_body left.from_ident)) (statement.check_shape setting before receiver shapes.Any asked state_is)
-    ∙ ap (go (behind_body left.from_ident)) (statement.read_body setting before receiver None None asked state_is)
+    ∙ ap (go (stmt.ReadBody None None ∷ behind_body left.outer.from_ident)) (statement.check_shape setting before receiver shapes.Any asked state_is)
+    ∙ ap (go (behind_body left.outer.from_ident)) (statement.read_body setting before receiver None None asked state_is)
     ∙ ap (λ b. go (behind_body b) state_is) is.no_ident)
     ∙ close setting before receiver no_aside decl base is.base asked es
 

@@ -73,10 +73,10 @@ pub record IsDecl (left : TraitImpl) (decl : Decl) : Type 0 where
 
 -- the same with the names of the attributes that are read, where nothing else of an item is; its default comes from no identifier
 pub record IsInputDecl (left : FromDeriveInputImpl) (decl : Decl) : Type 0 where
-  pub base : IsDecl left.base decl
-  pub attributes : map path_text left.attr_names.now.0 ≡ decl.attributes
+  pub base : IsDecl left.outer.base decl
+  pub attributes : map path_text left.outer.attr_names.now.0 ≡ decl.attributes
   pub bare : IsBare left
-  pub no_ident : left.from_ident ≡ false
+  pub no_ident : left.outer.from_ident ≡ false
 
 -- ---- `FromMeta`
 

@@ -113,7 +113,7 @@ IsLeftMeta unit = (left : FromMetaImpl) × (unit ≡ compiled_meta left unit.dec
 -- the unit of `FromDeriveInput` that options leave, which reads attributes alone; none of its defaults comes from the identifier
 abbrev pub IsLeftInput : Unit' → Type 0
 IsLeftInput unit =
-    (left : FromDeriveInputImpl) × (unit ≡ compiled_derive_input left unit.decl) × IsLeft left.base × IsBare left × (left.from_ident ≡ false)
+    (left : FromDeriveInputImpl) × (unit ≡ compiled_derive_input left unit.decl) × IsLeft left.outer.base × IsBare left × (left.outer.from_ident ≡ false)
 
 -- a unit that options leave
 abbrev pub IsLeftUnit : Unit' → Type 0

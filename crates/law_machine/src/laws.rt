@@ -1,6 +1,7 @@
 //! The laws. These functions do nothing: their clauses are the laws.
 
-ghost use Rattle.law_machine.specs.Claims.{CellsAreMeant, InputIsMeaning, InputsHaveOutcomes, ListIsMeaning, MetaFuncsHaveOutcomes, ProgramIsMeaning, UnitsCanBeRun};
+ghost use Rattle.law_machine.specs.Claims.{CellsAreMeant, InputIsMeaning, InputsHaveOutcomes, ListIsMeaning};
+ghost use Rattle.law_machine.specs.Claims.{MetaFuncsHaveOutcomes, ProgramIsMeaning, UnitsCanBeRun};
 
 /// `from_list` of a struct gives what the items mean under the declaration, for every host and whatever the
 /// declarations before it read; it never looks for a value that is not there.

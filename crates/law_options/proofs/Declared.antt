@@ -171,8 +171,8 @@ input_options_are rules input left number is bare no_ident =
     replaced_default _ (values _ from_ident_of named)
     (first_default (same_core default.name) None (core_items named) tt) in
     record {
-      base = decl_is left.base _ number _ is.base (whole_is rules set.base.container input.body (own_fields derive.FromDeriveInput (body_fields input.body)) own);
-      attributes = ap (λ names. map path_text names.0) is.names;
+      base = decl_is left.outer.base _ number _ is.outer.base (whole_is rules set.base.container input.body (own_fields derive.FromDeriveInput (body_fields input.body)) own);
+      attributes = ap (λ names. map path_text names.0) is.outer.names;
       bare = bare;
       no_ident = no_ident;
     }

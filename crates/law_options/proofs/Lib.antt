@@ -10,4 +10,6 @@ pub mod Clear
 pub mod Idents
 pub mod Parts
 pub mod Programs
+pub mod OneReceiver
+pub mod OneElement
 pub mod OneProgram

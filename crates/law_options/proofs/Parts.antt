@@ -101,11 +101,11 @@ pub is_bare : (rules : Rules) (decl : DeriveInput) → input_places decl ≡ [] 
     → IsInputImpl left (options_of (fdi_reader rules decl) decl) → IsBare left
 is_bare rules decl built left is =
     record {
-      ident = is.ident ∙ no_forwarded decl built magic.Ident;
+      ident = is.outer.ident ∙ no_forwarded decl built magic.Ident;
       vis = is.vis ∙ no_given decl built magic.Vis;
       generics = is.generics ∙ no_forwarded decl built magic.Generics;
       body = is.body ∙ no_forwarded decl built magic.Body;
-      attrs = is.forward.field ∙ no_forwarded decl built magic.Attrs;
+      attrs = is.outer.forward.field ∙ no_forwarded decl built magic.Attrs;
       supports = is.supports ∙ no_supports rules decl built;
-      own = plain_own left.base (left_is_plain left.base _ is.base (input_is_plain rules decl built));
+      own = plain_own left.outer.base (left_is_plain left.outer.base _ is.outer.base (input_is_plain rules decl built));
     }

@@ -10,12 +10,12 @@ use Rattle.node_core.specs.declared.data.«Data».{«Data»}
 use Rattle.node_core.specs.declared.data.«Data».TheVariants as body
 use Rattle.node_core.specs.declared.style.Style.TheVariants as style
 use Rattle.node_core.specs.declared.derive.DeriveInput.{DeriveInput}
+use Rattle.codegen_program.specs.Traits.{same_derive}
 use Rattle.codegen_program.specs.declared.program.Derive.{Derive}
 use Rattle.codegen_program.specs.declared.program.Derive.TheVariants as derive
 use Rattle.codegen_program.specs.declared.program.«Unit».{«Unit» as Unit'}
 use Rattle.codegen_core.specs.Compiled.{compiled_meta}
 use Rattle.codegen_core.specs.declared.from_meta_impl.FromMetaImpl.{FromMetaImpl}
-use Rattle.codegen_outer.specs.CompiledOuter.{compiled_derive_input}
 use Rattle.run_accepted.specs.Made.{named_type}
 use Rattle.machine_steps.specs.Machine.{unit_under, unit_type}
 use Rattle.law_machine.specs.Receivers.{MetaDecl}
@@ -54,7 +54,7 @@ chosen : (bare : List DeriveInput) (test : Bool) (unit : Unit') (decl : MetaDecl
 chosen bare true unit decl units decls is are = is
 chosen bare false unit decl units decls is are = are
 
--- a unit that reads no metas is passed
+-- where a unit reads no metas, a later one is asked for
 passed : (bare : List DeriveInput) (test : Bool) (unit : Unit') (units : Option Unit') (decls : Option MetaDecl) → IsMetaUnit bare units decls
     → IsMetaUnit bare (if test && false then Some unit else units) decls
 passed bare true unit units decls are = are
@@ -78,6 +78,10 @@ bare_pairs bare number (decl ∷ decls) same =
     (bare_pairs_of bare number decl (derives_of decl.attrs) (ap (slice_get bare) here ∙ same zero))
     (bare_pairs bare (suc number) decls (λ k. let next : suc number + k ≡ number + suc k = omega arith in ap (slice_get bare) next ∙ same (suc k)))
 
+-- the unit reads metas
+abbrev under_meta : Unit' → Bool
+under_meta unit = same_derive unit.derive derive.FromMeta
+
 module _ (rules : Rules) (bare : List DeriveInput) (asked : ℕ) where
   abbrev Agree : List Unit' → List MetaDecl → Type 0
   Agree units decls = IsMetaUnit bare (unit_under units asked derive.FromMeta) (meta_decl decls asked)
@@ -93,6 +97,13 @@ module _ (rules : Rules) (bare : List DeriveInput) (asked : ℕ) where
       let Q : MetaDecl → Type 0 = λ meant. IsMetaDecl bare_variants left meant in
       subst P (sym stands) (subst Q (meta_same number decl.body options) (meta_options_are rules decl left number bare_variants faultless supported is))
 
+  -- a unit that reads no metas is passed
+  passes : (unit : Unit') (units : List Unit') (decls : List MetaDecl) → under_meta unit ≡ false → Agree units decls → Agree (unit ∷ units) decls
+  passes unit units decls not are =
+      let later = unit_under units asked derive.FromMeta in
+      let P : Bool → Type 0 = λ test. IsMetaUnit bare (if (unit.decl == asked) && test then Some unit else later) (meta_decl decls asked) in
+      subst P (sym not) (passed bare (unit.decl == asked) unit later (meta_decl decls asked) are)
+
   step : (number : ℕ) (decl : DeriveInput) (derive : Derive) (unit : Unit') (units : List Unit') (decls : List MetaDecl)
       → faults_under rules decl derive ≡ [] → forms_under rules decl derive ≡ [] → slice_get bare number ≡ Some (without_attributes decl)
       → IsUnitUnder rules number decl derive unit → Agree units decls
@@ -105,14 +116,16 @@ module _ (rules : Rules) (bare : List DeriveInput) (asked : ℕ) where
       (chosen bare (number == asked) made it (unit_under units asked derive.FromMeta) (meta_decl decls asked)
       (left, refl, meta_is number decl left faultless supported stands is, ap (λ ident. named_type ident.text) is.base.ident)
       are)
+  step number decl derive.FromAttributes unit units decls faultless supported stands (left, is, compiled) are =
+      passes unit units decls (ap under_meta compiled) are
   step number decl derive.FromDeriveInput unit units decls faultless supported stands (left, is, compiled) are =
-      let P : Unit' → Type 0 = λ u. Agree (u ∷ units) decls in
-      let made = compiled_derive_input left number in
-      subst P (sym compiled) (passed bare (number == asked) made (unit_under units asked derive.FromMeta) (meta_decl decls asked) are)
-  step number decl derive.FromAttributes unit units decls faultless supported stands is are = absurd is
-  step number decl derive.FromField unit units decls faultless supported stands is are = absurd is
-  step number decl derive.FromTypeParam unit units decls faultless supported stands is are = absurd is
-  step number decl derive.FromVariant unit units decls faultless supported stands is are = absurd is
+      passes unit units decls (ap under_meta compiled) are
+  step number decl derive.FromField unit units decls faultless supported stands (left, is, compiled) are =
+      passes unit units decls (ap under_meta compiled) are
+  step number decl derive.FromTypeParam unit units decls faultless supported stands (left, is, compiled) are =
+      passes unit units decls (ap under_meta compiled) are
+  step number decl derive.FromVariant unit units decls faultless supported stands (left, is, compiled) are =
+      passes unit units decls (ap under_meta compiled) are
 
   units_are : (pairs : List Pair) (units : List Unit') → AllByRecursion (IsFaultless rules) pairs → AllByRecursion (IsSupported rules) pairs
       → AllByRecursion (StandsBare bare) pairs → AllZip (IsUnit rules) pairs units → Agree units (flat_map (pair_decls rules) pairs)
@@ -149,6 +162,6 @@ program_is_meant host rules decls program number decl unit subject is faultless 
     (λ asked.
     units_are rules program.decls asked (pairs_from 0 decls) program.units (each_faultless rules (pairs_from 0 decls) faultless) (each_supported rules decls supported)
     (bare_pairs program.decls 0 decls bare_all) is.units)
-    (left, compiled, input_options_are rules decl left number left_is (is_bare rules decl input left left_is) (left_is.from_ident ∙ no_ident rules decl input), ap unit_type compiled ∙ ap (λ ident. named_type ident.text) left_is.base.ident)
+    (left, compiled, input_options_are rules decl left number left_is (is_bare rules decl input left left_is) (left_is.outer.from_ident ∙ no_ident rules decl input), ap unit_type compiled ∙ ap (λ ident. named_type ident.text) left_is.outer.base.ident)
     braced
     ∙ ap (λ bare. let setting : Setting = record { host = host; decls = bare } in Some (declared_meaning setting (meta_decls rules decls) meant subject)) is.bare

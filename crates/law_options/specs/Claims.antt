@@ -30,7 +30,7 @@ use Rattle.law_options.specs.Texts.{text_meaning}
 abbrev pub InputOptionsAreMeant : Type 0
 InputOptionsAreMeant =
     (rules : Rules) (input : DeriveInput) (left : FromDeriveInputImpl) (number : ℕ)
-    → IsInputImpl left (options_of (fdi_reader rules input) input) → IsBare left → left.from_ident ≡ false
+    → IsInputImpl left (options_of (fdi_reader rules input) input) → IsBare left → left.outer.from_ident ≡ false
     → IsInputDecl left (meant_input number (options_of (fdi_reader rules input) input))
 
 -- the same of `FromMeta`, where options have no faults and show no form without a program
