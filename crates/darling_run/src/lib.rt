@@ -9,6 +9,7 @@
 //! [`usage`] and [`util`].
 #![tactic(auto)]
 
+pub mod codegen;
 mod input;
 mod refusal;
 mod report;
@@ -21,7 +22,6 @@ pub use body_core::{
     FromVariant, ast,
 };
 pub use body_usage as usage;
-pub use codegen_core as codegen;
 pub use codegen_program::{Derive, Program};
 pub use edge_core::{
     MemorySink, MemorySource, PlainSink, PlainSource, ReadAll, Sink, Source, StdSink, StdSource,
