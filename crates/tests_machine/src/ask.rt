@@ -2,8 +2,11 @@
 //! counts 0, 1, 2.
 
 use crate::hosts::answer_of;
+use crate::outer_places::taken;
 use crate::outer_types::outer_text;
-use crate::programs::{arm_at, by_hand, come_of, named_twice, outcome, program_of};
+use crate::programs::{
+    any_program, arm_at, by_hand, come_of, named_twice, outcome, program_of, units_of,
+};
 use crate::sources::{derives, repeated, without};
 use crate::statements::of_last;
 use crate::types::{beside, deeper, element, of_host, row_of_table, row_text};
@@ -38,13 +41,16 @@ fn told(alloc: Global, kind: &str, argument: &str) -> Tested<Text> {
         "row beside declarations" => row_text(alloc, beside(alloc)?.as_slice(), argument),
         "outer row" => outer_text(alloc, &[], argument),
         "outer row beside declarations" => outer_text(alloc, beside(alloc)?.as_slice(), argument),
+        "types at a place" => taken(alloc, argument),
         "row in an option" => deeper(alloc, argument),
         "element" => element(alloc, argument),
         "derives" => derives(alloc, argument),
         "repeated derives" => repeated(alloc, argument),
         "without attributes" => without(alloc, argument),
         "compiled" => come_of(alloc, argument),
+        "units" => units_of(alloc, argument),
         "statements" => of_last(alloc, &program_of(alloc, argument)?),
+        "statements of any derive" => of_last(alloc, &any_program(alloc, argument)?),
         "statements by hand" => of_last(alloc, &by_hand(alloc, argument)?),
         "outcome" => outcome(alloc, argument),
         "variants" => variant_outcome(alloc, argument),

@@ -77,6 +77,23 @@ struct A {} => 1 decls:
    #[darling(from_ident)] struct B { ident: u8 } => unbuilt at 52..61, 69..70, 10..23, 100..109
 #[derive(FromDeriveInput)] #[darling(transparent, nonsense)] struct A { #[darling(skip, skip)] data: u8 } => unbuilt at 37..48, 95..99";
 
+// Declarations, and their units, whether a run reads their forms or not.
+const UNITS: &str =
+    "#[derive(FromField)] struct A { ident: Option<Ident>, #[darling(skip)] x: u8 } => 1 decls: 0 FromField
+#[derive(FromAttributes, FromDeriveInput, FromField, FromTypeParam, FromVariant)] #[darling(attributes(a))] struct A {
+   n: u8 } #[derive(FromMeta)] struct B { m: u8 } #[derive(FromVariant)] #[darling(supports(unit))] struct C {}
+   => 3 decls: 0 FromAttributes 0 FromDeriveInput 0 FromField 0 FromTypeParam 0 FromVariant 1 FromMeta 2 FromVariant
+#[derive(FromMeta, FromAttributes)] struct A { n: u8 } => 1 faults under FromAttributes
+#[derive(FromVariant, FromField)] #[darling(supports(unit))] struct A { n: u8 } => 1 faults under FromField
+#[derive(FromField)] struct A { n: u8 } #[derive(FromTypeParam)] union B { n: u8 } => 1 faults under FromTypeParam";
+
+// Statements of the last unit of these.
+const ANY: &str =
+    "#[derive(FromField)] struct A { ident: Option<Ident>, #[darling(skip)] x: u8 } => errors; one 0; finish; build ident x=0; 
+#[derive(FromVariant)] struct A { n: u8, fields: Fields<F> } => errors; one 0; shape; body; check 0 n; finish; build fields n=0; 
+#[derive(FromTypeParam)] struct A { bounds: Vec<TypeParamBound>, ident: Ident } => errors; finish; build ident bounds; 
+#[derive(FromAttributes)] #[darling(attributes(my))] struct A { ident: u8, n: u8 } => errors; one 0; at my n=>0 else unknown n ; check 0 n; finish; build n=0; ";
+
 // Statements of the last unit.
 const STATEMENTS: &str =
     "#[derive(FromMeta)] struct Given { one: u8, #[darling(multiple)] many: Vec<u8>, #[darling(skip)] skip: u8 }
@@ -116,6 +133,8 @@ fn declarations_compile(rt: HostRuntime) -> Tested<()> {
     rows(alloc, "repeated derives", REPEATED)?;
     rows(alloc, "without attributes", WITHOUT)?;
     rows(alloc, "compiled", COMPILED)?;
+    rows(alloc, "units", UNITS)?;
+    rows(alloc, "statements of any derive", ANY)?;
     rows(alloc, "statements", STATEMENTS)?;
     rows(alloc, "statements by hand", BY_HAND)?;
     rows(alloc, "outcome", OUTCOMES)?;

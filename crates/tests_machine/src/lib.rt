@@ -12,6 +12,8 @@ mod fits;
 #[cfg(test)]
 mod hosts;
 #[cfg(test)]
+mod outer_places;
+#[cfg(test)]
 mod outer_types;
 #[cfg(test)]
 mod programs;

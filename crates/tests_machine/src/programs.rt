@@ -1,14 +1,11 @@
 //! Programs of texts of declarations, and what is told of them.
 
-ghost use Rattle.std.specs.List.{All};
-ghost use Rattle.run_accepted.specs.Unbuilt.{IsBuilt};
-
 use crate::ask::places;
 use crate::sources::{derive_name, item_of, items_of};
 use crate::statements::looked_up;
 use body_core::ast::{Data, Fields, Style};
 use codegen_core::{Field, OverrideableCallable, TraitImpl};
-use codegen_outer::{ForwardAttrs, FromDeriveInputImpl, OuterFromImpl};
+use codegen_outer::{ForwardAttrs, FromDeriveInputImpl, OuterFromImpl, OuterImpl};
 use codegen_program::{Decls, Program, Unit};
 use error_fault::fault_line;
 use machine_execute::{Element, Outcome, try_execute};
@@ -26,13 +23,15 @@ use tests_checks::{Tested, given, kind_of, tokens};
 use util_core::Callable;
 use util_table::RenameTable;
 
-fn compiled(alloc: Global, decls: &Items<DeriveInput>) -> Tested<Program>
-    requires { All IsBuilt decls.now }
-{
+fn tried(alloc: Global, decls: &Items<DeriveInput>) -> Tested<Result<Program, CompileFail>> {
     if decls.len() > 10_000 {
         return Err(Fail::new(format_args!("there are too many declarations")));
     }
-    match compile(alloc, decls.as_slice(), &RenameTable::empty(alloc)) {
+    Ok(compile(alloc, decls.as_slice(), &RenameTable::empty(alloc)))
+}
+
+fn compiled(alloc: Global, decls: &Items<DeriveInput>) -> Tested<Program> {
+    match tried(alloc, decls)? {
         Ok(program) => Ok(program),
         Err(CompileFail::Rejected(_)) => Err(Fail::new(format_args!("options have faults"))),
         Err(CompileFail::NoMemory) => Err(Fail::new(format_args!("no memory is left"))),
@@ -50,6 +49,27 @@ pub fn come_of(alloc: Global, text: &str) -> Tested<Text> {
         return Ok(text);
     }
     units_text(alloc, &compiled(alloc, &decls)?)
+}
+
+/// The units of declarations, whether a run reads their forms or not; or how many faults their options have, and under which
+/// derive.
+pub fn units_of(alloc: Global, text: &str) -> Tested<Text> {
+    let decls = items_of(alloc, text)?;
+    match tried(alloc, &decls)? {
+        Ok(program) => units_text(alloc, &program),
+        Err(CompileFail::Rejected(it)) => {
+            let count = it.faults.len();
+            let derive = derive_name(it.derive).trim_end();
+            let told = format!(in alloc; "{count} faults under {derive}")?;
+            Ok(Text::from_str(alloc, told.as_str())?)
+        }
+        Err(CompileFail::NoMemory) => Err(Fail::new(format_args!("no memory is left"))),
+    }
+}
+
+/// The program of the declarations, whether a run reads their forms or not.
+pub fn any_program(alloc: Global, text: &str) -> Tested<Program> {
+    compiled(alloc, &items_of(alloc, text)?)
 }
 
 fn units_text(alloc: Global, program: &Program) -> Tested<Text> {
@@ -154,7 +174,7 @@ pub fn by_hand(alloc: Global, row: &str) -> Tested<Program> {
     }
     let attr_names = PathList::new(names);
     let usual = path_of(alloc, "::darling")?;
-    let receiver = FromDeriveInputImpl {
+    let outer = OuterImpl {
         base: TraitImpl {
             ident: &item.ident,
             generics: &item.generics,
@@ -171,10 +191,13 @@ pub fn by_hand(alloc: Global, row: &str) -> Tested<Program> {
             field: None,
         },
         ident: None,
+        from_ident: true,
+    };
+    let receiver = FromDeriveInputImpl {
+        outer,
         vis: None,
         generics: None,
         body: None,
-        from_ident: true,
         supports: None,
     };
     let units = Items::of(alloc, receiver.unit_of(alloc, 0)?)?;

@@ -85,8 +85,16 @@ fn push_stmt(alloc: Global, stmt: &Stmt, text: &mut Text) -> Mem<()> {
         }
         Stmt::CheckErrors { .. } => text.push_str("finish"),
         Stmt::SetDefault { .. } => text.push_str("default"),
-        Stmt::Build { inits, .. } => {
+        Stmt::Build {
+            forwarded,
+            inits,
+            ..
+        } => {
             text.push_str("build")?;
+            for part in forwarded.as_slice() {
+                text.push_str(" ")?;
+                text.push_str(part.member.text.as_str())?;
+            }
             for init in inits.as_slice() {
                 text.push_str(" ")?;
                 text.push_str(init.member.as_str())?;

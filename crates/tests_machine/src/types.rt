@@ -111,11 +111,18 @@ fn ident(alloc: Global, text: &str) -> Tested<Ident> {
 
 /// The names of some declarations.
 pub fn beside(alloc: Global) -> Tested<Items<Ident>> {
-    let mut decls = Items::new(alloc);
-    for name in ["Thing", "String", "Option", "r#Ident", "Meta", "Thing"] {
-        decls.push(ident(alloc, name)?)?;
+    names(
+        alloc,
+        &["Thing", "String", "Option", "r#Ident", "Meta", "Thing"],
+    )
+}
+
+pub fn names(alloc: Global, texts: &[&str]) -> Tested<Items<Ident>> {
+    let mut names = Items::new(alloc);
+    for text in texts {
+        names.push(ident(alloc, text)?)?;
     }
-    Ok(decls)
+    Ok(names)
 }
 
 /// The row of an `Option` of a type, which no text has around the deepest.

@@ -135,7 +135,7 @@ fn input_unit(alloc: Global, decl: &DeriveInput, number: u32) -> Tested<Unit> {
         return Err(Fail::new(format_args!("options have faults")));
     };
     let left = options.as_impl(alloc)?;
-    if !left.base.has_few_fields() {
+    if !left.outer.base.has_few_fields() {
         return Err(Fail::new(format_args!("it has too many fields")));
     }
     Ok(left.unit_of(alloc, number)?)

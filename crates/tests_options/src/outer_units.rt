@@ -72,7 +72,7 @@ fn sound<T: Drop>(row: &str, answer: Result<T, Refusal>) -> Tested<T> {
 
 /// The statements of the one function.
 fn function<'a, I: OuterFromImpl<'a>>(alloc: Global, left: &I) -> Tested<Text> {
-    if !left.base().has_few_fields() {
+    if !left.as_outer().base.has_few_fields() {
         return Err(Fail::new(format_args!("it has too many fields")));
     }
     let unit = left.unit_of(alloc, 0)?;
