@@ -10,6 +10,7 @@ pub mod Declarations
 pub mod Elements
 pub mod ElementMeaning
 pub mod ElementLaws
+pub mod DeclaredElements
 pub mod EntrySteps
 pub mod Walk
 pub use Rattle.machine_steps.specs.Decls
