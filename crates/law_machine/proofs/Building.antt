@@ -1,5 +1,5 @@
 -- What is built from the slots, where no fault was collected.
-use Rattle.std.proofs.Common.{◌≡◌, ℕ, ◌+◌, zero, suc, true, List, [], ◌∷◌, ◌++◌, length, map, Option, Some, None, option_map, refl, ap, ap₂, ◌∙◌, sym, append_assoc}
+use Rattle.std.proofs.Common.{◌≡◌, ℕ, ◌+◌, zero, suc, true, cond, List, [], ◌∷◌, ◌++◌, length, map, Option, Some, None, option_map, refl, ap, ap₂, ◌∙◌, sym, append_assoc}
 use Rattle.std.specs.List.{AllZip}
 use Rattle.std.specs.Option.{option_copied}
 use Rattle.std.specs.Prelude.{option_and_then}
@@ -11,34 +11,35 @@ use Rattle.machine_value.specs.declared.value.Value.{Value as Datum}
 use Rattle.machine_value.specs.declared.value.Value.TheVariants as value
 use Rattle.machine_value.specs.Members.{no_value, labelled}
 use Rattle.codegen_program.specs.declared.arm.PostfixTransform.{PostfixTransform}
+use Rattle.codegen_program.specs.declared.forwarded.Forwarded.{Forwarded}
 use Rattle.codegen_program.specs.declared.init.DefaultSource.{DefaultSource}
-use Rattle.codegen_program.specs.declared.init.DefaultSource.TheVariants as sources
 use Rattle.codegen_program.specs.declared.init.Fallback.{Fallback as Falls}
 use Rattle.codegen_program.specs.declared.init.Fallback.TheVariants as fallbacks
 use Rattle.codegen_program.specs.declared.init.Init.{Init}
 use Rattle.codegen_program.specs.declared.stmt.Stmt.{Stmt}
-use Rattle.codegen_core.specs.Compiled.{build, fields_of, set_default, transform}
+use Rattle.codegen_core.specs.Compiled.{build_with, fields_of, set_default, transform}
 use Rattle.codegen_core.specs.Defaults.{source}
 use Rattle.codegen_core.specs.Fields.{at_slots, fallback_of, init, inits}
 use Rattle.codegen_core.specs.declared.default_expression.DefaultExpression.{DefaultExpression}
 use Rattle.codegen_core.specs.declared.default_expression.DefaultExpression.TheVariants as defaults
 use Rattle.codegen_core.specs.declared.field.Field.{Field}
 use Rattle.codegen_core.specs.declared.trait_impl.TraitImpl.{TraitImpl}
-use Rattle.meaning_core.specs.Decl.{BodyDecl, Decl, FieldDecl, Shape, Single, Many, Flat, Fallback, Default, ByType, ByCall, fallback}
+use Rattle.meaning_core.specs.Decl.{BodyDecl, Decl, FieldDecl, Shape, Single, Many, Flat, Fallback, Default, fallback}
 use Rattle.machine_steps.specs.Setting.{Setting}
 use Rattle.machine_steps.specs.Convert.{Earlier, none}
 use Rattle.meaning_core.specs.Owners.{each, field_at, own}
 use Rattle.meaning_core.specs.EntryFaults.{read, value_list, values}
 use Rattle.machine_steps.specs.Reading.{transformed}
 use Rattle.meaning_core.specs.FieldValue.{absent_value, empty_value, fallback_outcome, field_value, flat_faults, flat_outcome, missing_by, value_of_none}
-use Rattle.meaning_core.specs.Meaning.{default_outcome, in_order, joined, whole_default}
+use Rattle.meaning_core.specs.Meaning.{in_order, joined, whole_default}
 use Rattle.machine_steps.specs.State.{Slot, One, Several, State, slot_at}
 use Rattle.meaning_core.proofs.Clean.{Clean, IsValue, nil_left, nil_right, not_nil, value_if_none}
 use Rattle.machine_steps.specs.Asked.{Asked}
-use Rattle.machine_steps.specs.Building.{built, built_style}
+use Rattle.machine_steps.specs.Building.{are_stored, built, built_style}
 use Rattle.machine_steps.specs.Reads.{Before, metas}
 use Rattle.machine_steps.specs.Receivers.{Receiver}
-use Rattle.machine_steps.specs.Progress.{Aside, Progress, Going, Built, Ended, built_or_stuck, on_outcome, outcome, unless_faults}
+use Rattle.machine_steps.specs.Progress.{Aside, Progress, Going, Built, Ended, Stuck, built_or_stuck, on_outcome, outcome, unless_faults}
+use Rattle.machine_steps.specs.Statements.{source_value}
 use Rattle.machine_steps.specs.Slots.{absent, fallback_value, in_front, init_value, init_values}
 use Rattle.machine_steps.proofs.Building.{plain_built}
 use Rattle.machine_steps.proofs.Statements as statement
@@ -212,11 +213,24 @@ module _ (setting : Setting) (before : Before) (receiver : Receiver) (asked : As
   abbrev Good : Type 0
   Good = AreGood setting before receiver asked aside decl.body all kept decl.body.fields own_items
 
-  abbrev values_made : Datum → Outcome (List Datum)
+  abbrev pub values_made : Datum → Outcome (List Datum)
   values_made whole = in_order (each (λ f those. field_value setting earlier_metas decl.body whole all f f.shape those) decl.body.fields own_items)
 
-  abbrev pub made : Datum → Outcome Datum
-  made whole = on_value (λ vs. value.Struct decl.name (built_style receiver asked) (labelled (map (λ f. f.member) decl.body.fields) vs)) (values_made whole)
+  -- the struct of these values under the names of all members
+  abbrev pub plain : Outcome (List Datum) → Outcome Datum
+  plain = on_value (λ vs. value.Struct decl.name (built_style receiver asked) (labelled (map (λ f. f.member) decl.body.fields) vs))
+
+  -- the default of the receiver
+  abbrev pub default_made : Option DefaultSource → Outcome Datum
+  default_made None = Value no_value
+  default_made (Some it) = source_value setting receiver.type asked it
+
+  pub default_is : (x : Option DefaultExpression) (d : Option Default) → option_and_then meant_default (option_and_then source x) ≡ d
+      → default_made (option_and_then source x) ≡ whole_default setting receiver.type d
+  default_is None d e = ap (whole_default setting receiver.type) e
+  default_is (Some (defaults.Inherit ident)) d e = ap (whole_default setting receiver.type) e
+  default_is (Some (defaults.Explicit call)) d e = ap (whole_default setting receiver.type) e
+  default_is (Some (defaults.Trait span)) d e = ap (whole_default setting receiver.type) e
 
   abbrev run_on : List Stmt → Progress → Progress
   run_on stmts progress = go setting before receiver asked aside decl.body stmts progress
@@ -229,27 +243,35 @@ module _ (setting : Setting) (before : Before) (receiver : Receiver) (asked : As
   ended_transform None f fs = refl
   ended_transform (Some p) f fs = statement.transform setting before receiver p asked (Ended f fs)
 
-  module _ (left : TraitImpl) (is : IsDecl left decl) where
+  module _ (left : TraitImpl) (is : IsDecl left decl) (parts : List Forwarded) where
     abbrev pub last : List Stmt
-    last = build left ∷ transform (option_copied left.post_transform)
+    last = build_with parts left ∷ transform (option_copied left.post_transform)
 
-    build_is : (whole : Datum) (faults : List Fault) → Good → run_on (build left ∷ []) (Going (state whole faults) aside) ≡ Built (made whole)
-    build_is whole faults good =
-        let o = values_made whole in
-        statement.build setting before receiver left.ident.now None [] (inits (fields_of left)) asked (Going (state whole faults) aside)
-        ∙ ap (λ b. built_or_stuck (option_map (built receiver asked aside left.ident.now None [] (inits (fields_of left)) setting) b)) (values_are setting before receiver asked aside decl.body all kept whole (fields_of left) decl.body.fields own_items [] is.fields good)
-        ∙ ap Built (plain_built setting receiver asked aside left.ident.now (inits (fields_of left)) o)
-        ∙ ap₂ (λ n ms. Built (on_value (λ vs. value.Struct n (built_style receiver asked) (labelled ms vs)) o)) is.name (members_are setting before receiver asked aside decl.body all kept (fields_of left) decl.body.fields zero is.fields)
+    -- what is built of the parts and the values of all fields, by the default of the receiver
+    abbrev pub made : Datum → Outcome Datum
+    made whole = built receiver asked aside left.ident.now None parts (inits (fields_of left)) setting (values_made whole)
 
-    last_is : (whole : Datum) (faults : List Fault) → Good → run_on last (Going (state whole faults) aside) ≡ Built (transformed setting earlier_metas decl.transform receiver.type (made whole))
-    last_is whole faults good =
-        ap (run_on (transform (option_copied left.post_transform))) (build_is whole faults good)
+    -- each part that is to be stored has been, and no fault of a field was collected
+    abbrev pub IsReady : Type 0
+    IsReady = (are_stored aside parts ≡ true) × Good
+
+    build_is : (whole : Datum) (faults : List Fault) → IsReady → run_on (build_with parts left ∷ []) (Going (state whole faults) aside) ≡ Built (made whole)
+    build_is whole faults ready =
+        let values = init_values setting whole (state whole faults).slots (inits (fields_of left)) in
+        let it : Option (Outcome (List Datum)) → Progress = λ values. built_or_stuck (option_map (built receiver asked aside left.ident.now None parts (inits (fields_of left)) setting) values) in
+        statement.build setting before receiver left.ident.now None parts (inits (fields_of left)) asked (Going (state whole faults) aside)
+        ∙ ap (λ b. cond b (it values) Stuck) ready.0
+        ∙ ap it (values_are setting before receiver asked aside decl.body all kept whole (fields_of left) decl.body.fields own_items [] is.fields ready.1)
+
+    last_is : (whole : Datum) (faults : List Fault) → IsReady → run_on last (Going (state whole faults) aside) ≡ Built (transformed setting earlier_metas decl.transform receiver.type (made whole))
+    last_is whole faults ready =
+        ap (run_on (transform (option_copied left.post_transform))) (build_is whole faults ready)
         ∙ transform_is (option_copied left.post_transform) (made whole)
         ∙ ap (λ p. Built (transformed setting earlier_metas p receiver.type (made whole))) is.transform
 
     ended_last : (f : Fault) (fs : List Fault) → run_on last (Ended f fs) ≡ Ended f fs
     ended_last f fs =
-        ap (run_on (transform (option_copied left.post_transform))) (statement.build setting before receiver left.ident.now None [] (inits (fields_of left)) asked (Ended f fs))
+        ap (run_on (transform (option_copied left.post_transform))) (statement.build setting before receiver left.ident.now None parts (inits (fields_of left)) asked (Ended f fs))
         ∙ ended_transform (option_copied left.post_transform) f fs
 
     passed_by : (p : Option PostfixTransform) (f : Fault) (fs : List Fault) → Some (Faults f fs) ≡ Some (transformed setting earlier_metas p receiver.type (Faults f fs))
@@ -257,26 +279,25 @@ module _ (setting : Setting) (before : Before) (receiver : Receiver) (asked : As
     passed_by (Some p) f fs = refl
 
     -- the default of the receiver first, whose faults end all
-    behind_whole : (o : Outcome Datum) (faults : List Fault) → Good
+    behind_whole : (o : Outcome Datum) (faults : List Fault) → IsReady
         → outcome (run_on last (on_outcome o (λ whole. Going (state whole faults) aside))) ≡ Some (transformed setting earlier_metas decl.transform receiver.type (bind o made))
-    behind_whole (Value whole) faults good = ap outcome (last_is whole faults good)
-    behind_whole (Faults f fs) faults good = ap outcome (ended_last f fs) ∙ passed_by decl.transform f fs
+    behind_whole (Value whole) faults ready = ap outcome (last_is whole faults ready)
+    behind_whole (Faults f fs) faults ready = ap outcome (ended_last f fs) ∙ passed_by decl.transform f fs
 
-    pub behind_default : (x : Option DefaultExpression) (d : Option Default) (faults : List Fault) → option_and_then meant_default (option_and_then source x) ≡ d → Good
-        → outcome (run_on (set_default (option_and_then source x) ++ last) (Going (state no_value faults) aside)) ≡ Some (transformed setting earlier_metas decl.transform receiver.type (bind (whole_default setting receiver.type d) made))
-    behind_default None d faults e good =
-        behind_whole (Value no_value) faults good ∙ ap (λ d. let r : Option (Outcome Datum) = Some (transformed setting earlier_metas decl.transform receiver.type (bind (whole_default setting receiver.type d) made)) in r) e
-    behind_default (Some (defaults.Inherit ident)) d faults e good =
-        behind_whole (Value no_value) faults good ∙ ap (λ d. let r : Option (Outcome Datum) = Some (transformed setting earlier_metas decl.transform receiver.type (bind (whole_default setting receiver.type d) made)) in r) e
-    behind_default (Some (defaults.Explicit call)) d faults e good =
-        ap (λ p. outcome (run_on last p)) (statement.set_default setting before receiver (sources.Explicit call.now) asked (Going (state no_value faults) aside))
-        ∙ behind_whole (default_outcome setting receiver.type (ByCall call.now)) faults good
-        ∙ ap (λ d. let r : Option (Outcome Datum) = Some (transformed setting earlier_metas decl.transform receiver.type (bind (whole_default setting receiver.type d) made)) in r) e
-    behind_default (Some (defaults.Trait span)) d faults e good =
-        ap (λ p. outcome (run_on last p)) (statement.set_default setting before receiver sources.Trait asked (Going (state no_value faults) aside))
-        ∙ behind_whole (default_outcome setting receiver.type ByType) faults good
-        ∙ ap (λ d. let r : Option (Outcome Datum) = Some (transformed setting earlier_metas decl.transform receiver.type (bind (whole_default setting receiver.type d) made)) in r) e
+    pub behind_default : (it : Option DefaultSource) (faults : List Fault) → IsReady
+        → outcome (run_on (set_default it ++ last) (Going (state no_value faults) aside)) ≡ Some (transformed setting earlier_metas decl.transform receiver.type (bind (default_made it) made))
+    behind_default None faults ready = behind_whole (Value no_value) faults ready
+    behind_default (Some it) faults ready =
+        ap (λ p. outcome (run_on last p)) (statement.set_default setting before receiver it asked (Going (state no_value faults) aside))
+        ∙ behind_whole (source_value setting receiver.type asked it) faults ready
 
-    pub ended_default : (x : Option DefaultSource) (f : Fault) (fs : List Fault) → run_on (set_default x ++ last) (Ended f fs) ≡ Ended f fs
+    pub ended_default : (it : Option DefaultSource) (f : Fault) (fs : List Fault) → run_on (set_default it ++ last) (Ended f fs) ≡ Ended f fs
     ended_default None f fs = ended_last f fs
     ended_default (Some it) f fs = ap (run_on last) (statement.set_default setting before receiver it asked (Ended f fs)) ∙ ended_last f fs
+
+  -- without parts, the values stand under the names of their fields
+  pub made_plain : (left : TraitImpl) (is : IsDecl left decl) (whole : Datum) → made left is [] whole ≡ plain (values_made whole)
+  made_plain left is whole =
+      plain_built setting receiver asked aside left.ident.now (inits (fields_of left)) (values_made whole)
+      ∙ ap₂ (λ n ms. on_value (λ vs. value.Struct n (built_style receiver asked) (labelled ms vs)) (values_made whole)) is.name
+      (members_are setting before receiver asked aside decl.body all kept (fields_of left) decl.body.fields zero is.fields)

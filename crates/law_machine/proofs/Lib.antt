@@ -1,4 +1,5 @@
 pub mod Arms
+pub mod Attributes
 pub mod Passes
 pub mod Building
 pub mod Units
@@ -6,6 +7,10 @@ pub mod Slots
 pub mod Variants
 pub mod Enums
 pub mod Cells
+pub mod ElementParts
+pub mod ElementSteps
+pub mod Elements
 pub mod Programs
+pub mod ElementPrograms
 pub mod Left
 pub mod Runs

@@ -1,28 +1,23 @@
 -- The outcome of a unit is what its declaration means.
-use Rattle.std.proofs.Common.{◌≡◌, zero, Bool, true, false, List, [], ◌∷◌, ◌++◌, map, fold, Some, None, refl, ap, ap₂, ◌∙◌, sym, append_assoc, append-nil, if◌then◌else◌}
-use Rattle.std.proofs.lemmas.List.Sums.{fold-append}
+use Rattle.std.proofs.Common.{◌≡◌, zero, Bool, true, false, List, [], ◌∷◌, ◌++◌, map, fold, Some, None, refl, ap, ap₂, ◌∙◌, sym, append_assoc, append-nil}
+use mathlib.Core.Path.{fun_ext}
 use Rattle.base_core.specs.declared.text.Text.{Text}
 use Rattle.node_make.specs.PathText.{path_text}
-use Rattle.node_core.specs.Meta.{path_of_meta}
 use Rattle.node_expr.specs.declared.ty.«Type».{«Type» as Type'}
-use Rattle.node_core.specs.declared.attr.Attribute.{Attribute}
 use Rattle.node_core.specs.declared.derive.DeriveInput.{DeriveInput}
 use Rattle.node_core.specs.declared.style.Style.{Style}
 use Rattle.node_core.specs.declared.style.Style.TheVariants as style
-use Rattle.node_core.specs.declared.attr.Meta.{Meta}
-use Rattle.node_core.specs.declared.attr.Meta.TheVariants as meta
 use Rattle.meta_nested.specs.declared.nested.NestedMeta.{NestedMeta}
-use Rattle.meta_nested.specs.Dispatch.{items_of}
 use Rattle.error_fault.specs.declared.fault.Fault.{Fault}
-use Rattle.error_fault.specs.Outcome.{Outcome, Value, Faults, bind, on_value, settle}
+use Rattle.error_fault.specs.Outcome.{Outcome, bind, on_value, settle}
 use Rattle.machine_value.specs.declared.value.Value.{Value as Datum}
 use Rattle.machine_value.specs.declared.value.Value.TheVariants as value
 use Rattle.machine_value.specs.Members.{labelled, no_value}
-use Rattle.codegen_program.specs.declared.forward.Forward.TheVariants as forward
+use Rattle.codegen_program.specs.declared.forwarded.Forwarded.{Forwarded}
 use Rattle.codegen_program.specs.declared.shape.ShapeSpec.TheVariants as shapes
 use Rattle.codegen_program.specs.declared.stmt.Stmt.{Stmt}
 use Rattle.codegen_program.specs.declared.stmt.Stmt.TheVariants as stmt
-use Rattle.codegen_core.specs.Compiled.{closing, default_of, fields_of, for_items, list_stmts, set_default}
+use Rattle.codegen_core.specs.Compiled.{closing, closing_with, default_of, fields_of, for_items, list_stmts, set_default}
 use Rattle.codegen_core.specs.Fields.{at_slots, checks, declarations, flatten, flattens}
 use Rattle.codegen_core.specs.declared.trait_impl.TraitImpl.{TraitImpl}
 use Rattle.codegen_outer.specs.Bare.{bare_stmts, over_read}
@@ -31,33 +26,31 @@ use Rattle.codegen_outer.specs.declared.from_derive_impl.FromDeriveInputImpl.{Fr
 use Rattle.meaning_core.specs.Decl.{Decl, has_flat}
 use Rattle.machine_steps.specs.Setting.{Setting}
 use Rattle.machine_steps.specs.Convert.{Earlier}
-use Rattle.meta_entries.specs.Attributes.{attribute_items, is_named}
-use Rattle.meta_entries.specs.Entries.{items, list_entries, named_entries}
+use Rattle.meta_entries.specs.Entries.{items, named_entries}
 use Rattle.meta_entries.specs.declared.entry.Entry.{Entry}
 use Rattle.meta_entries.specs.declared.entry.Entry.TheVariants as entry
-use Rattle.meta_entries.proofs.ItemLemmas.{entries-unnamed}
 use Rattle.meaning_core.specs.Owners.{each, own}
 use Rattle.meaning_core.specs.EntryFaults.{all_entry_faults}
 use Rattle.machine_steps.specs.Reading.{transformed}
 use Rattle.meaning_core.specs.Meaning.{collected_with, field_values, joined, whole_default}
-use Rattle.machine_steps.specs.State.{Slot, State, with_faults}
-use Rattle.meaning_core.specs.EntrySteps.{arms, entry_step, rest}
+use Rattle.machine_steps.specs.State.{Slot, State}
+use Rattle.meaning_core.specs.EntrySteps.{entry_step}
 use Rattle.meaning_core.specs.Walk.{field_slot, kept_by, state_behind}
 use Rattle.meaning_core.proofs.Clean.{clean_all, nil_left, nil_right}
 use Rattle.meaning_core.proofs.Filters.{walk}
-use Rattle.machine_steps.specs.Asked.{Asked, Items, OnElement, attributes_asked, items_asked}
-use Rattle.machine_steps.specs.Building.{built_style}
+use Rattle.machine_steps.specs.Asked.{Asked, Items, OnElement, items_asked}
+use Rattle.machine_steps.specs.Building.{are_stored, built_style}
 use Rattle.machine_execute.specs.Elements.{OnInput}
 use Rattle.machine_steps.specs.Progress.{Aside, Progress, Going, no_aside, outcome, unless_faults}
 use Rattle.machine_steps.specs.Reads.{Before, metas}
 use Rattle.machine_steps.specs.Receivers.{Receiver, declared_style}
-use Rattle.machine_steps.specs.Statements.{all_do, does, run, run_from}
-use Rattle.machine_steps.specs.Attributes.{on_attribute, on_items, on_meta}
+use Rattle.machine_steps.specs.Statements.{run, run_from}
 use Rattle.machine_steps.proofs.Statements as statement
 use Rattle.law_machine.specs.Claims.{InputIsMeaning, ListIsMeaning}
 use Rattle.law_machine.specs.Compiles.{IsDecl, IsInputDecl}
-use Rattle.law_machine.proofs.Arms.{for_items_is, items_fold, names_are}
-use Rattle.law_machine.proofs.Building.{AreGood, are_good, behind_default, ended_default, full_state, last, made, stop_settle}
+use Rattle.law_machine.proofs.Arms.{names_are}
+use Rattle.law_machine.proofs.Attributes.{for_items_fold, over_read_is}
+use Rattle.law_machine.proofs.Building.{IsReady, are_good, behind_default, default_is, default_made, ended_default, full_state, last, made, made_plain, stop_settle}
 use Rattle.law_machine.proofs.Passes.{are_kept, at_slots_with, flat_added, flat_slot, full_slot, missing_added, nothing_kept, run_checks, run_declarations, run_flattens, with_slots_kept}
 
 -- what entries mean, at a type and as a struct that is written in some style
@@ -72,48 +65,7 @@ module _ (setting : Setting) (before : Before) (receiver : Receiver) (aside : As
   abbrev earlier : Earlier
   earlier = metas before
 
-  -- ---- items and attributes are entries
-
-  faults_fold : (s : State) (fs : List Fault) → fold (entry_step setting earlier decl.body) s (map entry.Fault fs) ≡ with_faults fs s
-  faults_fold s [] = ap (λ x. let t : State = record s { faults = x } in t) (sym (append-nil s.faults))
-  faults_fold s (f ∷ fs) = faults_fold (with_faults (f ∷ []) s) fs ∙ ap (λ x. let t : State = record s { faults = x } in t) (append_assoc s.faults (f ∷ []) fs)
-
   module _ (left : TraitImpl) (is_decl : IsDecl left decl) where
-    abbrev inner : List NestedMeta → Progress → Progress
-    inner list = all_do (map (does setting before receiver) (for_items left ∷ [])) (Items list)
-
-    for_items_fold : (s : State) (asked : Asked) → does setting before receiver (for_items left) asked (Going s aside) ≡ Going (fold (entry_step setting earlier decl.body) s (map entry.Item (items_asked asked))) aside
-    for_items_fold s asked =
-        ap (λ it. does setting before receiver it asked (Going s aside)) (for_items_is left decl is_decl)
-        ∙ statement.for_items setting before receiver (arms decl.body) (rest decl.body) asked (Going s aside)
-        ∙ ap (λ s. Going s aside) (items_fold setting earlier decl.body s (items_asked asked))
-
-    on_items_fold : (s : State) (o : Outcome (List NestedMeta)) → on_items inner o (Going s aside) ≡ Going (fold (entry_step setting earlier decl.body) s (list_entries o)) aside
-    on_items_fold s (Value is) = for_items_fold s (Items is)
-    on_items_fold s (Faults f fs) = ap (λ s. Going s aside) (sym (faults_fold s (f ∷ fs)))
-
-    on_meta_fold : (s : State) (it : Meta) → on_meta inner it (Going s aside) ≡ Going (fold (entry_step setting earlier decl.body) s (list_entries (attribute_items it))) aside
-    on_meta_fold s (meta.Path path) = refl
-    on_meta_fold s (meta.«List» list) = on_items_fold s (items_of list.tokens)
-    on_meta_fold s (meta.NameValue pair) = refl
-
-    attributes_fold : (ns : List Text) (s : State) (attributes : List Attribute) → fold (on_attribute inner ns forward.Nothing) (Going s aside) attributes ≡ Going (fold (entry_step setting earlier decl.body) s (named_entries ns attributes)) aside
-    attributes_fold ns s [] = refl
-    attributes_fold ns s (a ∷ as') =
-        elim (is_named ns (path_of_meta a.meta)) as (λ b. fold (on_attribute inner ns forward.Nothing) (if b then on_meta inner a.meta (Going s aside) else Going s aside) as' ≡ Going (fold (entry_step setting earlier decl.body) s ((if b then list_entries (attribute_items a.meta) else []) ++ named_entries ns as')) aside) [
-          | true ↦
-              ap (λ p. fold (on_attribute inner ns forward.Nothing) p as') (on_meta_fold s a.meta)
-              ∙ attributes_fold ns (fold (entry_step setting earlier decl.body) s (list_entries (attribute_items a.meta))) as'
-              ∙ ap (λ s. Going s aside) (sym (fold-append (entry_step setting earlier decl.body) s (list_entries (attribute_items a.meta)) (named_entries ns as')))
-          | false ↦ attributes_fold ns s as'
-        ]
-
-    over_is : (ns : List Text) (s : State) (asked : Asked) → run_from setting before receiver (over_read ns left) asked (Going s aside) ≡ Going (fold (entry_step setting earlier decl.body) s (named_entries ns (attributes_asked asked))) aside
-    over_is [] s asked = ap (λ es. Going (fold (entry_step setting earlier decl.body) s es) aside) (sym (entries-unnamed (attributes_asked asked)))
-    over_is (n ∷ ns) s asked =
-        statement.for_attributes setting before receiver (n ∷ ns) (for_items left ∷ []) forward.Nothing asked (Going s aside)
-        ∙ attributes_fold (n ∷ ns) s (attributes_asked asked)
-
     -- ---- what follows once the items are read
 
     module _ (asked : Asked) (es : List Entry) where
@@ -123,46 +75,72 @@ module _ (setting : Setting) (before : Before) (receiver : Receiver) (aside : As
       abbrev kept : List NestedMeta
       kept = kept_by setting earlier decl.body (has_flat decl.body.fields) is
 
-      close : outcome (run_from setting before receiver (closing false left) asked (Going (state_behind setting earlier decl.body is (all_entry_faults setting earlier decl.body [] es)) aside)) ≡ Some (written_meaning setting earlier decl receiver.type (built_style receiver asked) es)
-      close =
+      abbrev entry_faults : List Fault
+      entry_faults = all_entry_faults setting earlier decl.body [] es
+
+      -- what is built of these parts, by the default that may come from the identifier
+      abbrev pub result : List Forwarded → Bool → Outcome Datum
+      result parts from_ident =
+          transformed setting earlier decl.transform receiver.type
+          (bind (default_made setting before receiver asked aside decl is kept (default_of from_ident left)) (made setting before receiver asked aside decl is kept left is_decl parts))
+
+      -- all faults, with those of what stands around the entries, else what is built
+      pub closed : (parts : List Forwarded) (from_ident : Bool) (outer : List Fault) → (outer ≡ [] → are_stored aside parts ≡ true)
+          → outcome (run_from setting before receiver (closing_with parts from_ident left) asked (Going (state_behind setting earlier decl.body is (entry_faults ++ outer)) aside))
+          ≡ Some (settle (collected_with setting earlier decl.body outer es) (result parts from_ident))
+      closed parts from_ident outer stored =
           let lefts = fields_of left in
           let mine = own decl.body.fields is in
           let are = are_kept setting before receiver asked aside decl.body is decl.body.fields (has_flat decl.body.fields) refl in
-          let f1 = all_entry_faults setting earlier decl.body [] es in
+          let f1 = entry_faults in
+          let begun = f1 ++ outer in
           let f2 = joined (each (flat_added setting before receiver asked aside decl.body is kept) decl.body.fields mine) in
           let f3 = joined (each (missing_added setting before receiver asked aside decl.body is kept) decl.body.fields mine) in
-          let ending = set_default (default_of false left) ++ last setting before receiver asked aside decl is kept left is_decl in
+          let all = f1 ++ (outer ++ (f2 ++ f3)) in
+          let source = default_of from_ident left in
+          let ending = set_default source ++ last setting before receiver asked aside decl is kept left is_decl parts in
           let behind_checks = stmt.CheckErrors None ∷ ending in
           let behind_flattens = checks lefts ++ behind_checks in
           let slots : List Slot → List Fault → Progress = at_slots_with setting before receiver asked aside decl.body is kept in
-          let first : run_from setting before receiver (flattens lefts) asked (slots (each (field_slot setting earlier) decl.body.fields mine) f1) ≡ slots (each (flat_slot setting before receiver asked aside decl.body is kept) decl.body.fields mine) (f1 ++ f2) =
-          ap (λ ns. run_from setting before receiver (at_slots (flatten ns) zero lefts) asked (slots (each (field_slot setting earlier) decl.body.fields mine) f1)) (names_are decl.body lefts decl.body.fields is_decl.fields)
-          ∙ run_flattens setting before receiver asked aside decl.body is kept lefts decl.body.fields mine f1 is_decl.fields are in
-          let second : run_from setting before receiver (checks lefts) asked (slots (each (flat_slot setting before receiver asked aside decl.body is kept) decl.body.fields mine) (f1 ++ f2)) ≡ slots (each (full_slot setting before receiver asked aside decl.body is kept) decl.body.fields mine) ((f1 ++ f2) ++ f3) =
-          run_checks setting before receiver asked aside decl.body is kept lefts decl.body.fields mine (f1 ++ f2) is_decl.fields are in
-          let facts : f1 ++ (f2 ++ f3) ≡ [] → AreGood setting before receiver asked aside decl.body is kept decl.body.fields mine = λ e.
-          let e2 = nil_right f1 (f2 ++ f3) e in
-          are_good setting before receiver asked aside decl.body is kept decl.body.fields mine (clean_all setting earlier decl.body es (nil_left f1 (f2 ++ f3) e)) (nil_left f2 f3 e2) (nil_right f2 f3 e2) in
+          let first : run_from setting before receiver (flattens lefts) asked (slots (each (field_slot setting earlier) decl.body.fields mine) begun) ≡ slots (each (flat_slot setting before receiver asked aside decl.body is kept) decl.body.fields mine) (begun ++ f2) =
+          ap (λ ns. run_from setting before receiver (at_slots (flatten ns) zero lefts) asked (slots (each (field_slot setting earlier) decl.body.fields mine) begun)) (names_are decl.body lefts decl.body.fields is_decl.fields)
+          ∙ run_flattens setting before receiver asked aside decl.body is kept lefts decl.body.fields mine begun is_decl.fields are in
+          let second : run_from setting before receiver (checks lefts) asked (slots (each (flat_slot setting before receiver asked aside decl.body is kept) decl.body.fields mine) (begun ++ f2)) ≡ slots (each (full_slot setting before receiver asked aside decl.body is kept) decl.body.fields mine) ((begun ++ f2) ++ f3) =
+          run_checks setting before receiver asked aside decl.body is kept lefts decl.body.fields mine (begun ++ f2) is_decl.fields are in
+          let facts : all ≡ [] → IsReady setting before receiver asked aside decl is kept left is_decl parts = λ e.
+          let e1 = nil_right f1 (outer ++ (f2 ++ f3)) e in
+          let e2 = nil_right outer (f2 ++ f3) e1 in (
+            stored (nil_left outer (f2 ++ f3) e1),
+            are_good setting before receiver asked aside decl.body is kept decl.body.fields mine (clean_all setting earlier decl.body es (nil_left f1 (outer ++ (f2 ++ f3)) e)) (nil_left f2 f3 e2) (nil_right f2 f3 e2),
+          ) in
           let state : List Fault → State = full_state setting before receiver asked aside decl.body is kept no_value in
           ap outcome
-          (statement.run_append setting before receiver (flattens lefts) behind_flattens asked (slots (each (field_slot setting earlier) decl.body.fields mine) f1)
+          (statement.run_append setting before receiver (flattens lefts) behind_flattens asked (slots (each (field_slot setting earlier) decl.body.fields mine) begun)
           ∙ ap (run_from setting before receiver behind_flattens asked) first
-          ∙ statement.run_append setting before receiver (checks lefts) behind_checks asked (slots (each (flat_slot setting before receiver asked aside decl.body is kept) decl.body.fields mine) (f1 ++ f2))
+          ∙ statement.run_append setting before receiver (checks lefts) behind_checks asked (slots (each (flat_slot setting before receiver asked aside decl.body is kept) decl.body.fields mine) (begun ++ f2))
           ∙ ap (run_from setting before receiver behind_checks asked) second
-          ∙ ap (run_from setting before receiver ending asked) (statement.check_errors setting before receiver None asked (slots (each (full_slot setting before receiver asked aside decl.body is kept) decl.body.fields mine) ((f1 ++ f2) ++ f3)))
-          ∙ ap (λ fs. run_from setting before receiver ending asked (unless_faults fs (state fs) aside)) (append_assoc f1 f2 f3))
-          ∙ stop_settle setting before receiver asked aside decl.body (f1 ++ (f2 ++ f3)) (state (f1 ++ (f2 ++ f3))) ending
-          (transformed setting earlier decl.transform receiver.type (bind (whole_default setting receiver.type decl.body.default) (made setting before receiver asked aside decl is kept)))
-          (ended_default setting before receiver asked aside decl is kept left is_decl (default_of false left))
-          (λ e. behind_default setting before receiver asked aside decl is kept left is_decl left.default decl.body.default (f1 ++ (f2 ++ f3)) is_decl.default (facts e))
+          ∙ ap (run_from setting before receiver ending asked) (statement.check_errors setting before receiver None asked (slots (each (full_slot setting before receiver asked aside decl.body is kept) decl.body.fields mine) ((begun ++ f2) ++ f3)))
+          ∙ ap (λ fs. run_from setting before receiver ending asked (unless_faults fs (state fs) aside)) (append_assoc begun f2 f3 ∙ append_assoc f1 outer (f2 ++ f3)))
+          ∙ stop_settle setting before receiver asked aside decl.body all (state all) ending (result parts from_ident)
+          (ended_default setting before receiver asked aside decl is kept left is_decl parts source)
+          (λ e. behind_default setting before receiver asked aside decl is kept left is_decl parts source all (facts e))
+
+      -- the same where nothing but entries is read
+      pub close : outcome (run_from setting before receiver (closing false left) asked (Going (state_behind setting earlier decl.body is entry_faults) aside)) ≡ Some (written_meaning setting earlier decl receiver.type (built_style receiver asked) es)
+      close =
+          ap (λ fs. outcome (run_from setting before receiver (closing false left) asked (Going (state_behind setting earlier decl.body is fs) aside))) (sym (append-nil entry_faults))
+          ∙ closed [] false [] (λ e. refl)
+          ∙ ap₂ (λ o (next : Datum → Outcome Datum). Some (settle (collected_with setting earlier decl.body [] es) (transformed setting earlier decl.transform receiver.type (bind o next))))
+          (default_is setting before receiver asked aside decl is kept left.default decl.body.default is_decl.default)
+          (fun_ext (made_plain setting before receiver asked aside decl is kept left is_decl))
 
       -- behind the declarations nothing is read yet
-      declared : run_from setting before receiver (declarations (fields_of left)) asked (with_slots_kept setting before receiver asked aside decl.body [] [] []) ≡ Going (state_behind setting earlier decl.body [] []) aside
+      pub declared : run_from setting before receiver (declarations (fields_of left)) asked (with_slots_kept setting before receiver asked aside decl.body [] [] []) ≡ Going (state_behind setting earlier decl.body [] []) aside
       declared =
           run_declarations setting before receiver asked aside decl.body (fields_of left) decl.body.fields [] is_decl.fields
           ∙ ap (λ xs. with_slots_kept setting before receiver asked aside decl.body xs (each (field_slot setting earlier) decl.body.fields (λ j. [])) []) (nothing_kept setting before receiver asked aside decl.body (has_flat decl.body.fields))
 
-      walked : Going (fold (entry_step setting earlier decl.body) (state_behind setting earlier decl.body [] []) es) aside ≡ Going (state_behind setting earlier decl.body is (all_entry_faults setting earlier decl.body [] es)) aside
+      pub walked : Going (fold (entry_step setting earlier decl.body) (state_behind setting earlier decl.body [] []) es) aside ≡ Going (state_behind setting earlier decl.body is (all_entry_faults setting earlier decl.body [] es)) aside
       walked = ap (λ s. Going s aside) (walk setting earlier decl.body [] [] es)
 
 -- the function that reads a list
@@ -178,7 +156,7 @@ list_outcome setting before receiver left decl asked is =
     (statement.run_append setting before receiver (declarations (fields_of left)) (stmt.DeclareErrors ∷ behind_errors) asked start
     ∙ ap (go (stmt.DeclareErrors ∷ behind_errors)) (declared setting before receiver no_aside decl left is asked es)
     ∙ ap (go behind_errors) (statement.declare_errors setting before receiver asked (Going (state_behind setting (metas before) decl.body [] []) no_aside))
-    ∙ ap (go behind_items) (for_items_fold setting before receiver no_aside decl left is (state_behind setting (metas before) decl.body [] []) asked ∙ walked setting before receiver no_aside decl left is asked es))
+    ∙ ap (go behind_items) (for_items_fold setting before receiver decl left is (state_behind setting (metas before) decl.body [] []) no_aside asked ∙ walked setting before receiver no_aside decl left is asked es))
     ∙ close setting before receiver no_aside decl left is asked es
 
 -- the function that reads an item of a text, where it reads attributes alone
@@ -204,7 +182,7 @@ input_outcome setting before receiver left decl input is =
     ∙ ap (go behind_slots) (declared setting before receiver no_aside decl base is.base asked es)
     ∙ statement.run_append setting before receiver (loop ns) behind_attributes asked (Going state no_aside)
     ∙ ap (λ ns. go behind_attributes (go (loop ns) (Going state no_aside))) is.attributes
-    ∙ ap (go behind_attributes) (over_is setting before receiver no_aside decl base is.base decl.attributes state asked ∙ walked setting before receiver no_aside decl base is.base asked es)
+    ∙ ap (go behind_attributes) (over_read_is setting before receiver decl base is.base decl.attributes state no_aside asked ∙ walked setting before receiver no_aside decl base is.base asked es)
     ∙ ap (go (stmt.ReadBody None None ∷ behind_body left.outer.from_ident)) (statement.check_shape setting before receiver shapes.Any asked state_is)
     ∙ ap (go (behind_body left.outer.from_ident)) (statement.read_body setting before receiver None None asked state_is)
     ∙ ap (λ b. go (behind_body b) state_is) is.no_ident)

@@ -10,7 +10,7 @@ use Rattle.codegen_program.specs.declared.program.«Unit».{«Unit» as Unit'}
 use Rattle.codegen_core.specs.Compiled.{list_stmts}
 use Rattle.codegen_core.specs.declared.trait_impl.TraitImpl.{TraitImpl}
 use Rattle.codegen_outer.specs.CompiledOuter.{func_stmts}
-use Rattle.codegen_outer.specs.Outer.{input_outer}
+use Rattle.codegen_outer.specs.Outer.{Outer, input_outer}
 use Rattle.codegen_outer.specs.declared.from_derive_impl.FromDeriveInputImpl.{FromDeriveInputImpl}
 use Rattle.meaning_core.specs.Decl.{Decl}
 use Rattle.machine_steps.specs.Setting.{Setting}
@@ -27,6 +27,10 @@ use Rattle.machine_execute.specs.Machine.{is_from_derive_input, machine, run_fun
 use Rattle.error_fault.specs.Outcome.{Outcome}
 use Rattle.machine_value.specs.declared.value.Value.{Value as Datum}
 use Rattle.machine_execute.specs.Elements.{Element, HasOutcome, OnInput}
+use Rattle.meaning_core.specs.DeclaredElements.{declared_element_meaning}
+use Rattle.meaning_core.specs.ElementMeaning.{element_meaning}
+use Rattle.meaning_core.specs.Elements.{OuterDecl}
+use Rattle.law_machine.specs.ElementDecls.{IsElementDecl, IsElementUnit, TakesNoBody}
 use Rattle.law_machine.specs.Left.{IsLeftInput, IsLeftMeta, IsLeftUnit}
 use Rattle.law_machine.specs.Kinds.{IsOfKind}
 use Rattle.meaning_core.specs.MetaCells.{meta_cells}
@@ -49,6 +53,13 @@ InputIsMeaning =
     → outcome (run setting before receiver (func_stmts (input_outer left)) (OnElement (OnInput input)))
     ≡ Some (struct_meaning setting (metas before) decl (named_entries decl.attributes input.attrs))
 
+-- the function that reads an element has an outcome, and it is what the element means
+abbrev pub ElementIsMeant : Type 0
+ElementIsMeant =
+    (setting : Setting) (before : Before) (receiver : Receiver) (left : Outer) (decl : OuterDecl) (element : Element)
+    → IsElementDecl receiver left decl
+    → outcome (run setting before receiver (func_stmts left) (OnElement element)) ≡ Some (element_meaning setting before decl element)
+
 -- what a unit reads of metas under `FromMeta`, whatever the declarations before it read, is what the declaration reads
 abbrev pub CellsAreMeant : Type 0
 CellsAreMeant =
@@ -62,6 +73,14 @@ ProgramIsMeaning =
     (host : HostSays) (program : Program) (unit : Unit') (decls : List MetaDecl) (decl : Decl) (input : DeriveInput)
     → AreMetaUnits program.decls program.units decls → IsInputUnit unit decl → IsBraced (slice_get program.decls unit.decl)
     → machine host program unit input ≡ Some (declared_meaning (setting_of host program) decls decl input)
+
+-- On any item, the unit of a declaration that takes neither the body nor the generics gives what the item means under it, where
+-- each declaration that metas are read as has its unit; its fields may have the types of declarations below it.
+abbrev pub ElementsAreMeant : Type 0
+ElementsAreMeant =
+    (host : HostSays) (program : Program) (unit : Unit') (metas : List MetaDecl) (outers : List OuterDecl) (decl : OuterDecl) (input : DeriveInput)
+    → AreMetaUnits program.decls program.units metas → IsElementUnit (setting_of host program) unit decl → TakesNoBody decl
+    → machine host program unit input ≡ Some (declared_element_meaning (setting_of host program) metas outers decl (OnInput input))
 
 -- the function of a unit has an outcome on whatever it is asked
 abbrev pub HasOutcomes : Setting → Before → Unit' → Func → Type 0
