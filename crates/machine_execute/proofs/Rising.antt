@@ -81,3 +81,12 @@ below_at units at unit number rises lt is less i le =
     let up : number_at units i ≤ number_at units at = rising 0 (numbers units) i at rises le within in
     let here : number_at units at ≡ unit.decl = number_is units at unit lt is in
     omega (arith, up, here, less)
+
+-- a unit at a place and all behind it are of no lower numbers
+pub above_at : (units : List Unit') (at : ℕ) (unit : Unit') (number : ℕ) → rises_from 0 (numbers units) ≡ true → at < length units → unit ≡ get_or units at unit → number ≤ unit.decl
+    → (i : ℕ) → at ≤ i → i < length units → number ≤ number_at units i
+above_at units at unit number rises lt is most i le behind =
+    let within : i < length (numbers units) = subst (λ n. i < n) (sym (length-map units (λ (it : Unit'). it.decl))) behind in
+    let up : number_at units at ≤ number_at units i = rising 0 (numbers units) at i rises le within in
+    let here : number_at units at ≡ unit.decl = number_is units at unit lt is in
+    omega (arith, up, here, most)

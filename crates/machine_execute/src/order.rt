@@ -46,11 +46,12 @@ pub(crate) fn unit_under(
     None
 }
 
-/// A place before which all units are of lower numbers: behind all of these, where the units stand in order.
+/// A place before which all units are of lower numbers. Where the units stand in order, none of these stands behind it.
 fn first_of(units: &[Unit], in_order: bool, number: usize) -> usize
     requires { in_order ≡ spec.are_in_order units.now }
     ensures within { result ≤ length units.now }
     ensures before { (i : ℕ) → i < result → number_at units.now i < number }
+    ensures behind { in_order ≡ true → (i : ℕ) → result ≤ i → i < length units.now → number ≤ number_at units.now i }
 {
     let mut low = 0;
     let mut size = if in_order { units.len() } else { 0 };
