@@ -1,5 +1,5 @@
 -- Types that don't fit their places.
-use Rattle.std.specs.Prelude.{ℕ, ◌+◌, Bool, true, false, ◌&&◌, ◌||◌, not, List, [], ◌∷◌, ◌++◌, flat_map, get_or, map, Option, Some, None}
+use Rattle.std.specs.Prelude.{ℕ, ◌+◌, Bool, true, false, ◌&&◌, ◌||◌, not, List, [], ◌++◌, flat_map, get_or, Option, Some, None, slice_get}
 use Rattle.std.specs.List.{list_any, list_all}
 use Rattle.tok_types.specs.declared.span.Span.{Span}
 use Rattle.node_expr.specs.declared.ty.«Type».{«Type» as Type'}
@@ -15,31 +15,16 @@ use Rattle.codegen_program.specs.declared.program.Program.{Program}
 use Rattle.codegen_program.specs.declared.program.«Unit».{«Unit» as Unit'}
 use Rattle.node_core.specs.Bodies.{field_list}
 use Rattle.machine_forms.specs.HostSays.{HostSays}
-use Rattle.machine_forms.specs.Made.{named_type}
-use Rattle.machine_forms.specs.Asks.{Ask, Read, SlotAsks, is_whole_default, slot_asks, unit_asks}
+use Rattle.machine_callables.specs.Callables.{decl_type}
+use Rattle.machine_forms.specs.Asks.{Ask, Read, SlotAsks, is_whole_default}
 use Rattle.machine_forms.specs.Places.{places_from, refused_if, refused_unless}
-use Rattle.machine_fit.specs.declared.fields.FieldsAt.{FieldsAt}
-use Rattle.machine_fit.specs.declared.fields.FieldsAt.TheVariants as fields_at
-use Rattle.machine_fit.specs.Fields.{places_in}
-use Rattle.machine_fit.specs.Fits.{field_fits, has_default, type_fits}
+use Rattle.machine_fields.specs.FieldAsks.{FieldAsks, readings}
+use Rattle.machine_fields.specs.declared.fields.FieldsAt.{FieldsAt}
+use Rattle.machine_fields.specs.declared.fields.FieldsAt.TheVariants as fields_at
+use Rattle.machine_fields.specs.declared.members.MemberAt.{MemberAt}
+use Rattle.machine_fields.specs.declared.members.MemberAt.TheVariants as member_at
+use Rattle.machine_fit.specs.Fits.{field_fits, has_default, part_fits, type_fits}
 use Rattle.machine_forms.specs.Units.{asks_of, units_of}
-
--- the type that a declaration is
-abbrev pub decl_type : DeriveInput → Type'
-decl_type decl = named_type decl.ident.text
-
--- what a unit asks of the fields of a declaration: of its slots, and where it reads fields
-pub record FieldAsks : Type 0 where
-  pub slots : SlotAsks
-  pub places : List FieldsAt
-
-abbrev pub field_asks : «Data» → List Ask → FieldAsks
-field_asks it asks = record { slots = slot_asks asks; places = places_in it asks }
-
--- the same of each of the units; a declaration without units has fields too, of which nothing is asked
-abbrev pub readings : «Data» → List Unit' → List FieldAsks
-readings it [] = field_asks it [] ∷ []
-readings it (unit ∷ units) = field_asks it (unit_asks unit) ∷ map (λ unit. field_asks it (unit_asks unit)) units
 
 module _ (host : HostSays) (program : Program) where
   -- the type of a slot fits what a unit asks of it
@@ -47,15 +32,22 @@ module _ (host : HostSays) (program : Program) where
   fits_asks here slot type asks =
       field_fits host program here (asks.read slot) (asks.many slot) type && (not (asks.default slot) || has_default host program type)
 
+  -- the type of a field of a struct fits what a unit asks of it
+  abbrev pub fits_member : ℕ → Type' → SlotAsks → Option MemberAt → Bool
+  fits_member here type asks (Some (member_at.Slot slot)) = fits_asks here slot type asks
+  fits_member here type asks (Some (member_at.Part at with)) = part_fits host program here at with type
+  fits_member here type asks None = type_fits host program here false type
+
   -- the type of the field of this number among those that are read there fits
-  abbrev pub fits_at : ℕ → ℕ → Type' → SlotAsks → FieldsAt → Bool
-  fits_at here number type asks (fields_at.Slots first) = fits_asks here (first + number) type asks
+  abbrev pub fits_at : ℕ → ℕ → Type' → FieldAsks → FieldsAt → Bool
+  fits_at here number type asks (fields_at.Slots first) = fits_asks here (first + number) type asks.slots
+  fits_at here number type asks fields_at.Members = fits_member here type asks.slots (slice_get asks.members number)
   fits_at here number type asks fields_at.Alone = type_fits host program here true type
   fits_at here number type asks fields_at.Nowhere = type_fits host program here false type
 
   -- The fields of a struct, or of the variant of the number, by what a unit asks of them.
   abbrev pub fits_unit : ℕ → ℕ → ℕ → Type' → FieldAsks → Bool
-  fits_unit here variant number type asks = fits_at here number type asks.slots (get_or asks.places variant fields_at.Nowhere)
+  fits_unit here variant number type asks = fits_at here number type asks (get_or asks.places variant fields_at.Nowhere)
 
   abbrev pub unfit_field : ℕ → List FieldAsks → ℕ → ℕ → Field → List Span
   unfit_field here asks variant number field = refused_unless (list_all (fits_unit here variant number field.ty) asks) (type_span field.ty)

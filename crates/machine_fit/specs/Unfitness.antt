@@ -8,7 +8,7 @@ use Rattle.machine_forms.specs.Forms.{unsupported}
 use Rattle.machine_forms.specs.Names.{duplicate_names}
 use Rattle.machine_forms.specs.Refusals.{first}
 use Rattle.machine_forms.specs.Units.{is_receiver}
-use Rattle.machine_fit.specs.Callables.{unknown_callables}
+use Rattle.machine_callables.specs.Callables.{unknown_callables}
 use Rattle.machine_fit.specs.Types.{unknown_types}
 
 -- there is a last declaration, and items of a text are read as it

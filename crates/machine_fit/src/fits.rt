@@ -8,9 +8,12 @@ ghost use Rattle.machine_fit.specs.Fits as spec;
 ghost use Rattle.machine_forms.specs.Units.{is_item as item_at};
 
 use crate::checker::Checker;
+use crate::readers::Earlier;
 use base_core::Mem;
 use machine_forms::Host;
+use machine_places::{OuterPlace, outer_row_among};
 use machine_rows::{Leaf, Row, element_among, row_among};
+use machine_types::fits_outer;
 use node_expr::Type;
 
 impl<H: Host> Checker<'_, H> {
@@ -34,6 +37,32 @@ impl<H: Host> Checker<'_, H> {
     {
         let row = self.row(ty)?;
         Ok(self.row_fits(here, reads, &row))
+    }
+
+    /// Whether the type of a field fits that takes the part of an element at the place. Where a function converts the part,
+    /// each type may stand there too that is read of no items.
+    pub(crate) fn part_fits(&self, here: usize, at: OuterPlace, with: bool, ty: &Type) -> Mem<bool>
+        ensures { IfOk result (λ fits. fits ≡ spec.part_fits (H.says self.now.host.now) self.now.program.now here at with ty.now) }
+    {
+        if self.is_taken(here, at, ty)? {
+            return Ok(true);
+        }
+        if !with {
+            return Ok(false);
+        }
+        self.type_fits(here, false, ty)
+    }
+
+    /// Whether the place, in the declaration of the number `here`, takes the type.
+    fn is_taken(&self, here: usize, at: OuterPlace, ty: &Type) -> Mem<bool>
+        ensures { IfOk result (λ is. is ≡ spec.is_taken self.now.program.now here at ty.now) }
+    {
+        let row = outer_row_among(self.alloc, &self.program.decls, ty)?;
+        let earlier = Earlier {
+            units: self.program.units.as_slice(),
+            here,
+        };
+        Ok(fits_outer(&row, at, &earlier))
     }
 
     /// The row that a type is.

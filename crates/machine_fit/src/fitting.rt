@@ -7,6 +7,7 @@ ghost use Rattle.machine_fit.specs.Unfitness as spec;
 use crate::checker::Checker;
 use base_core::Mem;
 use codegen_program::Program;
+use machine_callables::Callables;
 use machine_forms::{
     Host, Refusals, Unfit, duplicate_names, groups_of, is_receiver, item_flags, unsupported_forms,
 };
@@ -40,7 +41,12 @@ pub fn refusals<H: Host>(alloc: Global, program: &Program, host: &H) -> Mem<Refu
     let duplicate_names = duplicate_names(alloc, program, groups.as_slice())?;
     let unsupported = unsupported_forms(alloc, program, groups.as_slice())?;
     let unknown_types = checker.unknown_types(groups.as_slice())?;
-    let unknown_callables = checker.unknown_callables(groups.as_slice())?;
+    let callables = Callables {
+        alloc,
+        program,
+        host,
+    };
+    let unknown_callables = callables.unknown_callables(groups.as_slice())?;
     Ok(Refusals {
         duplicate_names,
         unsupported,

@@ -6,13 +6,10 @@
 //! what its units ask. [`refusals`] answers all of these places.
 #![tactic(auto)]
 
-mod callables;
 mod checker;
-mod fields;
 mod fits;
 mod fitting;
-mod reading;
-mod slots;
+mod readers;
 mod types;
 
 pub use fitting::{fit, refusals};

@@ -5,21 +5,19 @@ ghost use Rattle.std.specs.Option.{option_copied};
 ghost use Rattle.std.specs.List.{list_all, list_any};
 ghost use Rattle.machine_forms.specs.Asks as asked;
 ghost use Rattle.machine_forms.specs.Places.{places_from};
-ghost use Rattle.machine_fit.specs.Slots.{seen_reading, seen_slots};
+ghost use Rattle.machine_fields.specs.Slots.{seen_reading, seen_slots};
 ghost use Rattle.machine_fit.specs.Types as spec;
 ghost use Rattle.machine_forms.specs.Units.{AreGroups};
 
 use crate::checker::Checker;
-use crate::fields::{FieldsAt, place_at};
-use crate::reading::Reading;
-use crate::slots::Slots;
 use base_core::{Items, Mem};
 use codegen_program::{PostfixTransform, Unit};
-use machine_forms::{Ask, Host, asks_of, named_type, push_unit};
+use machine_fields::{FieldsAt, MemberAt, Reading, Slots, place_at, readings_of};
+use machine_forms::{Ask, Host, asks_of, named_type};
 use node_core::{Data, DeriveInput, Field, Variant};
 use node_expr::Type;
 use node_span::Spanned;
-use std::alloc::{AllocError, Global};
+use std::alloc::AllocError;
 use tok_types::Span;
 
 impl<H: Host> Checker<'_, H> {
@@ -179,8 +177,30 @@ impl<H: Host> Checker<'_, H> {
                 let slot = first.checked_add(number).ok_or(AllocError)?;
                 self.fits_asks(here, slot, ty, &reading.slots)
             }
+            FieldsAt::Members => {
+                let member = reading.members.get(number).copied();
+                self.fits_member(here, ty, &reading.slots, member)
+            }
             FieldsAt::Alone => self.type_fits(here, true, ty),
             FieldsAt::Nowhere => self.type_fits(here, false, ty),
+        }
+    }
+
+    /// Whether the type of a field of a struct fits what a unit asks of it.
+    fn fits_member(
+        &self,
+        here: usize,
+        ty: &Type,
+        asks: &Slots,
+        member: Option<MemberAt>,
+    ) -> Mem<bool>
+        ensures { IfOk result (λ fits. fits
+            ≡ spec.fits_member (H.says self.now.host.now) self.now.program.now here ty.now (seen_slots asks.now) member) }
+    {
+        match member {
+            Some(MemberAt::Slot(slot)) => self.fits_asks(here, slot, ty, asks),
+            Some(MemberAt::Part { at, with }) => self.part_fits(here, at, with, ty),
+            None => self.type_fits(here, false, ty),
         }
     }
 
@@ -249,29 +269,6 @@ impl<H: Host> Checker<'_, H> {
         }
         places.push(post.function.spanned())
     }
-}
-
-/// What each of the units asks of the fields. A declaration without units has fields too, of which nothing is asked.
-fn readings_of(alloc: Global, body: &Data, units: &[&Unit]) -> Mem<Items<Reading>>
-    ensures { IfOk result (λ readings. map seen_reading readings ≡ spec.readings body.now (map (λ unit. unit.now) units.now)) }
-{
-    if units.is_empty() {
-        return Items::of(alloc, Reading::of(alloc, body, &[])?);
-    }
-    let mut readings = Items::new(alloc);
-    for unit in units {
-        readings.push(reading_of(alloc, body, unit)?)?;
-    }
-    Ok(readings)
-}
-
-/// What a unit asks of the fields.
-fn reading_of(alloc: Global, body: &Data, unit: &Unit) -> Mem<Reading>
-    ensures { IfOk result (λ reading. seen_reading reading ≡ spec.field_asks body.now (asked.unit_asks unit.now)) }
-{
-    let mut asks = Items::new(alloc);
-    push_unit(&mut asks, unit)?;
-    Reading::of(alloc, body, asks.as_slice())
 }
 
 /// Whether the default of the receiver's type is asked for.

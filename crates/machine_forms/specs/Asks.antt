@@ -5,6 +5,7 @@ use Rattle.tok_types.specs.declared.ident.Ident.{Ident}
 use Rattle.codegen_program.specs.declared.arm.Arm.{Arm}
 use Rattle.codegen_program.specs.declared.arm.PostfixTransform.{PostfixTransform}
 use Rattle.codegen_program.specs.declared.callable.Callable.{Callable}
+use Rattle.codegen_program.specs.declared.forwarded.Forwarded.{Forwarded}
 use Rattle.codegen_program.specs.declared.init.DefaultSource.{DefaultSource}
 use Rattle.codegen_program.specs.declared.init.DefaultSource.TheVariants as sources
 use Rattle.codegen_program.specs.declared.init.Fallback.{Fallback}
@@ -43,13 +44,14 @@ abbrev pub variant_read : {S : Type 0} → VariantArm S → VariantRead
 variant_read arm = record { ident = arm.ident; way = way_of arm.form }
 
 -- a slot takes a list of values; items are read to a slot; the items that were kept are; the default of the whole is
--- made; a member is filled; what was built is handed on; the receiver is read as its one field is; a variant is read; a
--- callable answers in the place of a function
+-- made; a member takes a part of the element; a member is filled; what was built is handed on; the receiver is read as its
+-- one field is; a variant is read; a callable answers in the place of a function
 pub data Ask : Type 0 where
   Many : ℕ → Ask
   Read : Arm → Ask
   Flatten : ℕ → Ask
   Whole : DefaultSource → Ask
+  Part : Forwarded → Ask
   Member : Init → Ask
   Transform : PostfixTransform → Ask
   Alone : Ask
@@ -62,6 +64,7 @@ seen (held.Many slot) = Many slot
 seen (held.Read arm) = Read arm.now
 seen (held.Flatten slot) = Flatten slot
 seen (held.Whole source) = Whole source.now
+seen (held.Part it) = Part it.now
 seen (held.Member init) = Member init.now
 seen (held.Transform post) = Transform post.now
 seen held.Alone = Alone
@@ -82,14 +85,15 @@ form_asks (form.Struct asks) = joined asks
 abbrev pub arm_asks : VariantArm (List Ask) → List Ask
 arm_asks arm = Variant (variant_read arm) ∷ form_asks arm.form
 
--- What a statement asks, from what the statements in it ask. What those ask that no unit has yet comes with them.
+-- What a statement asks, from what the statements in it ask. What reads a part of the element asks nothing: what is built of
+-- it asks the part, with its callable and its type.
 abbrev pub stmt_asks : Stmt-F (List Ask) → List Ask
 stmt_asks (Stmt-F.DeclareMany slot ident ty) = Many slot ∷ []
 stmt_asks (Stmt-F.ForAttributes names items forward) = joined items
 stmt_asks (Stmt-F.ForItems arms rest) = map Read arms
 stmt_asks (Stmt-F.ReadFlatten slot names) = Flatten slot ∷ []
 stmt_asks (Stmt-F.SetDefault source) = Whole source ∷ []
-stmt_asks (Stmt-F.Build name variant forwarded inits) = map Member inits
+stmt_asks (Stmt-F.Build name variant forwarded inits) = map Part forwarded ++ map Member inits
 stmt_asks (Stmt-F.Transform post) = Transform post ∷ []
 stmt_asks (Stmt-F.Delegate name member type) = Alone ∷ []
 stmt_asks (Stmt-F.Variants arms names) = joined (map arm_asks arms)

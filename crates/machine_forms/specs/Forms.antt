@@ -20,7 +20,7 @@ use Rattle.node_core.specs.Bodies.{field_list}
 use Rattle.codegen_core.specs.Forms.{form_if, generated_call, generated_path, is_generic}
 use Rattle.codegen_core.specs.declared.form.Unsupported.{Unsupported}
 use Rattle.codegen_core.specs.declared.form.Form.TheVariants as form
-use Rattle.machine_forms.specs.Asks.{Ask, Read, Whole, Member, Transform, Called}
+use Rattle.machine_forms.specs.Asks.{Ask, Read, Whole, Part, Member, Transform, Called}
 use Rattle.machine_forms.specs.Places.{places_from}
 use Rattle.machine_forms.specs.Units.{units_of, asks_of}
 
@@ -69,6 +69,7 @@ fallback_call _ = None
 abbrev pub generated_ask : Ask → List Unsupported
 generated_ask (Read arm) = generated_callable arm.with ++ generated_post arm.post
 generated_ask (Whole (sources.Explicit callable)) = generated_callable (Some callable)
+generated_ask (Part it) = generated_callable it.with
 generated_ask (Member init) = generated_callable (fallback_call init.fallback)
 generated_ask (Transform post) = generated_path post.function
 generated_ask (Called callable at) = generated_callable (Some callable)

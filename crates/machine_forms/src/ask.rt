@@ -5,8 +5,8 @@ ghost use Rattle.machine_forms.specs.Asks as spec;
 
 use base_core::{Items, Mem};
 use codegen_program::{
-    Arm, Callable, DefaultSource, Fallback, FuncName, Init, MAX_NESTING, PostfixTransform, Stmt,
-    Unit, VariantArm, VariantForm,
+    Arm, Callable, DefaultSource, Fallback, Forwarded, FuncName, Init, MAX_NESTING,
+    PostfixTransform, Stmt, Unit, VariantArm, VariantForm,
 };
 use std::alloc::AllocError;
 
@@ -21,6 +21,8 @@ pub enum Ask<'p> {
     Flatten(u32),
     /// The default of the whole receiver is made.
     Whole(&'p DefaultSource),
+    /// A member takes a part of the element.
+    Part(&'p Forwarded),
     /// A member is filled.
     Member(&'p Init),
     /// What was built is handed on.
@@ -77,7 +79,11 @@ fn push_stmt<'p>(asks: &mut Items<Ask<'p>>, stmt: &'p Stmt, nesting: usize) -> M
         Stmt::ForItems { arms, .. } => push_arms(asks, arms.as_slice()),
         Stmt::ReadFlatten { slot, .. } => asks.push(Ask::Flatten(*slot)),
         Stmt::SetDefault { from } => asks.push(Ask::Whole(from)),
-        Stmt::Build { inits, .. } => push_members(asks, inits.as_slice()),
+        Stmt::Build {
+            forwarded,
+            inits,
+            ..
+        } => push_built(asks, forwarded.as_slice(), inits.as_slice()),
         Stmt::Transform { post } => asks.push(Ask::Transform(post)),
         Stmt::Delegate { .. } => asks.push(Ask::Alone),
         Stmt::Variants { arms, .. } => push_variants(asks, arms.as_slice(), nesting),
@@ -139,6 +145,28 @@ fn push_arms<'p>(asks: &mut Items<Ask<'p>>, arms: &'p [Arm]) -> Mem<()>
 {
     for arm in arms {
         asks.push(Ask::Read(arm))?;
+    }
+    Ok(())
+}
+
+/// Adds what is asked of the members of what is built: those that take parts of the element, and the others.
+fn push_built<'p>(
+    asks: &mut Items<Ask<'p>>,
+    forwarded: &'p [Forwarded],
+    inits: &'p [Init],
+) -> Mem<()>
+    ensures { OnOk result (map spec.seen asks.new
+        ≡ map spec.seen asks.old ++ (map spec.Part forwarded.now ++ map spec.Member inits.now)) }
+{
+    push_parts(asks, forwarded)?;
+    push_members(asks, inits)
+}
+
+fn push_parts<'p>(asks: &mut Items<Ask<'p>>, forwarded: &'p [Forwarded]) -> Mem<()>
+    ensures { OnOk result (map spec.seen asks.new ≡ map spec.seen asks.old ++ map spec.Part forwarded.now) }
+{
+    for it in forwarded {
+        asks.push(Ask::Part(it))?;
     }
     Ok(())
 }

@@ -178,6 +178,7 @@ fn push_ask(places: &mut Items<Unsupported>, ask: Ask<'_>) -> Mem<()>
             push_post(places, arm.post.as_ref())
         }
         Ask::Whole(DefaultSource::Explicit(callable)) => push_call(places, Some(callable)),
+        Ask::Part(it) => push_call(places, it.with.as_ref()),
         Ask::Member(init) => push_call(places, fallback_call(&init.fallback)),
         Ask::Transform(post) => push_generated_path(&post.function, places),
         Ask::Called(callable, _) => push_call(places, Some(callable)),

@@ -1,6 +1,6 @@
 use Rattle.std.proofs.Common.{◌≡◌, drop, map}
 use Rattle.std.specs.List.{list_all}
-use Rattle.machine_fit.specs.Slots.{seen_reading}
+use Rattle.machine_fields.specs.Slots.{seen_reading}
 use Rattle.machine_fit.specs.Types.{fits_unit}
 use Rattle.machine_fit.proofs.checker.Checker.fits_readings.Given as goal
 

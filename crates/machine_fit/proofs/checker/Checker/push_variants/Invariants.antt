@@ -1,6 +1,6 @@
 use Rattle.std.proofs.Common.{◌≡◌, ◌++◌, drop, map}
 use Rattle.machine_forms.specs.Places.{places_from}
-use Rattle.machine_fit.specs.Slots.{seen_reading}
+use Rattle.machine_fields.specs.Slots.{seen_reading}
 use Rattle.machine_fit.specs.Types.{unfit_variant}
 use Rattle.machine_fit.proofs.checker.Checker.push_variants.Given as goal
 
