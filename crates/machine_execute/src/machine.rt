@@ -15,7 +15,7 @@ use base_core::Mem;
 use codegen_program::{Program, Unit};
 use error_core::Result;
 use machine_read::{Element, Host};
-use machine_run::again;
+use machine_state::again;
 use machine_value::Value;
 use std::alloc::{AllocError, Global};
 
@@ -28,7 +28,7 @@ pub const MAX_READING: usize = 1024;
 /// An element whose reading goes deeper than [`MAX_READING`] levels of types and declarations is want of memory.
 ///
 /// ```
-/// match try_execute(alloc, program, unit, Element::Input(input), &host) {
+/// match try_execute(alloc, program, unit, element, &host) {
 ///     Ok(Some(outcome)) => shown(alloc, &outcome),
 ///     Ok(None) => Err(Fail::new(format_args!("it has no outcome"))),
 ///     Err(_) => Ok(Text::from_str(alloc, "no memory")?),

@@ -5,8 +5,8 @@ ghost use Rattle.error_fault.specs.Outcome.{Value as ValueSeen};
 ghost use Rattle.machine_read.specs.Asked.{asked_of};
 ghost use Rattle.machine_read.specs.Elements.{OnNested, element_of};
 ghost use Rattle.machine_read.specs.Machine as spec;
-ghost use Rattle.machine_run.specs.Seen.{receiver_of};
-ghost use Rattle.machine_run.specs.Steps.{IsOutcome};
+ghost use Rattle.machine_state.specs.Seen.{receiver_of};
+ghost use Rattle.machine_state.specs.Steps.{IsOutcome};
 ghost use Rattle.machine_read.specs.Cells.{AnswersCell, cell_at};
 ghost use Rattle.machine_execute.specs.Units.{by_unit, cell_of, func_of, made_by, stmts_of};
 
@@ -18,7 +18,8 @@ use error_core::{Error, Fail, Result};
 use machine_read::{
     Asked, Call, Declared, Element, Host, NestedMeta, Reader, Scope, Setting, named_type,
 };
-use machine_run::{Progress, Receiver, Run, State, known};
+use machine_run::{Run, Standing};
+use machine_state::{Progress, Receiver, known};
 use machine_value::Value;
 use std::alloc::Global;
 use std::result;
@@ -233,8 +234,8 @@ fn run_for<H: Host, D: Declared>(
         receiver,
         nameless: context.nameless,
     };
-    let mut state = State::new(context.alloc);
-    let progress = run.run_from(asked, stmts, MAX_NESTING, &mut state, Progress::Going)?;
+    let mut standing = Standing::new(context.alloc);
+    let progress = run.run_from(asked, stmts, MAX_NESTING, &mut standing, Progress::Going)?;
     Ok(progress.outcome())
 }
 

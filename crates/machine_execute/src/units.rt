@@ -6,7 +6,7 @@ ghost use Rattle.machine_read.specs.Answers.{AnswersAsked};
 ghost use Rattle.machine_read.specs.Elements.{element_of};
 ghost use Rattle.machine_read.specs.Machine as spec;
 ghost use Rattle.machine_read.specs.Reads.{no_reads, unread as unread_outcome};
-ghost use Rattle.machine_run.specs.Seen.{answered};
+ghost use Rattle.machine_state.specs.Seen.{answered};
 ghost use Rattle.machine_read.specs.Cells.{AnswersCell, cell_at};
 ghost use Rattle.machine_execute.specs.Units.{cells_of, outer_of, reads_at, setting_at};
 

@@ -1,15 +1,7 @@
 pub mod Building
-pub mod Chosen
-pub mod Declared
-pub mod Errors
-pub mod Faulty
 pub mod Forms
 pub mod Found
-pub mod Held
-pub mod Listless
+pub mod Kept
 pub mod Metas
-pub mod Places
 pub mod Reading
 pub mod Steps
-pub mod Stopped
-pub mod Stops

@@ -26,8 +26,8 @@ use Rattle.machine_read.specs.Receivers.{Receiver, receiver_of, unit_type}
 use Rattle.machine_read.specs.Slots.{read_flat, read_slot, slot_type}
 use Rattle.machine_read.specs.State.{Slot, State, put}
 use Rattle.machine_read.specs.Statements.{run}
-use Rattle.machine_run.specs.Seen.{Change, answered}
-use Rattle.machine_run.proofs.Steps.{ok_same}
+use Rattle.machine_state.specs.Seen.{Change, answered}
+use Rattle.machine_state.proofs.Steps.{ok_same}
 
 module _ (setting : Setting) (earlier : Earlier) where
   -- a slot that is read from the items that were kept

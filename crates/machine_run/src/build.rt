@@ -1,9 +1,9 @@
 //! What a run builds: the default of the receiver, the receiver, and what a transform makes of it.
 
-ghost use Rattle.std.specs.Prelude.{Some};
+ghost use Rattle.std.specs.Prelude.{◌≡◌, Some};
 ghost use Rattle.std.specs.Option.{option_copied};
 ghost use Rattle.error_core.specs.Answers.{Answers};
-ghost use Rattle.machine_read.specs.Asked.{asked_of};
+ghost use Rattle.machine_read.specs.Asked.{asked_of, element_asked};
 ghost use Rattle.machine_read.specs.Building.{build_step};
 ghost use Rattle.machine_read.specs.Elements.{element_of};
 ghost use Rattle.machine_read.specs.Scopes.{under};
@@ -11,30 +11,32 @@ ghost use Rattle.machine_read.specs.Progress.{going};
 ghost use Rattle.machine_read.specs.Reading.{transformed};
 ghost use Rattle.machine_read.specs.Slots as slots;
 ghost use Rattle.machine_read.specs.Statements as spec;
+ghost use Rattle.machine_run.specs.Building.{AreMembers, form_built, member_value, members_built, woven_built};
 ghost use Rattle.machine_run.specs.Runs.{making, run_setting};
-ghost use Rattle.machine_run.specs.Seen.{slot_of, state_of};
-ghost use Rattle.machine_run.specs.Steps.{Builds, Comes, Goes, IsOutcome, default_of, form_built, member_value, with_default};
+ghost use Rattle.machine_state.specs.Seen.{slot_of, state_of};
+ghost use Rattle.machine_run.specs.Steps.{Proceeds, default_of, with_default};
+ghost use Rattle.machine_state.specs.Steps.{Builds, Comes, Goes, IsOutcome};
 
-use crate::faults::{again, known};
-use crate::members::{form_of, member, push_member};
-use crate::progress::Progress;
 use crate::run::Run;
-use crate::slot::Slot;
-use crate::state::State;
-use base_core::{Items, Mem, TryClone};
+use crate::standing::Standing;
+use base_core::{Items, Mem, Text, TryClone};
 use codegen_program::{DefaultSource, Fallback, Forwarded, Init, PostfixTransform};
 use error_core::{Error, Result};
+use machine_outer::{Parts, are_stored, ident_among};
 use machine_read::{Arg, Asked, Declared, Element, Host, Use};
+use machine_state::{Progress, Slot, State, again, form_of, known, member, push_member};
 use machine_value::Value;
 use node_core::Style;
 use node_expr::Type;
-use std::alloc::AllocError;
 use std::result;
 use tok_types::Ident;
 
+/// The members of what is built, or what a default of one refuses.
+type Members = result::Result<Items<(Text, Value)>, Error>;
+
 impl<'p, H: Host, D: Declared> Run<'p, H, D> {
     /// Makes the default of the receiver, or ends with its faults.
-    #[tactic(auto, using(crate::proofs::Stopped::goes_over, crate::proofs::Stopped::goes_on))]
+    #[tactic(auto, using(machine_state::proofs::Stopped::goes_over, machine_state::proofs::Stopped::goes_on))]
     pub(crate) fn set_default(
         &self,
         asked: Asked<'_>,
@@ -98,7 +100,7 @@ impl<'p, H: Host, D: Declared> Run<'p, H, D> {
         }
     }
 
-    /// Builds the receiver. No unit takes parts of the element yet.
+    /// Builds the receiver, of its members and of the parts that its fields take.
     pub(crate) fn build_form(
         &self,
         asked: Asked<'_>,
@@ -106,33 +108,33 @@ impl<'p, H: Host, D: Declared> Run<'p, H, D> {
         variant: &Option<Ident>,
         parts: &[Forwarded],
         inits: &[Init],
-        state: &mut State<'p>,
+        standing: &Standing<'p>,
         progress: Progress,
     ) -> Mem<Progress>
-        ensures { Goes (making H.says self.now build_step (asked_of asked.entry) name.now variant.now parts.now inits.now) state.old progress state.new result }
+        ensures { Proceeds (making H.says self.now build_step (asked_of asked.entry) name.now variant.now parts.now inits.now)
+            standing.now progress standing.now result }
     {
+        let style = self.receiver.built_style(asked);
+        let variant = variant.as_ref();
         match parts {
-            [] => {
-                let style = self.receiver.built_style(asked);
-                self.build(style, name, variant.as_ref(), inits, state, progress)
-            }
-            _ => Err(AllocError),
+            [] => self.build(style, name, variant, inits, &standing.state, progress),
+            _ => self.build_of_parts(asked, name, variant, parts, inits, standing, progress),
         }
     }
 
     /// Builds the struct of the values of its members, or the variant, or what a default of one refuses.
-    #[tactic(auto, using(crate::proofs::Stopped::goes_over, crate::proofs::Stopped::goes_on))]
+    #[tactic(auto, using(machine_state::proofs::Stopped::goes_over, machine_state::proofs::Stopped::goes_on))]
     fn build(
         &self,
         style: Style,
         name: &Ident,
         variant: Option<&Ident>,
         inits: &[Init],
-        state: &mut State<'p>,
+        state: &State<'p>,
         progress: Progress,
     ) -> Mem<Progress>
         ensures { Goes (going (λ it aside. form_built (run_setting H.says self.now) style name.now (option_copied variant.entry) inits.now it))
-            state.old progress state.new result }
+            state.now progress state.now result }
     {
         match progress.over() {
             Some(over) => Ok(over),
@@ -151,17 +153,93 @@ impl<'p, H: Host, D: Declared> Run<'p, H, D> {
     ) -> Mem<Progress>
         ensures { Comes (form_built (run_setting H.says self.now) style name.now (option_copied variant.entry) inits.now (state_of state.now)) result }
     {
+        match self.members(inits, state)? {
+            None => Ok(Progress::Stuck),
+            Some(Err(error)) => Ok(Progress::Built(Err(error))),
+            Some(Ok(members)) => {
+                let value = form_of(self.scope.alloc, name, variant, style, members)?;
+                Ok(Progress::Built(Ok(value)))
+            }
+        }
+    }
+
+    /// Builds the form of its members and of parts of the element, where each part that is to be stored was stored.
+    #[tactic(auto, using(machine_state::proofs::Stopped::goes_over, machine_state::proofs::Stopped::goes_on))]
+    fn build_of_parts(
+        &self,
+        asked: Asked<'_>,
+        name: &Ident,
+        variant: Option<&Ident>,
+        parts: &[Forwarded],
+        inits: &[Init],
+        standing: &Standing<'p>,
+        progress: Progress,
+    ) -> Mem<Progress>
+        ensures { Proceeds (making H.says self.now build_step (asked_of asked.entry) name.now (option_copied variant.entry) parts.now inits.now)
+            standing.now progress standing.now result }
+    {
+        match progress.over() {
+            Some(over) => Ok(over),
+            None => {
+                if !are_stored(&standing.aside, parts) {
+                    return Ok(Progress::Stuck);
+                }
+                self.built_of_parts(asked, name, variant, parts, inits, standing)
+            }
+        }
+    }
+
+    /// What is built of the members and of parts of the element. What a callable on the identifier refuses comes alone.
+    fn built_of_parts(
+        &self,
+        asked: Asked<'_>,
+        name: &Ident,
+        variant: Option<&Ident>,
+        parts: &[Forwarded],
+        inits: &[Init],
+        standing: &Standing<'p>,
+    ) -> Mem<Progress>
+        ensures { Comes (woven_built H.says self.now (asked_of asked.entry) name.now (option_copied variant.entry) parts.now inits.now standing.now) result }
+    {
+        let Some(members) = self.members(inits, &standing.state)? else {
+            return Ok(Progress::Stuck);
+        };
+        let alloc = self.scope.alloc;
+        let element = element_in(asked);
+        match known(ident_among(alloc, &self.scope.setting, parts, element))? {
+            Err(error) => Ok(Progress::Built(Err(error))),
+            Ok(ident) => match members {
+                Err(error) => Ok(Progress::Built(Err(error))),
+                Ok(members) => {
+                    let parts = Parts {
+                        forwarded: parts,
+                        ident: &ident,
+                        aside: &standing.aside,
+                        element,
+                    };
+                    let members = parts.woven(alloc, self.receiver.declared_fields(), members)?;
+                    let style = self.receiver.built_style(asked);
+                    let value = form_of(alloc, name, variant, style, members)?;
+                    Ok(Progress::Built(Ok(value)))
+                }
+            },
+        }
+    }
+
+    /// The members with their values, or what a default of one refuses. None where a slot has no value and nothing stands for it.
+    fn members(&self, inits: &[Init], state: &State<'p>) -> Mem<Option<Members>>
+        ensures { AreMembers result (members_built (run_setting H.says self.now) (state_of state.now) inits.now) }
+    {
         let alloc = self.scope.alloc;
         let mut members = Items::new(alloc);
         for init in inits {
             match self.init_value(init, state)? {
-                None => return Ok(Progress::Stuck),
-                Some(Err(error)) => return Ok(Progress::Built(Err(error))),
+                None => return Ok(None),
+                Some(Err(error)) => return Ok(Some(Err(error))),
                 Some(Ok(value)) => push_member(alloc, &mut members, &init.member, value)?,
             }
         }
-        let value = form_of(alloc, name, variant, style, members)?;
-        Ok(Progress::Built(Ok(value)))
+        Ok(Some(Ok(members)))
     }
 
     /// The value of a member, or what a default refuses. None where its slot has no value and nothing stands for it.
@@ -246,5 +324,15 @@ impl<'p, H: Host, D: Declared> Run<'p, H, D> {
             }
             Err(over) => Ok(over),
         }
+    }
+}
+
+/// The element; what is none stands as one without attributes.
+fn element_in(asked: Asked<'_>) -> Element<'_>
+    ensures { element_of result ≡ element_asked (asked_of asked.entry) }
+{
+    match asked {
+        Asked::Cell(_) => Element::Attributes(&[]),
+        Asked::Element(element) => element,
     }
 }

@@ -10,18 +10,17 @@ ghost use Rattle.machine_read.specs.Receivers.{declared_variants};
 ghost use Rattle.machine_read.specs.Seen.{NothingSeen, seen_arg};
 ghost use Rattle.machine_read.specs.Setting.{answer, ask, without_places};
 ghost use Rattle.machine_run.specs.Runs.{in_run, making};
-ghost use Rattle.machine_run.specs.Steps.{Stops};
+ghost use Rattle.machine_state.specs.Steps.{Stops};
 ghost use Rattle.machine_steps.specs.Building.{alone as alone_in};
 ghost use Rattle.machine_steps.specs.Calls as spec;
 ghost use Rattle.tok_types.specs.Ident.{ident_text};
 
-use crate::members::{alone, bare};
-use crate::progress::Progress;
 use crate::run::Run;
 use base_core::{Mem, Text};
 use codegen_program::{Callable, FuncName};
 use error_core::{Fail, Result};
 use machine_read::{Arg, Asked, Call, Declared, Host, Use};
+use machine_state::{Progress, alone, bare};
 use machine_steps::word_variant;
 use machine_value::Value;
 use node_expr::Type;
@@ -30,7 +29,7 @@ use tok_types::Ident;
 
 impl<'p, H: Host, D: Declared> Run<'p, H, D> {
     /// Reads the receiver as the type of its one member reads what the function is asked. No element is read so yet.
-    #[tactic(auto, using(crate::proofs::Stops::stops_over, crate::proofs::Stops::stops_on))]
+    #[tactic(auto, using(machine_state::proofs::Stops::stops_over, machine_state::proofs::Stops::stops_on))]
     pub(crate) fn delegate(
         &self,
         asked: Asked<'_>,
@@ -56,7 +55,7 @@ impl<'p, H: Host, D: Declared> Run<'p, H, D> {
     }
 
     /// Answers what the callable gives in the place of a function.
-    #[tactic(auto, using(crate::proofs::Stops::stops_over, crate::proofs::Stops::stops_on))]
+    #[tactic(auto, using(machine_state::proofs::Stops::stops_over, machine_state::proofs::Stops::stops_on))]
     pub(crate) fn call(
         &self,
         asked: Asked<'_>,

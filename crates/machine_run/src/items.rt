@@ -11,20 +11,18 @@ ghost use Rattle.machine_read.specs.Scopes.{under};
 ghost use Rattle.machine_read.specs.Reading as reading;
 ghost use Rattle.machine_read.specs.State as spec;
 ghost use Rattle.machine_read.specs.Nodes.{nested_span};
-ghost use Rattle.machine_run.specs.Seen.{change_of, slot_of};
-ghost use Rattle.machine_run.specs.Steps.{Becomes, Changes, Moves, change_at};
+ghost use Rattle.machine_state.specs.Seen.{change_of, slot_of};
+ghost use Rattle.machine_state.specs.Steps.{Becomes, Changes, Moves};
+ghost use Rattle.machine_run.specs.Steps.{change_at};
 
-use crate::faults::faults_at;
-use crate::progress::Progress;
 use crate::run::Run;
-use crate::slot::Slot;
-use crate::state::State;
 use base_core::{Items, Mem, Text, TryClone};
 use base_index::Tally;
 use codegen_program::{Alternatives, Arm, Arms, Rest};
 use error_core::Result;
 use error_fault::Fault;
 use machine_read::{Declared, Host, NestedMeta};
+use machine_state::{Progress, Slot, State, faults_at};
 use machine_value::Value;
 use node_expr::Type;
 use node_make::path_to_string;
@@ -33,7 +31,7 @@ use std::alloc::Global;
 
 impl<'p, H: Host, D: Declared> Run<'p, H, D> {
     /// Takes the items, each by its name.
-    #[tactic(auto, using(crate::proofs::Stopped::goes_over, crate::proofs::Stopped::goes_on))]
+    #[tactic(auto, using(machine_state::proofs::Stopped::goes_over, machine_state::proofs::Stopped::goes_on))]
     pub(crate) fn for_items(
         &self,
         items: &[NestedMeta],

@@ -1,27 +1,18 @@
 //! Runs of the statements of a function: what each makes of the state of a run, and how far the run has come.
 //!
 //! A [`Run`] is what statements are run under; [`Run::run_from`] runs them on what is asked from one [`Progress`] to the next,
-//! over a [`State`] of slots and faults.
+//! over a [`Standing`]: the state, and the attributes that are kept and the parts that were read.
 #![tactic(auto)]
 
 mod build;
 mod calls;
-mod faults;
-mod flat;
+mod forward;
 mod items;
-mod members;
 mod missing;
 mod parts;
-mod progress;
-mod receiver;
 mod run;
-mod slot;
-mod state;
+mod standing;
 mod variants;
 
-pub use faults::{again, known};
-pub use progress::Progress;
-pub use receiver::Receiver;
 pub use run::Run;
-pub use slot::Slot;
-pub use state::State;
+pub use standing::Standing;

@@ -4,25 +4,24 @@ ghost use Rattle.std.specs.Prelude.{◌≡◌, IfOk};
 ghost use Rattle.error_fault.specs.Outcome.{with_siblings};
 ghost use Rattle.machine_read.specs.Scopes.{under};
 ghost use Rattle.machine_read.specs.Slots as spec;
-ghost use Rattle.machine_run.specs.Seen.{change_of, slot_of};
-ghost use Rattle.machine_run.specs.Steps.{Becomes, Changes, Moves, change_at};
+ghost use Rattle.machine_state.specs.Seen.{change_of, slot_of};
+ghost use Rattle.machine_state.specs.Steps.{Becomes, Changes, Moves};
+ghost use Rattle.machine_run.specs.Steps.{change_at};
 
-use crate::progress::Progress;
 use crate::run::Run;
-use crate::slot::Slot;
-use crate::state::State;
 use base_core::{Items, Mem, Text};
 use codegen_program::Alternatives;
 use error_core::Result;
 use error_fault::Fault;
 use machine_read::{Declared, Host};
+use machine_state::{Progress, Slot, State};
 use machine_value::Value;
 use node_expr::Type;
 use std::alloc::{AllocError, Global};
 
 impl<'p, H: Host, D: Declared> Run<'p, H, D> {
     /// Reads the flattened field from the items that were kept.
-    #[tactic(auto, using(crate::proofs::Stopped::goes_over, crate::proofs::Stopped::goes_on))]
+    #[tactic(auto, using(machine_state::proofs::Stopped::goes_over, machine_state::proofs::Stopped::goes_on))]
     pub(crate) fn read_flatten(
         &self,
         place: usize,
@@ -56,7 +55,7 @@ impl<'p, H: Host, D: Declared> Run<'p, H, D> {
     }
 
     /// Gives a slot that no item has named the value of its type without item, or says that it is missing.
-    #[tactic(auto, using(crate::proofs::Stopped::goes_over, crate::proofs::Stopped::goes_on))]
+    #[tactic(auto, using(machine_state::proofs::Stopped::goes_over, machine_state::proofs::Stopped::goes_on))]
     pub(crate) fn check_missing(
         &self,
         place: usize,

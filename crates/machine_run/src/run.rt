@@ -7,19 +7,21 @@ ghost use Rattle.machine_read.specs.Attributes as attributes;
 ghost use Rattle.machine_read.specs.Made.{named_type};
 ghost use Rattle.machine_read.specs.Progress.{going};
 ghost use Rattle.machine_read.specs.Statements as spec;
-ghost use Rattle.machine_run.specs.Seen.{slot_of};
-ghost use Rattle.machine_run.specs.Steps.{Goes, Moves};
+ghost use Rattle.machine_state.specs.Seen.{slot_of};
+ghost use Rattle.machine_run.specs.Steps.{Proceeds};
+ghost use Rattle.machine_state.specs.Steps.{Moves};
 ghost use Rattle.machine_steps.specs.Variants.{variants as variants_of};
 
-use crate::flat::{check_errors, declare, declare_buffer, declare_errors, refuse_list};
-use crate::parts::{check_shape, keep, read_body};
-use crate::progress::Progress;
-use crate::receiver::Receiver;
-use crate::slot::Slot;
-use crate::state::State;
+use crate::forward::{declare_forward, keep};
+use crate::parts::{check_shape, read_body};
+use crate::standing::Standing;
 use base_core::{Items, Mem, Text};
 use codegen_program::{Alternatives, Forward, Stmt, VariantArms};
 use machine_read::{Asked, Call, Declared, Host, NestedMeta, Scope, Setting};
+use machine_state::{
+    Progress, Receiver, Slot, State, check_errors, declare, declare_buffer, declare_errors,
+    refuse_list,
+};
 use meta_entries::{attribute_items, is_named};
 use node_core::{Attribute, Meta};
 use node_expr::Type;
@@ -47,15 +49,15 @@ impl<'p, H: Host, D: Declared> Run<'p, H, D> {
         asked: Asked<'_>,
         stmts: &'p [Stmt],
         nesting: usize,
-        state: &mut State<'p>,
+        standing: &mut Standing<'p>,
         progress: Progress,
     ) -> Mem<Progress>
         requires { D.reads_within self.now.scope.declared.now self.now.room }
-        ensures { Goes (in_run H.says D.earlier self.now spec.run_from stmts.now (asked_of asked.entry)) state.old progress state.new result }
+        ensures { Proceeds (in_run H.says D.earlier self.now spec.run_from stmts.now (asked_of asked.entry)) standing.old progress standing.new result }
     {
         let mut progress = progress;
         for stmt in stmts {
-            progress = self.act(asked, stmt, nesting, state, progress)?;
+            progress = self.act(asked, stmt, nesting, standing, progress)?;
         }
         Ok(progress)
     }
@@ -67,22 +69,32 @@ impl<'p, H: Host, D: Declared> Run<'p, H, D> {
         asked: Asked<'_>,
         stmt: &'p Stmt,
         nesting: usize,
-        state: &mut State<'p>,
+        standing: &mut Standing<'p>,
         progress: Progress,
     ) -> Mem<Progress>
         requires { D.reads_within self.now.scope.declared.now self.now.room }
-        ensures { Goes (in_run H.says D.earlier self.now spec.does stmt.now (asked_of asked.entry)) state.old progress state.new result }
+        ensures { Proceeds (in_run H.says D.earlier self.now spec.does stmt.now (asked_of asked.entry)) standing.old progress standing.new result }
     {
         match stmt {
-            Stmt::DeclareErrors => Ok(declare_errors(state, progress)),
+            Stmt::DeclareErrors => Ok(declare_errors(&mut standing.state, progress)),
             Stmt::DeclareOne { slot, ty, .. } => {
-                self.declare(*slot as usize, Slot::One(ty, false, None), state, progress)
+                self.declare(
+                    *slot as usize,
+                    Slot::One(ty, false, None),
+                    &mut standing.state,
+                    progress,
+                )
             }
             Stmt::DeclareMany { slot, ty, .. } => {
                 let values = Items::new(self.scope.alloc);
-                self.declare(*slot as usize, Slot::Several(ty, values), state, progress)
+                self.declare(
+                    *slot as usize,
+                    Slot::Several(ty, values),
+                    &mut standing.state,
+                    progress,
+                )
             }
-            Stmt::DeclareBuffer => Ok(declare_buffer(state, progress)),
+            Stmt::DeclareBuffer => Ok(declare_buffer(&mut standing.state, progress)),
             Stmt::ForAttributes {
                 names,
                 items,
@@ -93,22 +105,32 @@ impl<'p, H: Host, D: Declared> Run<'p, H, D> {
                 forward,
                 items.as_slice(),
                 nesting,
-                state,
+                standing,
                 progress,
             ),
             Stmt::ForItems { arms, rest } => {
-                self.for_items(asked.items(), arms, rest, state, progress)
+                self.for_items(asked.items(), arms, rest, &mut standing.state, progress)
             }
             Stmt::ReadFlatten { slot, names } => {
-                self.read_flatten(*slot as usize, names, state, progress)
+                self.read_flatten(*slot as usize, names, &mut standing.state, progress)
             }
             Stmt::CheckMissing { slot, ty, name } => {
-                self.check_missing(*slot as usize, ty, name, state, progress)
+                self.check_missing(*slot as usize, ty, name, &mut standing.state, progress)
             }
             Stmt::CheckErrors { location } => {
-                check_errors(self.scope.alloc, location.as_ref(), state, progress)
+                check_errors(
+                    self.scope.alloc,
+                    location.as_ref(),
+                    &mut standing.state,
+                    progress,
+                )
             }
-            Stmt::SetDefault { from } => self.set_default(asked, from, state, progress),
+            Stmt::SetDefault { from } => self.set_default(
+                asked,
+                from,
+                &mut standing.state,
+                progress,
+            ),
             Stmt::Build {
                 name,
                 variant,
@@ -120,7 +142,7 @@ impl<'p, H: Host, D: Declared> Run<'p, H, D> {
                 variant,
                 forwarded.as_slice(),
                 inits.as_slice(),
-                state,
+                standing,
                 progress,
             ),
             Stmt::Transform { post } => self.transform(post, progress),
@@ -129,13 +151,16 @@ impl<'p, H: Host, D: Declared> Run<'p, H, D> {
             Stmt::Delegate { name, member, ty } => self.delegate(asked, name, member, ty, progress),
             Stmt::Variants { arms, names } => {
                 let items = asked.items();
-                self.variants(items, arms, names, nesting, state, progress)
+                self.variants(items, arms, names, nesting, standing, progress)
             }
             Stmt::UnitNames { arms, names } => self.unit_names(asked, arms, names, progress),
             Stmt::Call { callable, at } => self.call(asked, callable, *at, progress),
-            // No unit has them yet.
-            Stmt::DeclareForward { .. } | Stmt::ForwardDone { .. } | Stmt::ReadGenerics { .. } =>
-                Err(AllocError),
+            Stmt::DeclareForward { .. } => Ok(declare_forward(&mut standing.aside, progress)),
+            Stmt::ForwardDone { ident, with } => {
+                self.forward_done(ident, with.as_ref(), standing, progress)
+            }
+            // No unit has it yet.
+            Stmt::ReadGenerics { .. } => Err(AllocError),
         }
     }
 
@@ -168,18 +193,24 @@ impl<'p, H: Host, D: Declared> Run<'p, H, D> {
         forward: &Forward,
         stmts: &'p [Stmt],
         nesting: usize,
-        state: &mut State<'p>,
+        standing: &mut Standing<'p>,
         progress: Progress,
     ) -> Mem<Progress>
         requires { D.reads_within self.now.scope.declared.now self.now.room }
-        ensures { Goes (on_attributes H.says D.earlier self.now stmts.now names.now forward.now attributes.now) state.old progress state.new result }
+        ensures { Proceeds (on_attributes H.says D.earlier self.now stmts.now names.now forward.now attributes.now) standing.old progress standing.new result }
     {
         let mut progress = progress;
         for attribute in attributes {
             if is_named(self.scope.alloc, names, attribute.meta.path())? {
-                progress = self.on_meta(&attribute.meta, stmts, nesting, state, progress)?;
+                progress = self.on_meta(&attribute.meta, stmts, nesting, standing, progress)?;
             } else {
-                progress = keep(forward, attribute, progress)?;
+                progress = keep(
+                    self.scope.alloc,
+                    forward,
+                    attribute,
+                    &mut standing.aside,
+                    progress,
+                )?;
             }
         }
         Ok(progress)
@@ -192,15 +223,15 @@ impl<'p, H: Host, D: Declared> Run<'p, H, D> {
         meta: &Meta,
         stmts: &'p [Stmt],
         nesting: usize,
-        state: &mut State<'p>,
+        standing: &mut Standing<'p>,
         progress: Progress,
     ) -> Mem<Progress>
         requires { D.reads_within self.now.scope.declared.now self.now.room }
-        ensures { Goes (attributes.on_meta (on_list H.says D.earlier self.now stmts.now) meta.now) state.old progress state.new result }
+        ensures { Proceeds (attributes.on_meta (on_list H.says D.earlier self.now stmts.now) meta.now) standing.old progress standing.new result }
     {
         match meta {
             Meta::Path(_) => Ok(progress),
-            _ => self.on_items(meta, stmts, nesting, state, progress),
+            _ => self.on_items(meta, stmts, nesting, standing, progress),
         }
     }
 
@@ -211,42 +242,43 @@ impl<'p, H: Host, D: Declared> Run<'p, H, D> {
         meta: &Meta,
         stmts: &'p [Stmt],
         nesting: usize,
-        state: &mut State<'p>,
+        standing: &mut Standing<'p>,
         progress: Progress,
     ) -> Mem<Progress>
         requires { D.reads_within self.now.scope.declared.now self.now.room }
-        ensures { Goes (attributes.on_items (on_list H.says D.earlier self.now stmts.now) (attribute_items meta.now)) state.old progress state.new result }
+        ensures { Proceeds (attributes.on_items (on_list H.says D.earlier self.now stmts.now) (attribute_items meta.now))
+            standing.old progress standing.new result }
     {
         match attribute_items(self.scope.alloc, meta) {
-            Ok(items) => self.inside(items.as_slice(), stmts, nesting, state, progress),
-            Err(fail) => refuse_list(self.scope.alloc, fail, state, progress),
+            Ok(items) => self.inside(items.as_slice(), stmts, nesting, standing, progress),
+            Err(fail) => refuse_list(self.scope.alloc, fail, &mut standing.state, progress),
         }
     }
 
     /// Reads the variant whose name the one item of the list has. The statements of a variant begin anew.
     #[cycle(stmts)]
-    #[tactic(auto, using(crate::proofs::Stopped::goes_over, crate::proofs::Stopped::goes_on))]
+    #[tactic(auto, using(machine_state::proofs::Stopped::goes_over, machine_state::proofs::Stopped::goes_on))]
     fn variants(
         &self,
         items: &[NestedMeta],
         arms: &'p VariantArms<Stmt>,
         names: &Alternatives,
         nesting: usize,
-        state: &mut State<'p>,
+        standing: &mut Standing<'p>,
         progress: Progress,
     ) -> Mem<Progress>
         requires { D.reads_within self.now.scope.declared.now self.now.room }
-        ensures { Goes (going (λ old aside. of_enum H.says D.earlier self.now
+        ensures { Proceeds (going (λ old aside. of_enum H.says D.earlier self.now
             (λ setting earlier enum. variants_of setting earlier enum (from_start H.says D.earlier self.now) names.now arms.now items.now)))
-            state.old progress state.new result }
+            standing.old progress standing.new result }
     {
         match progress.over() {
             Some(over) => Ok(over),
             None => match self.chosen(items, arms, names)?.into_parts() {
                 Ok(over) => Ok(over),
                 Err((stmts, items)) => {
-                    state.restart(self.scope.alloc);
-                    self.inside(items.as_slice(), stmts, nesting, state, Progress::Going)
+                    standing.restart(self.scope.alloc);
+                    self.inside(items.as_slice(), stmts, nesting, standing, Progress::Going)
                 }
             },
         }
@@ -259,11 +291,11 @@ impl<'p, H: Host, D: Declared> Run<'p, H, D> {
         items: &[NestedMeta],
         stmts: &'p [Stmt],
         nesting: usize,
-        state: &mut State<'p>,
+        standing: &mut Standing<'p>,
         progress: Progress,
     ) -> Mem<Progress>
         requires { D.reads_within self.now.scope.declared.now self.now.room }
-        ensures { Goes (on_list H.says D.earlier self.now stmts.now items.now) state.old progress state.new result }
+        ensures { Proceeds (on_list H.says D.earlier self.now stmts.now items.now) standing.old progress standing.new result }
     {
         if nesting == 0 {
             return Err(AllocError);
@@ -272,7 +304,7 @@ impl<'p, H: Host, D: Declared> Run<'p, H, D> {
             Asked::Cell(Call::List(items)),
             stmts,
             nesting - 1,
-            state,
+            standing,
             progress,
         )
     }

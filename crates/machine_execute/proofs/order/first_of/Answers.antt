@@ -1,4 +1,4 @@
-use Rattle.std.proofs.Common.{◌≤◌, ◌+◌, ◌/◌, ◌<◌, ◌∙◌, arith, subst, sym}
+use Rattle.std.proofs.Common.{◌≡◌, ◌≤◌, ◌+◌, ◌/◌, ◌<◌, ◌∙◌, true, arith, subst, sym}
 use Rattle.codegen_program.specs.declared.program.«Unit».{«Unit» as Unit'}
 use Rattle.machine_execute.proofs.Rising.{above_at, below_at}
 use Rattle.machine_execute.proofs.order.first_of.Goals as goal

@@ -2,8 +2,8 @@ use Rattle.std.proofs.Common.{List, refl, true, None}
 use Rattle.error_fault.specs.declared.fault.Fault.{Fault}
 use Rattle.machine_read.specs.State as spec
 use Rattle.machine_read.specs.State.{One}
-use Rattle.machine_run.specs.Seen.{Change}
-use Rattle.machine_run.proofs.Faulty.{faulty}
+use Rattle.machine_state.specs.Seen.{Change}
+use Rattle.machine_state.proofs.Faulty.{faulty}
 use Rattle.machine_run.proofs.items.filled.Goals as goal
 
 pub returns-in_ok-faults-in-Err : goal.returns-in_ok-faults-in-Err

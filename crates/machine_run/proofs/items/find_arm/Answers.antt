@@ -2,7 +2,7 @@ use Rattle.std.proofs.Common.{◌≡◌, ◌∙◌, None, Some, rules}
 use Rattle.std.specs.Prelude.{position}
 use Rattle.std.specs.Str.{bytes_eq}
 use Rattle.codegen_program.specs.Named.{arm_names}
-use Rattle.machine_run.proofs.Places.{arm-found, found-at, found-none}
+use Rattle.machine_state.proofs.Places.{arm-found, found-at, found-none}
 use Rattle.machine_run.proofs.items.find_arm.Goals as goal
 
 pub returns-in_err-place : goal.returns-in_err-place

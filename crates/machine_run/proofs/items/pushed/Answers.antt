@@ -3,8 +3,8 @@ use Rattle.error_fault.specs.declared.fault.Fault.{Fault}
 use Rattle.machine_read.specs.Reading as reading
 use Rattle.machine_read.specs.State as spec
 use Rattle.machine_read.specs.State.{Several}
-use Rattle.machine_run.specs.Seen.{Change}
-use Rattle.machine_run.proofs.Faulty.{AreFaults, faulty}
+use Rattle.machine_state.specs.Seen.{Change}
+use Rattle.machine_state.proofs.Faulty.{AreFaults, faulty}
 use Rattle.machine_run.proofs.items.pushed.Goals as goal
 
 pub returns-in_ok-faults-in-Err : goal.returns-in_ok-faults-in-Err

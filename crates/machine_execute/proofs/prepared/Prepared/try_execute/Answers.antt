@@ -1,6 +1,6 @@
 use Rattle.std.proofs.Common.{◌∙◌, ap}
 use Rattle.std.specs.Prelude.{option_and_then}
-use Rattle.machine_run.proofs.Steps.{ok_same}
+use Rattle.machine_state.proofs.Steps.{ok_same}
 use Rattle.machine_execute.specs.Elements.{element_of, machine_on, unit_on}
 use Rattle.machine_execute.proofs.prepared.Prepared.try_execute.Goals as goal
 

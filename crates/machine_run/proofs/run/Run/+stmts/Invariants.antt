@@ -3,7 +3,7 @@ use Rattle.machine_read.specs.Asked.{asked_of}
 use Rattle.machine_read.specs.Attributes.{on_attribute}
 use Rattle.machine_read.specs.Statements as spec
 use Rattle.machine_run.specs.Runs.{in_run, on_list}
-use Rattle.machine_run.specs.Seen.{progress_of, state_of}
+use Rattle.machine_run.specs.Steps.{reached}
 use Rattle.machine_run.proofs.run.Run.+stmts.Given as goal
 
 abbrev pub decreases-run_from : goal.decreases-run_from
@@ -30,11 +30,11 @@ decreases-variants g l = 6 * l.nesting + 1
 abbrev pub invariant-run_from-loop-stmt : goal.invariant-run_from-loop-stmt
 invariant-run_from-loop-stmt g l =
     let does = in_run g.H.Host.says g.D.Declared.earlier l.self spec.run_from in
-    does (drop l.stmt-index l.stmts) (asked_of l.asked) (progress_of (state_of l.state) l.progress)
-    ≡ does l.stmts (asked_of l.asked) (progress_of (state_of l.initial.state) l.initial.progress)
+    does (drop l.stmt-index l.stmts) (asked_of l.asked) (reached l.standing l.progress)
+    ≡ does l.stmts (asked_of l.asked) (reached l.initial.standing l.initial.progress)
 
 abbrev pub invariant-for_attributes-loop-attribute : goal.invariant-for_attributes-loop-attribute
 invariant-for_attributes-loop-attribute g l =
     let reads = fold (on_attribute (on_list g.H.Host.says g.D.Declared.earlier l.self l.stmts) l.names l.forward) in
-    reads (progress_of (state_of l.state) l.progress) (drop l.attribute-index l.attributes)
-    ≡ reads (progress_of (state_of l.initial.state) l.initial.progress) l.attributes
+    reads (reached l.standing l.progress) (drop l.attribute-index l.attributes)
+    ≡ reads (reached l.initial.standing l.initial.progress) l.attributes

@@ -8,7 +8,7 @@ use Rattle.machine_read.specs.Scopes.{setting_in}
 use Rattle.machine_steps.specs.Calls.{by_call, delegate}
 use Rattle.machine_steps.specs.Outer.{outer}
 use Rattle.machine_steps.specs.declared.asked.Asked.{Asked as Held}
-use Rattle.machine_run.proofs.Stops.{stops_on}
+use Rattle.machine_state.proofs.Stops.{stops_on}
 use Rattle.machine_run.proofs.run.Run.delegate.Goals as goal
 
 pub returns-in-Cell : goal.returns-in-Cell

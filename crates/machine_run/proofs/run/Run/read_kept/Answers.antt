@@ -3,7 +3,7 @@ use Rattle.machine_read.specs.Reads.{metas}
 use Rattle.machine_read.specs.Scopes.{setting_in}
 use Rattle.machine_read.specs.Slots.{read_flat, slot_type}
 use Rattle.machine_read.specs.State.{State, slot_at}
-use Rattle.machine_run.specs.Seen.{Change, slot_of, state_of}
+use Rattle.machine_state.specs.Seen.{Change, slot_of, state_of}
 use Rattle.machine_run.proofs.Reading.{kept_read, put_back}
 use Rattle.machine_run.proofs.run.Run.read_kept.Goals as goal
 

@@ -1,7 +1,7 @@
 use Rattle.std.proofs.Common.{◌≡◌, drop, fold}
 use Rattle.machine_read.specs.Scopes.{under}
 use Rattle.machine_read.specs.State.{step}
-use Rattle.machine_run.specs.Seen.{state_of}
+use Rattle.machine_state.specs.Seen.{state_of}
 use Rattle.machine_run.proofs.run.Run.take_items.Given as goal
 
 abbrev pub invariant-loop-item : goal.invariant-loop-item

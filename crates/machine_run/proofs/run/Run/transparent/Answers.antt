@@ -7,7 +7,7 @@ use Rattle.machine_read.specs.Convert.{cells}
 use Rattle.machine_read.specs.Dispatch.{from_meta}
 use Rattle.machine_read.specs.Reads.{metas}
 use Rattle.machine_read.specs.Scopes.{setting_in}
-use Rattle.machine_run.specs.Seen.{receiver_of}
+use Rattle.machine_state.specs.Seen.{receiver_of}
 use Rattle.machine_steps.specs.Variants.{wrapped}
 use Rattle.machine_value.specs.declared.value.Value.{Value as Datum}
 use Rattle.machine_run.proofs.run.Run.transparent.Goals as goal

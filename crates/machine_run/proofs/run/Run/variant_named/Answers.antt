@@ -5,7 +5,7 @@ use Rattle.error_core.specs.Answers.{Answers, refusal}
 use Rattle.error_fault.specs.Outcome.{Outcome}
 use Rattle.machine_read.specs.Reads.{metas}
 use Rattle.machine_read.specs.Scopes.{setting_in}
-use Rattle.machine_run.specs.Seen.{receiver_of}
+use Rattle.machine_state.specs.Seen.{receiver_of}
 use Rattle.machine_value.specs.declared.value.Value.{Value as Datum}
 use Rattle.machine_run.proofs.Found.{of_first_unit, of_unit}
 use Rattle.machine_run.proofs.run.Run.variant_named.Goals as goal

@@ -1,0 +1,10 @@
+pub mod Choices
+pub mod Declared
+pub mod Errors
+pub mod Faulty
+pub mod Held
+pub mod Listless
+pub mod Places
+pub mod Steps
+pub mod Stopped
+pub mod Stops
