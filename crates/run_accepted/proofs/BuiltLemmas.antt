@@ -1,7 +1,6 @@
 -- What a declaration has whose forms can all be run.
 use Rattle.std.proofs.Common.{◌≡◌, Bool, true, false, cond, List, [], ◌∷◌, ◌++◌, flat_map, refl, ap, sym, ◌∙◌}
-use Rattle.std.specs.Prelude.{◌||◌}
-use Rattle.std.specs.List.{All, AllByRecursion, list_any}
+use Rattle.std.specs.List.{All, AllByRecursion}
 use Rattle.std.proofs.lemmas.List.Elements.{All-from_recursion}
 use Rattle.tok_types.specs.declared.span.Span.{Span}
 use Rattle.node_core.specs.Meta.{path_of_meta}
@@ -9,13 +8,9 @@ use Rattle.node_core.specs.declared.derive.DeriveInput.{DeriveInput}
 use Rattle.node_span.specs.Spanned.{meta_span}
 use Rattle.options_rows.specs.Entries.{items, option_entries}
 use Rattle.options_rows.specs.Values.{word_of}
-use Rattle.codegen_program.specs.Traits.{is_input}
-use Rattle.codegen_program.specs.declared.program.Derive.{Derive}
-use Rattle.codegen_program.specs.declared.program.Derive.TheVariants as derive
 use Rattle.options_rows.specs.Members.{body_fields}
 use Rattle.run_accepted.specs.Derives.{derives_of}
-use Rattle.run_accepted.specs.declared.derives.Derived.{Derived}
-use Rattle.run_accepted.specs.Unbuilt.{IsBuilt, IsBuiltUnder, body_places, derive_places, derives_input, field_places, has_named_fields, input_places, is_unbuilt_word, option_places, places_under, unbuilt, unbuilt_in}
+use Rattle.run_accepted.specs.Unbuilt.{IsBuilt, body_places, derive_places, derives_input, field_places, has_named_fields, input_places, is_unbuilt_word, option_places, places_under, unbuilt, unbuilt_in}
 
 none-left : {A : Type 0} (xs ys : List A) → xs ++ ys ≡ [] → xs ≡ []
 none-left [] ys is = refl
@@ -25,7 +20,7 @@ none-right : {A : Type 0} (xs ys : List A) → xs ++ ys ≡ [] → ys ≡ []
 none-right [] ys is = is
 none-right (x ∷ xs) ys is = cc
 
-each-none : {A B : Type 0} (f : A → List B) (xs : List A) → flat_map f xs ≡ [] → AllByRecursion (λ x. f x ≡ []) xs
+pub each-none : {A B : Type 0} (f : A → List B) (xs : List A) → flat_map f xs ≡ [] → AllByRecursion (λ x. f x ≡ []) xs
 each-none f [] is = tt
 each-none f (x ∷ xs) is = (none-left (f x) (flat_map f xs) is, each-none f xs (none-right (f x) (flat_map f xs) is))
 
@@ -48,30 +43,6 @@ all_built decls is = All-from_recursion IsBuilt decls (each-none unbuilt_in decl
 
 -- ---- derives
 
--- what is told where one of two facts holds is told where the second does
-at-second : (one other : Bool) (places : List Span) → cond (one || other) places [] ≡ [] → cond other places [] ≡ []
-at-second true true places is = is
-at-second true false places is = refl
-at-second false other places is = is
-
--- a derive of which nothing is told, one of those among which `FromDeriveInput` may be
-one_built : (decl : DeriveInput) (it : Derive) (span : Span) (rest : Bool) → derive_places (record { derive = it; span = span }) ≡ []
-    → cond (is_input it || rest) (input_places decl) [] ≡ [] → IsBuiltUnder decl it
-one_built decl derive.FromMeta span rest none is = tt
-one_built decl derive.FromAttributes span rest none is = cc
-one_built decl derive.FromDeriveInput span rest none is = is
-one_built decl derive.FromField span rest none is = cc
-one_built decl derive.FromTypeParam span rest none is = cc
-one_built decl derive.FromVariant span rest none is = cc
-
-all_under : (decl : DeriveInput) (derives : List Derived) → AllByRecursion (λ it. derive_places it ≡ []) derives → places_under derives decl ≡ []
-    → AllByRecursion (λ it. IsBuiltUnder decl it.derive) derives
-all_under decl [] none is = tt
-all_under decl (it ∷ derives) none is = (
-  one_built decl it.derive it.span (list_any (λ it. is_input it.derive) derives) none.0 is,
-  all_under decl derives none.1 (at-second (is_input it.derive) (list_any (λ it. is_input it.derive) derives) (input_places decl) is),
-)
-
 module _ (decl : DeriveInput) (built : IsBuilt decl) where
   abbrev of_derives : List Span
   of_derives = flat_map derive_places (derives_of decl.attrs)
@@ -79,11 +50,9 @@ module _ (decl : DeriveInput) (built : IsBuilt decl) where
   abbrev of_input : List Span
   of_input = places_under (derives_of decl.attrs) decl
 
-  -- it can be run under each of its derives
-  pub built_under : All (λ it. IsBuiltUnder decl it.derive) (derives_of decl.attrs)
-  built_under =
-      All-from_recursion (λ it. IsBuiltUnder decl it.derive) (derives_of decl.attrs)
-      (all_under decl (derives_of decl.attrs) (each-none derive_places (derives_of decl.attrs) (none-left of_derives of_input built)) (none-right of_derives of_input built))
+  -- none of its derives is one of which no unit is made
+  pub all_compiled : AllByRecursion (λ it. derive_places it ≡ []) (derives_of decl.attrs)
+  all_compiled = each-none derive_places (derives_of decl.attrs) (none-left of_derives of_input built)
 
   -- items of a text can be read as it, where `FromDeriveInput` is derived
   pub input_built : derives_input (derives_of decl.attrs) ≡ true → input_places decl ≡ []
@@ -109,7 +78,7 @@ module _ (decl : DeriveInput) (built : input_places decl ≡ []) where
       (λ item. told-not (is_unbuilt_word (word_of (path_of_meta item))) (meta_span item)) (items (option_entries decl.attrs))
       (each-none option_places (items (option_entries decl.attrs)) (none-right (body_places decl) of_options first_two))
 
-  -- no field has the name of a part
+  -- no field has the name of a part that no run reads
   pub no_part_names : AllByRecursion (λ field. field_places field ≡ []) (body_fields decl.body)
   no_part_names =
       each-none field_places (body_fields decl.body)

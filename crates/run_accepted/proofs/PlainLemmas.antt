@@ -1,8 +1,8 @@
 -- The options of a plain declaration, and what they compile to.
 use Rattle.std.proofs.Common.{◌≡◌, ◌∙◌, ℕ, Bool, true, false, cond, List, [], ◌∷◌, ◌++◌, map, codes, Option, Some, None, refl, sym, ap, subst, inl, inr}
 use Rattle.std.specs.Prelude.{◌||◌, ◌⊎◌, is_some}
-use Rattle.std.specs.List.{AllByRecursion}
-use Rattle.std.proofs.lemmas.List.Elements.{recursion_from_All}
+use Rattle.std.specs.List.{All, AllByRecursion}
+use Rattle.std.proofs.lemmas.List.Elements.{All-from_recursion, recursion_from_All}
 use Rattle.std.specs.Option.{option_copied, option_or}
 use Rattle.std.specs.Str.{bytes_eq}
 use Rattle.base_core.specs.declared.text.Text.{Text}
@@ -30,6 +30,8 @@ use Rattle.options_core.specs.Core.{Core}
 use Rattle.body_core.specs.declared.ast.data.«Data».{«Data» as Data'}
 use Rattle.body_core.specs.declared.ast.data.«Data».TheVariants as container
 use Rattle.codegen_program.specs.declared.callable.Callable.{Callable}
+use Rattle.codegen_program.specs.Traits.{is_input}
+use Rattle.codegen_program.specs.declared.program.Derive.{Derive}
 use Rattle.codegen_program.specs.declared.program.Derive.TheVariants as derives
 use Rattle.codegen_program.specs.declared.program.Func.{Func}
 use Rattle.codegen_program.specs.declared.program.FuncName.TheVariants as func
@@ -47,9 +49,11 @@ use Rattle.options_core.specs.MetaName.{MetaName}
 use Rattle.options_core.specs.Stages.{container_options, core_with_body, good_fields, meta_reader, options_of}
 use Rattle.options_core.specs.Readers.{fdi_reader}
 use Rattle.options_core.specs.InputField.{InputField}
-use Rattle.run_accepted.specs.Plain.{IsPlainDecl, is_other_word}
-use Rattle.run_accepted.specs.Unbuilt.{are_named, has_named_fields, input_places, is_unbuilt_word}
-use Rattle.run_accepted.proofs.BuiltLemmas.{each-weaker, named, no_words}
+use Rattle.run_accepted.specs.Derives.{derives_of}
+use Rattle.run_accepted.specs.declared.derives.Derived.{Derived}
+use Rattle.run_accepted.specs.Plain.{IsPlainDecl, IsPlainInput, IsPlainUnder, is_other_word}
+use Rattle.run_accepted.specs.Unbuilt.{are_named, derive_places, derives_input, has_named_fields, input_places, is_unbuilt_word}
+use Rattle.run_accepted.proofs.BuiltLemmas.{all_compiled, each-weaker, input_built, named, no_words}
 
 -- the options are those of a struct with braces
 abbrev pub HasBraces : Body → Type 0
@@ -287,3 +291,37 @@ listed_unit left number is =
     ap make
     (listed_funcs left left.base.body is.plain.0 is.plain.1
     ∙ ap (λ calls. calls ++ record { name = func.FromList; stmts = list_stmts left.base } ∷ []) (no_calls left.from_word (option_copied left.from_none) (option_copied left.from_expr) is.word is.none is.expr))
+
+-- ---- derives
+
+or-second : (a b : Bool) → b ≡ true → (a || b) ≡ true
+or-second true b is = refl
+or-second false b is = is
+
+-- a derive of which units are made, one of those among which `FromDeriveInput` may be
+one_plain : (decl : DeriveInput) (it : Derive) (span : Span) (rest : Bool) → derive_places (record { derive = it; span = span }) ≡ []
+    → ((is_input it || rest) ≡ true → IsPlainInput decl) → IsPlainUnder decl it
+one_plain decl derives.FromMeta span rest none is = tt
+one_plain decl derives.FromAttributes span rest none is = cc
+one_plain decl derives.FromDeriveInput span rest none is = is refl
+one_plain decl derives.FromField span rest none is = cc
+one_plain decl derives.FromTypeParam span rest none is = cc
+one_plain decl derives.FromVariant span rest none is = cc
+
+all_plain : (decl : DeriveInput) (its : List Derived) → AllByRecursion (λ it. derive_places it ≡ []) its → (derives_input its ≡ true → IsPlainInput decl)
+    → AllByRecursion (λ it. IsPlainUnder decl it.derive) its
+all_plain decl [] none is = tt
+all_plain decl (it ∷ its) none is = (
+  one_plain decl it.derive it.span (derives_input its) none.0 is,
+  all_plain decl its none.1 (λ later. is (or-second (is_input it.derive) (derives_input its) later)),
+)
+
+module _ (decl : DeriveInput) (plain : IsPlainDecl decl) where
+  pub plain_input : derives_input (derives_of decl.attrs) ≡ true → IsPlainInput decl
+  plain_input derived = record { built = input_built decl plain.built derived; own = plain.own derived }
+
+  -- it can be run under each of its derives
+  pub plain_under : All (λ it. IsPlainUnder decl it.derive) (derives_of decl.attrs)
+  plain_under =
+      All-from_recursion (λ it. IsPlainUnder decl it.derive) (derives_of decl.attrs)
+      (all_plain decl (derives_of decl.attrs) (all_compiled decl plain.built) plain_input)

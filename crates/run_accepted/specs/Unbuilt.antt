@@ -72,9 +72,9 @@ option_places item = place_if (is_unbuilt_word (word_of (path_of_meta item))) (m
 
 -- fields
 
--- a field of such a name takes a part of the item that is read
+-- a field of such a name takes a part of the item that no run reads yet: its body, or its generics
 abbrev pub part_names : List (List ℕ)
-part_names = codes "ident" ∷ codes "attrs" ∷ codes "vis" ∷ codes "data" ∷ codes "generics" ∷ []
+part_names = codes "data" ∷ codes "generics" ∷ []
 
 abbrev pub is_part_name : List ℕ → Bool
 is_part_name name = list_any (bytes_eq name) part_names
@@ -112,9 +112,3 @@ unbuilt decls = flat_map unbuilt_in decls
 -- each form that the declaration has can be run
 abbrev pub IsBuilt : DeriveInput → Type 0
 IsBuilt decl = unbuilt_in decl ≡ []
-
--- where it derives this, it can be run so
-abbrev pub IsBuiltUnder : DeriveInput → Derive → Type 0
-IsBuiltUnder decl derive.FromMeta = Unit {0}
-IsBuiltUnder decl derive.FromDeriveInput = input_places decl ≡ []
-IsBuiltUnder decl _ = ⊥

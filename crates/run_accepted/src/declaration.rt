@@ -17,7 +17,7 @@ use tok_types::Span;
 ///
 /// Of each declaration these are, in this order: each derive but `FromMeta` and `FromDeriveInput`; and under
 /// `FromDeriveInput` its name, where it is no struct with braces, each item of its own options `transparent`, `supports` and
-/// `from_ident`, and each field that takes a part of the item, as `ident`.
+/// `from_ident`, and each field that takes the body or the generics of the item.
 pub fn unbuilt(alloc: Global, decls: &[DeriveInput]) -> Mem<Items<Span>>
     ensures places { IfOk result (λ it. it ≡ spec.unbuilt decls.now) }
     ensures none { IfOk result (λ it. it ≡ [] → All spec.IsBuilt decls.now) }

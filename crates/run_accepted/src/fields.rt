@@ -1,4 +1,4 @@
-//! Fields that take a part of the item that is read.
+//! Fields that take a part of an item that no run reads yet.
 
 ghost use Rattle.std.specs.Prelude.{◌≡◌, ◌++◌, flat_map, OnOk};
 ghost use Rattle.tok_types.specs.Ident.{ident_text};
@@ -9,7 +9,7 @@ use base_core::{Items, Mem};
 use node_core::{Data, Field};
 use tok_types::{Ident, Span};
 
-/// Adds the names of the fields that take a part of the item.
+/// Adds the names of the fields that take such a part of the item.
 pub(crate) fn push_parts(body: &Data, spans: &mut Items<Span>) -> Mem<()>
     ensures { OnOk result (spans.new ≡ spans.old ++ flat_map spec.field_places (body_fields body.now)) }
 {
@@ -64,5 +64,5 @@ fn is_part_name(ident: &Ident) -> bool
 fn is_plain_name(name: &str) -> bool
     ensures { result ≡ spec.is_part_name name.now }
 {
-    matches!(name, "ident" | "attrs" | "vis" | "data" | "generics")
+    matches!(name, "data" | "generics")
 }

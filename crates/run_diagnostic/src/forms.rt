@@ -12,7 +12,7 @@ pub fn push_unbuilt(alloc: Global, out: &mut Text, parts: &Parts<'_>, span: Span
     let form = text_at(parts.declarations, span);
     let word = name_of(form);
     let (title, help) = match word {
-        "ident" | "attrs" | "vis" | "data" | "generics" => (
+        "data" | "generics" => (
             "is not read yet: a field of this name takes that part of the item",
             "for an option of the name, call the field otherwise and give the name by `rename`",
         ),
