@@ -30,10 +30,9 @@ use Rattle.run_source.specs.Stages.{container_options, meta_reader, options_of}
 use Rattle.run_accepted.specs.Plain.{IsPlainDecl}
 use Rattle.run_accepted.specs.Unbuilt.{are_named, has_named_fields}
 use Rattle.run_source.specs.Values.{Rules}
-use Rattle.run_accepted.proofs.BuiltLemmas.{input_built}
 use Rattle.run_accepted.specs.Accepted.{IsAccepted}
 use Rattle.run_accepted.proofs.FitLemmas.{no_rows}
-use Rattle.run_accepted.proofs.PlainLemmas.{listed_unit, meta_is_listed}
+use Rattle.run_accepted.proofs.PlainLemmas.{listed_unit, meta_is_listed, plain_input}
 use Rattle.run_accepted.proofs.ListLemmas.{at_place}
 use Rattle.run_accepted.proofs.PlaceLemmas.{none_first}
 use Rattle.law_options.specs.Meant.{meant_decl}
@@ -134,13 +133,13 @@ module _ (host : HostSays) (rules : Rules) (decls : List DeriveInput) (program :
       let own = made.decl in
       let meant = input_decl rules number own in
       let bare = bare_at number own made.stands in
-      let input = input_built own (at_place IsPlainDecl decls number own plain made.stands).built (made.derives refl) in
+      let input = plain_input own (at_place IsPlainDecl decls number own plain made.stands) (made.derives refl) in
       let whole = input_is rules number own (is_named number own made.stands) (have_idents number own made.stands) (names_differ number own made.stands) input made.faultless in
       let (left, left_is, compiled) = made.made in
       let unit_is : IsInputUnit made.unit meant = (
         left,
         compiled,
-        input_options_are rules own left number left_is (is_bare rules own input left left_is) (left_is.outer.from_ident ∙ no_ident rules own input),
+        input_options_are rules own left number left_is (is_bare rules own input left left_is) (left_is.outer.from_ident ∙ no_ident rules own input.built),
         ap unit_type compiled ∙ ap (λ ident. named_type ident.text) left_is.outer.base.ident,
       ) in
       let met =

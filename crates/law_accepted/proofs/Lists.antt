@@ -1,11 +1,10 @@
 -- Lists: things at places, and the first that passes a test.
-use Rattle.std.proofs.Common.{◌≡◌, ◌∙◌, ◌+◌, ℕ, zero, suc, Bool, true, false, cond, not, nat_lt, List, [], ◌∷◌, flat_map, length, take, position, slice_get, Some, None, Contains, refl, sym, ap, ap₂, arith}
+use Rattle.std.proofs.Common.{◌≡◌, ◌∙◌, ◌+◌, ℕ, zero, suc, Bool, true, false, cond, not, nat_lt, List, [], ◌∷◌, flat_map, length, take, position, slice_get, Some, None, Contains, refl, sym, ap, arith}
 use Rattle.std.specs.List.{AllByRecursion, list_any, position_or_len}
 use Rattle.std.proofs.lemmas.Bool.{cond-false, cond-true, not_from_false, not_from_true, or_from, or_parts}
 use Rattle.std.proofs.lemmas.Bool.Decides.{Decides-ltb}
 use Rattle.std.proofs.lemmas.Option.{get_or_from_slice_get, none-some, same_Some, slice_get_within}
 use mathlib.Core.List.{append-eq-nil_iff}
-use Rattle.law_asks.specs.Places.{places_from}
 
 module _ {A : Type 0} where
   pub contained : (things : List A) (place : ℕ) (thing : A) → slice_get things place ≡ Some thing → Contains things thing
@@ -13,20 +12,6 @@ module _ {A : Type 0} where
 
   pub two_at : (things : List A) (place : ℕ) (one other : A) → slice_get things place ≡ Some one → slice_get things place ≡ Some other → one ≡ other
   two_at things place one other is also = same_Some one other (sym is ∙ also)
-
--- where no thing has a place in the text, the one of this number has none
-module _ {A B : Type 0} (places_of : ℕ → A → List B) where
-  pub none_at : (at : ℕ) (things : List A) → places_from places_of at things ≡ [] → (place number : ℕ) (thing : A) → number ≡ at + place
-      → slice_get things place ≡ Some thing → places_of number thing ≡ []
-  none_at at [] none place number thing is stands = absurd (none-some thing stands)
-  none_at at (first ∷ things) none zero number thing is stands =
-      let both = (append-eq-nil_iff {p = places_of at first} {q = places_from places_of (at + 1) things}).0 none in
-      let same : number ≡ at = omega (arith, is) in
-      ap₂ places_of same (sym (same_Some first thing stands)) ∙ both.0
-  none_at at (first ∷ things) none (suc place) number thing is stands =
-      let both = (append-eq-nil_iff {p = places_of at first} {q = places_from places_of (at + 1) things}).0 none in
-      let next : number ≡ at + 1 + place = omega (arith, is) in
-      none_at (at + 1) things both.1 place number thing next stands
 
 module _ {A B : Type 0} (made : A → List B) where
   -- where nothing is made of things, nothing is made of any

@@ -1,67 +1,44 @@
 -- Names of declarations and of their fields, where no name stands twice.
-use Rattle.std.proofs.Common.{◌≡◌, ◌∙◌, ◌<◌, ◌+◌, ◌||◌, ℕ, zero, suc, Bool, true, false, List, [], ◌∷◌, ◌++◌, flat_map, map, take, slice_get, Option, Some, None, option_map, unwrap_or, IsSomeAnd, refl, sym, ap, arith}
-use Rattle.std.specs.List.{AllByRecursion, cons_option}
+use Rattle.std.proofs.Common.{◌≡◌, ◌∙◌, ◌<◌, ◌+◌, ℕ, zero, suc, true, false, List, [], ◌∷◌, map, take, slice_get, Option, Some, None, option_map, unwrap_or, IsSomeAnd, refl, sym, ap, arith}
+use Rattle.std.specs.List.{AllByRecursion}
 use Rattle.std.specs.Str.{bytes_eq}
-use Rattle.std.proofs.lemmas.Bool.{or_parts}
 use Rattle.std.proofs.lemmas.List.{take-map}
 use Rattle.std.proofs.lemmas.Option.{none-some, same_Some, slice_get-map}
 use Rattle.std.proofs.lemmas.Slice.Eq.{bytes_eq-Decides}
-use mathlib.Core.List.{append-eq-nil_iff}
 use Rattle.base_core.specs.declared.text.Text.{Text}
 use Rattle.tok_types.specs.Ident.{IsToken, ident_text}
 use Rattle.tok_types.specs.declared.ident.Ident.{Ident}
-use Rattle.tok_types.specs.declared.span.Span.{Span}
 use Rattle.node_core.specs.declared.data.Field.{Field}
-use Rattle.node_core.specs.declared.data.Fields.{Fields}
-use Rattle.node_core.specs.declared.data.Fields.TheVariants as fields
-use Rattle.node_core.specs.declared.data.«Data».{«Data»}
-use Rattle.node_core.specs.declared.data.«Data».TheVariants as body
 use Rattle.node_core.specs.declared.derive.DeriveInput.{DeriveInput}
 use Rattle.machine_rows.specs.Paths.{same_ident}
 use Rattle.machine_rows.specs.Rows.{row_of}
 use Rattle.machine_rows.specs.declared.row.Row.TheVariants as row
 use Rattle.meaning_core.specs.Decls.{decl_names, member_name}
-use Rattle.node_core.specs.Bodies.{field_list}
 use Rattle.meaning_core.specs.Made.{name_of, named_type}
 use Rattle.law_asks.specs.Names.{field_names, has_name, repeated_field, repeated_fields, repeated_members, repeated_names}
 use Rattle.law_asks.specs.Places.{refused_if}
 use Rattle.run_accepted.specs.Attributes.{without_attributes}
 use Rattle.run_source.specs.Members.{body_fields}
 use Rattle.run_accepted.specs.Unbuilt.{has_named_fields}
-use Rattle.run_accepted.specs.Accepted.{derives_named_again, duplicate}
+use Rattle.run_accepted.specs.Accepted.{duplicate}
 use Rattle.run_accepted.proofs.NameLemmas.{same_names}
-use Rattle.run_accepted.proofs.PlaceLemmas.{none_first}
 use Rattle.law_asks.specs.Sound.{AreNamed, Differ}
 use Rattle.law_fields.specs.Fields.{IsTextField}
-use Rattle.law_accepted.proofs.Lists.{first_at, none_at, none_passes}
+use Rattle.law_options.proofs.Repeats.{both_single, names_single, none_at, none_refused, not_named, of_struct}
+use Rattle.law_accepted.proofs.Lists.{first_at, none_passes}
 use Rattle.law_accepted.proofs.Rows.{named_row}
 use Rattle.law_accepted.proofs.Texts.{written_apart}
 
-none_refused : {A : Type 0} (test : Bool) (place : A) → refused_if test place ≡ [] → test ≡ false
-none_refused true place none = cc
-none_refused false place none = refl
-
--- what a declaration of this number repeats
-abbrev repeats : List DeriveInput → ℕ → DeriveInput → List Span
-repeats decls number decl = refused_if (false || has_name (decl_names (take number decls)) decl.ident.text) decl.ident.span ++ repeated_members decl.body
-
 module _ (decls : List DeriveInput) (single : repeated_names decls ≡ []) (number : ℕ) (decl : DeriveInput) (stands : slice_get decls number ≡ Some decl) where
-  repeats_none : repeats decls number decl ≡ []
-  repeats_none = let is : number ≡ 0 + number = omega arith in none_at (repeats decls) 0 decls single number number decl is stands
-
-  both_none : (refused_if (has_name (decl_names (take number decls)) decl.ident.text) decl.ident.span ≡ []) × (repeated_members decl.body ≡ [])
-  both_none =
-      (append-eq-nil_iff {p = refused_if (has_name (decl_names (take number decls)) decl.ident.text) decl.ident.span} {q = repeated_members decl.body}).0 repeats_none
-
   -- its members repeat no name
   pub members_single : repeated_members decl.body ≡ []
-  members_single = both_none.1
+  members_single = (both_single decls single number decl stands).1
 
   -- its name is that of none before it
   not_before : has_name (take number (decl_names decls)) decl.ident.text ≡ false
   not_before =
       ap (λ (idents : List Ident). has_name idents decl.ident.text) (take-map (λ (it : DeriveInput). it.ident) number decls)
-      ∙ none_refused (has_name (decl_names (take number decls)) decl.ident.text) decl.ident.span both_none.0
+      ∙ none_refused (has_name (decl_names (take number decls)) decl.ident.text) decl.ident.span (both_single decls single number decl stands).0
 
   -- so the type of its name is this declaration
   row_is : row_of (decl_names decls) (named_type decl.ident.text) ≡ row.Declared number
@@ -73,35 +50,12 @@ module _ (decls : List DeriveInput) (single : repeated_names decls ≡ []) (numb
       ((bytes_eq-Decides text text).1 refl)
       not_before)
 
--- no name stands twice among declarations that are accepted
-pub names_single : (decls : List DeriveInput) → duplicate decls ≡ None → repeated_names decls ≡ []
-names_single decls single =
-    let all = none_first (λ (span : Span). span) (flat_map derives_named_again decls ++ repeated_names decls) single in
-    ((append-eq-nil_iff {p = flat_map derives_named_again decls} {q = repeated_names decls}).0 all).1
-
 -- the name of each declaration is that declaration, where no name stands twice
 pub names_are : (decls : List DeriveInput) → duplicate decls ≡ None → AreNamed (map without_attributes decls)
 names_are decls single number decl stands =
     row_is (map without_attributes decls) (same_names decls ∙ names_single decls single) number decl stands
 
 -- ---- fields
-
--- a field that stands before so many has none of the names that no field before them has
-not_named : (name : Text) (one : Ident) (its : List Field) (place count : ℕ) (field : Field) → place < count → slice_get its place ≡ Some field → field.ident ≡ Some one
-    → has_name (field_names (take count its)) name ≡ false → bytes_eq one.text name ≡ false
-not_named name one [] place count field lt stands is none = absurd (none-some field stands)
-not_named name one (first ∷ its) place zero field lt stands is none = let bad : ⊥ = omega (arith, lt) in absurd bad
-not_named name one (first ∷ its) zero (suc count) field lt stands is none =
-    let ident : first.ident ≡ Some one = ap (λ (it : Field). it.ident) (same_Some first field stands) ∙ is in
-    let none_of : has_name (cons_option (Some one) (field_names (take count its))) name ≡ false =
-    ap (λ own. has_name (cons_option own (field_names (take count its))) name) (sym ident) ∙ none in
-    (or_parts (bytes_eq one.text name) (has_name (field_names (take count its)) name) none_of).0
-not_named name one (first ∷ its) (suc place) (suc count) field lt stands is none =
-    not_named name one its place count field (omega (arith, lt)) stands is (behind first.ident none)
-  where
-    behind : (own : Option Ident) → has_name (cons_option own (field_names (take count its))) name ≡ false → has_name (field_names (take count its)) name ≡ false
-    behind None none = none
-    behind (Some ident) none = (or_parts (bytes_eq ident.text name) (has_name (field_names (take count its)) name) none).1
 
 -- texts differ where each is another than one behind it
 differ_by : (texts : List Text) → ((place later : ℕ) (one other : Text) → place < later → slice_get texts place ≡ Some one → slice_get texts later ≡ Some other → bytes_eq one other ≡ false)
@@ -150,16 +104,6 @@ fields_differ its have single =
     ap (λ text. bytes_eq text other) (sym first.written)
     ∙ ap (bytes_eq (ident_text first.one)) (sym second.written)
     ∙ written_apart first.one second.one first.token second.token apart)
-
-same_list : (its : Fields) → repeated_fields (field_list its) ≡ [] → repeated_fields (field_list its) ≡ []
-same_list (fields.Named it) single = single
-same_list (fields.Unnamed it) single = single
-same_list fields.Unit single = single
-
-of_struct : (it : «Data») → has_named_fields it ≡ true → repeated_members it ≡ [] → repeated_fields (body_fields it) ≡ []
-of_struct (body.Struct it) is single = same_list it.fields single
-of_struct (body.Enum it) is single = cc
-of_struct (body.Union it) is single = cc
 
 -- the names of a declaration's fields differ as they are written
 pub members_differ : (decls : List DeriveInput) → duplicate decls ≡ None → (number : ℕ) (decl : DeriveInput) → slice_get decls number ≡ Some decl

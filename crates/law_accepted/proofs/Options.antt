@@ -30,12 +30,14 @@ use Rattle.run_accepted.specs.Pairs.{faults_under}
 use Rattle.run_source.specs.Rows.{list_of}
 use Rattle.run_source.specs.Stages.{container_options, field_faults, good_fields, meta_reader, options_of}
 use Rattle.run_accepted.specs.Readers.{fdi_reader}
-use Rattle.run_accepted.specs.Unbuilt.{are_named, has_named_fields, input_places}
+use Rattle.run_accepted.specs.Plain.{IsPlainInput}
+use Rattle.run_accepted.specs.Unbuilt.{are_named, has_named_fields}
 use Rattle.run_accepted.proofs.PlainLemmas.{struct_core}
 use Rattle.run_source.specs.Values.{Rules}
 use Rattle.run_source.specs.Walk.{all_faults}
 use Rattle.law_options.specs.Meant.{fields_in, meant_decl, meant_field}
 use Rattle.law_options.specs.Texts.{input_decl}
+use Rattle.law_options.proofs.Elements.{struct_kept}
 use Rattle.law_options.proofs.Faultless.{no_field_faults}
 use Rattle.law_options.proofs.Parts.{own_faults, own_same}
 use Rattle.law_asks.specs.Sound.{Differ, IsFieldOf, named_fields, named_of}
@@ -100,18 +102,13 @@ bare_named (body.Struct it) is = of_fields it.fields is
 bare_named (body.Enum it) is = cc
 bare_named (body.Union it) is = cc
 
-kept : (it : «Data») (goods : List InputField) → has_named_fields it ≡ true → fields_in (with_fields (start_body it) goods) ≡ goods
-kept (body.Struct it) goods is = refl
-kept (body.Enum it) goods is = cc
-kept (body.Union it) goods is = cc
-
 module _ (decl : DeriveInput) (named : has_named_fields decl.body ≡ true) (have : AllByRecursion IsTextField (body_fields decl.body)) (differ : Differ (map member_name (body_fields decl.body))) where
   -- what a container means that keeps the fields of the declaration
   pub meant_is : (number : ℕ) (names : List Text) (core : Core) (goods : List InputField) → core.ident ≡ decl.ident
       → core.body ≡ with_fields (start_body decl.body) goods → AllZip Keeps (body_fields decl.body) goods → IsOf (without_attributes decl) (meant_decl number names core)
   meant_is number names core goods ident same keep =
       let bare : List Field = map field_without (body_fields decl.body) in
-      let fields_same : fields_in core.body ≡ goods = ap fields_in same ∙ kept decl.body goods named in
+      let fields_same : fields_in core.body ≡ goods = ap fields_in same ∙ struct_kept decl.body goods named in
       let are : AllZip IsFieldOf bare (map meant_field (fields_in core.body)) =
       subst (λ its. AllZip IsFieldOf bare (map meant_field its)) (sym fields_same) (fields_are (body_fields decl.body) goods keep have) in
       record {
@@ -128,15 +125,15 @@ module _ (decl : DeriveInput) (named : has_named_fields decl.body ≡ true) (hav
 -- what the options mean is of the declaration
 module _ (rules : Rules) (number : ℕ) (decl : DeriveInput) (named : has_named_fields decl.body ≡ true) (have : AllByRecursion IsTextField (body_fields decl.body))
     (differ : Differ (map member_name (body_fields decl.body))) where
-  pub input_is : input_places decl ≡ [] → faults_under rules decl derive.FromDeriveInput ≡ [] → IsOf (without_attributes decl) (input_decl rules number decl)
-  input_is built none =
+  pub input_is : IsPlainInput decl → faults_under rules decl derive.FromDeriveInput ≡ [] → IsOf (without_attributes decl) (input_decl rules number decl)
+  input_is plain none =
       let set = container_options (fdi_reader rules decl) decl in
       let core = set.base.container in
       let goods = good_fields rules core (body_fields decl.body) in
       let whole = options_of (fdi_reader rules decl) decl in
-      let of_fields = sym (own_faults rules core decl built) ∙ no_field_faults (fdi_reader rules decl) decl none in
+      let of_fields = sym (own_faults rules core decl plain) ∙ no_field_faults (fdi_reader rules decl) decl none in
       meant_is decl named have differ number (map path_text whole.base.attr_names.0) whole.base.container goods refl
-      (ap (λ its. with_fields (start_body decl.body) (good_fields rules core its)) (own_same decl built))
+      (ap (λ its. with_fields (start_body decl.body) (good_fields rules core its)) (own_same decl plain))
       (goods_are rules core (body_fields decl.body) (none_made (field_faults rules core) (body_fields decl.body) of_fields))
 
   pub items_are : faults_under rules decl derive.FromMeta ≡ [] → IsOf (without_attributes decl) (meant_decl number [] (options_of (meta_reader rules decl) decl).base)

@@ -6,7 +6,6 @@ use Rattle.std.proofs.lemmas.List.Elements.{All-cons, All-contains, All-nil, Con
 use Rattle.std.proofs.lemmas.List.Folds.{list_any_at}
 use Rattle.std.proofs.lemmas.Option.{none-some, same_Some}
 use Rattle.tok_types.specs.declared.span.Span.{Span}
-use Rattle.node_expr.specs.declared.ty.«Type».{«Type» as Type'}
 use Rattle.node_span.specs.Spanned.{type_span}
 use Rattle.node_core.specs.declared.data.Field.{Field}
 use Rattle.node_core.specs.declared.data.Fields.{Fields}
@@ -15,20 +14,25 @@ use Rattle.node_core.specs.declared.data.«Data».{«Data»}
 use Rattle.node_core.specs.declared.data.«Data».TheVariants as body
 use Rattle.node_core.specs.declared.derive.DeriveInput.{DeriveInput}
 use Rattle.codegen_program.specs.declared.init.DefaultSource.TheVariants as sources
+use Rattle.codegen_program.specs.declared.program.Derive.{Derive}
 use Rattle.codegen_program.specs.declared.program.Program.{Program}
 use Rattle.codegen_program.specs.declared.program.«Unit».{«Unit» as Unit'}
 use Rattle.node_core.specs.Bodies.{field_list}
 use Rattle.law_fits.specs.HostSays.{HostSays}
 use Rattle.machine_forms.specs.Asks.{Ask, Whole, is_whole_default, slot_asks, unit_asks}
 use Rattle.machine_forms.specs.Places.{places_from, refused_if, refused_unless}
-use Rattle.machine_forms.specs.Receivers.{variants_of}
 use Rattle.machine_forms.specs.Units.{asks_of, is_of, units_of}
-use Rattle.law_fits.specs.Callables.{lacks_ident, unknown_callables, unknown_callables_in, unoffered_ask, unoffered_unit}
+use Rattle.law_fits.specs.Callables.{decl_type, lacks_ident, unknown_callables, unknown_callables_in, unoffered_ask, unoffered_unit}
+use Rattle.law_fits.specs.FieldAsks.{FieldAsks, asks_by, field_asks, readings}
 use Rattle.law_fits.specs.Fields.{slot_fields}
 use Rattle.law_fits.specs.Fits.{has_default}
-use Rattle.law_fits.specs.Types.{FieldAsks, decl_type, field_asks, fits_asks, fits_unit, lacks_default, readings, unfit_ask, unfit_field, unfit_fields, unfit_members, unknown_types, unknown_types_in}
+use Rattle.law_fits.specs.Members.{members_at}
+use Rattle.law_fits.specs.Parts.{parts_asked}
+use Rattle.law_fits.specs.Types.{fits_asks, fits_member, fits_unit, lacks_default, unfit_ask, unfit_field, unfit_fields, unfit_members, unknown_types, unknown_types_in}
 use Rattle.law_fits.proofs.Clean.{nil_left, nil_right, not_nil}
 use Rattle.law_fits.specs.Sound.{named_fields, named_of}
+use Rattle.machine_fields.proofs.Plain.{members_at-plain, slot_fields-plain}
+use Rattle.machine_fields.specs.declared.members.MemberAt.TheVariants as member_at
 use Rattle.law_asks.proofs.Units.{contains-head, contains-map, contains-tail}
 
 -- ---- places of which there are none
@@ -102,12 +106,9 @@ among_asks (first ∷ units) unit ask (zero, lt, is) among =
 among_asks (first ∷ units) unit ask (suc at, lt, is) among =
     Contains-append_right (unit_asks first) (asks_of units) ask (among_asks units unit ask (at, omega (arith, lt), is) among)
 
-abbrev reading : «Data» → Unit' → FieldAsks
-reading it unit = field_asks it (unit_asks unit)
-
-among_readings : (it : «Data») (units : List Unit') (unit : Unit') → Contains units unit → Contains (readings it units) (reading it unit)
+among_readings : (it : «Data») (units : List Unit') (unit : Unit') → Contains units unit → Contains (readings it units) (asks_by it unit)
 among_readings it [] unit (at, lt, is) = absurd (omega (arith, lt))
-among_readings it (first ∷ units) unit among = contains-map (reading it) (first ∷ units) unit among
+among_readings it (first ∷ units) unit among = contains-map (asks_by it) (first ∷ units) unit among
 
 -- ---- the fields of a struct
 
@@ -116,10 +117,11 @@ named_are (fields.Named it) named is = same_Some it.named named is
 named_are (fields.Unnamed it) named is = absurd (none-some named is)
 named_are fields.Unit named is = absurd (none-some named is)
 
-fields_are : (asks : List Ask) (it : «Data») (named : List Field) → named_fields it ≡ Some named → slot_fields asks it ≡ named
-fields_are asks (body.Struct it) named is = named_are it.fields named is
-fields_are asks (body.Enum it) named is = absurd (none-some named is)
-fields_are asks (body.Union it) named is = absurd (none-some named is)
+-- each has a slot where no part of an element is asked
+fields_are : (asks : List Ask) → parts_asked asks ≡ [] → (it : «Data») (named : List Field) → named_fields it ≡ Some named → slot_fields asks it ≡ named
+fields_are asks plain (body.Struct it) named is = slot_fields-plain asks it plain ∙ named_are it.fields named is
+fields_are asks plain (body.Enum it) named is = absurd (none-some named is)
+fields_are asks plain (body.Union it) named is = absurd (none-some named is)
 
 module _ (host : HostSays) (program : Program) (number : ℕ) where
   fields_none : (asks : List FieldAsks) (it : «Data») (named : List Field) → named_fields it ≡ Some named → unfit_members host program number asks it ≡ []
@@ -129,13 +131,18 @@ module _ (host : HostSays) (program : Program) (number : ℕ) where
   fields_none asks (body.Union it) named is none = absurd (none-some named is)
 
   -- the fields of a struct have the slots of their numbers
-  at_slot : (it : «Data») (named : List Field) → named_fields it ≡ Some named → (slot : ℕ) (type : Type') (asks : List Ask)
-      → fits_unit host program number 0 slot type (field_asks it asks) ≡ true → fits_asks host program number slot type (slot_asks asks) ≡ true
-  at_slot (body.Struct it) named is slot type asks fit =
+  at_slot : (derive : Derive) (asks : List Ask) → parts_asked asks ≡ [] → (it : «Data») (named : List Field) → named_fields it ≡ Some named
+      → (slot : ℕ) (field : Field) → slice_get named slot ≡ Some field
+      → fits_unit host program number 0 slot field.ty (field_asks derive it asks) ≡ true → fits_asks host program number slot field.ty (slot_asks asks) ≡ true
+  at_slot derive asks plain (body.Struct it) named is slot field found fit =
       let same : 0 + slot ≡ slot = omega arith in
-      subst (λ n. fits_asks host program number n type (slot_asks asks) ≡ true) same fit
-  at_slot (body.Enum it) named is slot type asks fit = absurd (none-some named is)
-  at_slot (body.Union it) named is slot type asks fit = absurd (none-some named is)
+      let there : slice_get (members_at derive (parts_asked asks) 0 (field_list it.fields)) slot ≡ Some (member_at.Slot slot) =
+      ap (λ parts. slice_get (members_at derive parts 0 (field_list it.fields)) slot) plain
+      ∙ members_at-plain derive 0 (field_list it.fields) slot field (ap (λ fields. slice_get fields slot) (named_are it.fields named is) ∙ found)
+      ∙ ap (λ n. Some (member_at.Slot n)) same in
+      subst (λ member. fits_member host program number field.ty (slot_asks asks) member ≡ true) there fit
+  at_slot derive asks plain (body.Enum it) named is slot field found fit = absurd (none-some named is)
+  at_slot derive asks plain (body.Union it) named is slot field found fit = absurd (none-some named is)
 
 has_by : (asked has : Bool) → asked ≡ true → (asked && not has) ≡ false → has ≡ true
 has_by true true e none = refl
@@ -146,7 +153,7 @@ has_by false has e none = absurd (false≢true e)
 
 module _ (host : HostSays) (program : Program) (number : ℕ) (unit : Unit') (declared : DeriveInput) (named : List Field)
     (held : Contains program.units unit) (numbered : unit.decl ≡ number) (found : slice_get program.decls number ≡ Some declared)
-    (is_struct : named_fields declared.body ≡ Some named) where
+    (is_struct : named_fields declared.body ≡ Some named) (plain : parts_asked (unit_asks unit) ≡ []) where
   abbrev mine : List Unit'
   mine = units_of program.units number
 
@@ -197,13 +204,13 @@ module _ (host : HostSays) (program : Program) (number : ℕ) (unit : Unit') (de
     pub fits : (slot : ℕ) (field : Field) → slice_get named slot ≡ Some field → fits_asks host program number slot field.ty (slot_asks (unit_asks unit)) ≡ true
     fits slot field is =
         let fits_here = fits_unit host program number 0 slot field.ty in
-        at_slot host program number declared.body named is_struct slot field.ty (unit_asks unit)
-        (All-contains (λ asks. fits_here asks ≡ true) asked (reading declared.body unit)
+        at_slot host program number unit.derive (unit_asks unit) plain declared.body named is_struct slot field is
+        (All-contains (λ asks. fits_here asks ≡ true) asked (asks_by declared.body unit)
         (every fits_here asked (unless_none (list_all fits_here asked) (type_span field.ty) (slot_none slot field is)))
         (among_readings declared.body mine unit is_mine))
 
   pub offered : unknown_callables host program ≡ [] → (ask : Ask) → Contains (unit_asks unit) ask
-      → unoffered_ask host program (decl_type declared) (variants_of declared.body) named ask ≡ []
+      → unoffered_ask host program unit.derive (decl_type declared) declared.body named ask ≡ []
   offered callables ask among =
       let same : 0 + number ≡ number = omega arith in
       let none : unknown_callables_in host program mine declared ≡ [] =
@@ -215,6 +222,6 @@ module _ (host : HostSays) (program : Program) (number : ℕ) (unit : Unit') (de
       (each_none (unoffered_unit host program declared) mine
       (nil_right (refused_if (lacks_ident host program declared (asks_of mine)) declared.ident.span) (flat_map (unoffered_unit host program declared) mine) none))
       is_mine in
-      let unoffered = λ (its : List Field) (ask : Ask). unoffered_ask host program (decl_type declared) (variants_of declared.body) its ask in
-      subst (λ its. unoffered its ask ≡ []) (fields_are asks declared.body named is_struct)
+      let unoffered = λ (its : List Field) (ask : Ask). unoffered_ask host program unit.derive (decl_type declared) declared.body its ask in
+      subst (λ its. unoffered its ask ≡ []) (fields_are asks plain declared.body named is_struct)
       (All-contains (λ ask. unoffered (slot_fields asks declared.body) ask ≡ []) asks ask (each_none (unoffered (slot_fields asks declared.body)) asks own) among)

@@ -1,6 +1,7 @@
 pub mod Stmts
 pub mod Units
 pub mod Several
+pub mod NoParts
 pub mod Narrower
 pub mod Found
 pub mod Members

@@ -8,13 +8,14 @@ use Rattle.node_span.specs.Spanned.{expr_span, path_span}
 use Rattle.syn_grammar.specs.Depth.{type_depth}
 use Rattle.syn_grammar.specs.Grammar.{max_depth}
 use Rattle.node_core.specs.declared.data.Field.{Field}
-use Rattle.node_core.specs.declared.data.Variant.{Variant}
+use Rattle.node_core.specs.declared.data.«Data».{«Data»}
 use Rattle.codegen_program.specs.declared.callable.Callable.{Callable}
 use Rattle.codegen_program.specs.declared.arm.Arm.{Arm}
 use Rattle.codegen_program.specs.declared.arm.PostfixTransform.{PostfixTransform}
 use Rattle.codegen_program.specs.declared.init.Fallback.{Fallback as Falls}
 use Rattle.codegen_program.specs.declared.init.Fallback.TheVariants as fallbacks
 use Rattle.codegen_program.specs.declared.init.Init.{Init}
+use Rattle.codegen_program.specs.declared.program.Derive.{Derive}
 use Rattle.codegen_program.specs.declared.program.Program.{Program}
 use Rattle.codegen_core.specs.Fields.{at_slots, declaration, fallback_of, init}
 use Rattle.codegen_core.specs.declared.field.Field.{Field as Left}
@@ -107,10 +108,10 @@ later_arm : (named : Bool) (first : Arm) (arms : List Arm) (it : Arm) → Contai
 later_arm true first arms it among = contains-tail first arms it among
 later_arm false first arms it among = among
 
--- of the fields `whole` of a receiver of this type with these variants; `asks` is what its unit asks
-module _ (host : HostSays) (program : Program) (decl : Decl) (reads : Bool) (type : Type') (variants : List Variant) (whole : List Field) (asks : List Ask)
+-- of the fields `whole` of a receiver of this type, which is so declared; `asks` is what its unit asks
+module _ (host : HostSays) (program : Program) (decl : Decl) (reads : Bool) (derive : Derive) (type : Type') (that : «Data») (whole : List Field) (asks : List Ask)
     (fits : (slot : ℕ) (field : Field) → slice_get whole slot ≡ Some field → fits_asks host program decl.number slot field.ty (slot_asks asks) ≡ true)
-    (offered : (ask : Ask) → Contains asks ask → unoffered_ask host program type variants whole ask ≡ [])
+    (offered : (ask : Ask) → Contains asks ask → unoffered_ask host program derive type that whole ask ≡ [])
     (fitting : (ask : Ask) → Contains asks ask → unfit_ask host program decl.number ask ≡ []) where
   module _ (slot : ℕ) (left : Left) (declared : Field) (field : FieldDecl) (is : IsField decl.body left field) (of : IsFieldOf declared field)
       (found : slice_get whole slot ≡ Some declared) (many : takes asks slot ≡ left.multiple) (member : Contains asks (Member (init slot left)))

@@ -4,9 +4,12 @@ pub mod Claims
 pub use Rattle.law_cells.specs.Reads
 pub use Rattle.law_cells.specs.Use
 pub use Rattle.machine_fit.specs.Callables
+pub use Rattle.machine_fit.specs.FieldAsks
 pub use Rattle.machine_fit.specs.Fields
 pub use Rattle.machine_fit.specs.Fits
 pub use Rattle.machine_fit.specs.Machine
+pub use Rattle.machine_fit.specs.Members
+pub use Rattle.machine_fit.specs.Parts
 pub use Rattle.machine_fit.specs.Reading
 pub use Rattle.machine_fit.specs.Setting
 pub use Rattle.machine_fit.specs.Types

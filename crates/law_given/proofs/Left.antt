@@ -21,8 +21,7 @@ use Rattle.codegen_core.specs.declared.variant.Variant.{Variant}
 use Rattle.codegen_outer.specs.CompiledOuter.{compiled_derive_input}
 use Rattle.law_options.specs.Values.{Rules}
 use Rattle.run_accepted.specs.Compiled.{IsUnitUnder}
-use Rattle.run_accepted.specs.Plain.{IsPlainDecl}
-use Rattle.run_accepted.specs.Unbuilt.{IsBuiltUnder}
+use Rattle.run_accepted.specs.Plain.{IsPlainDecl, IsPlainUnder}
 use Rattle.run_accepted.proofs.PlainLemmas.{meta_is_listed}
 use Rattle.run_accepted.proofs.UnitLemmas.{number_is}
 use Rattle.law_machine.specs.Compiles.{IsDecl, IsField, meant_fallback}
@@ -97,7 +96,7 @@ plain_is_left left (body.Enum variants) same plain is =
 -- ---- units
 
 module _ (rules : Rules) where
-  pub unit_is_left : (number : ℕ) (decl : DeriveInput) (it : Derive) (unit : Unit') → IsPlainDecl decl → IsBuiltUnder decl it
+  pub unit_is_left : (number : ℕ) (decl : DeriveInput) (it : Derive) (unit : Unit') → IsPlainDecl decl → IsPlainUnder decl it
       → IsUnitUnder rules number decl it unit → IsLeftUnit unit
   unit_is_left number decl derive.FromMeta unit plain built (left, is, compiled) =
       let own = number_is rules number decl derive.FromMeta unit (left, is, compiled) in
@@ -108,7 +107,7 @@ module _ (rules : Rules) where
   unit_is_left number decl derive.FromDeriveInput unit plain built (left, is, compiled) =
       let own = number_is rules number decl derive.FromDeriveInput unit (left, is, compiled) in
       let bare = is_bare rules decl built left is in
-      let ident : left.outer.from_ident ≡ false = is.outer.from_ident ∙ no_ident rules decl built in
+      let ident : left.outer.from_ident ≡ false = is.outer.from_ident ∙ no_ident rules decl built.built in
       let meant = input_options_are rules decl left number is bare ident in
       inr (left, compiled ∙ ap (compiled_derive_input left) (sym own), is_left left.outer.base _ meant.base, bare, ident)
   unit_is_left number decl derive.FromAttributes unit plain built is = absurd built

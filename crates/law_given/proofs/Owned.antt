@@ -6,7 +6,6 @@ use Rattle.std.proofs.lemmas.List.{length-map}
 use Rattle.std.proofs.lemmas.List.Elements.{All-from_recursion}
 use mathlib.Core.List.{map-map}
 use Rattle.node_expr.specs.declared.path.Path.{Path}
-use Rattle.node_core.specs.declared.data.Fields.{Fields}
 use Rattle.node_core.specs.declared.data.Fields.TheVariants as fields
 use Rattle.node_core.specs.declared.data.«Data».{«Data»}
 use Rattle.node_core.specs.declared.data.«Data».TheVariants as body
@@ -18,21 +17,20 @@ use Rattle.codegen_program.specs.declared.program.«Unit».{«Unit» as Unit'}
 use Rattle.codegen_core.specs.Compiled.{fields_of as left_fields, is_usual, other_krate, unit_with}
 use Rattle.codegen_core.specs.declared.trait_impl.TraitImpl.{TraitImpl}
 use Rattle.codegen_outer.specs.BareLaws.{bare_unit}
-use Rattle.node_core.specs.Bodies.{field_list}
 use Rattle.law_options.specs.Body.{start_body, with_fields}
 use Rattle.law_options.specs.Core.{Core}
 use Rattle.law_options.specs.Members.{body_fields}
 use Rattle.law_options.specs.Stages.{container_options, field_faults, good_fields, meta_reader, options_of}
 use Rattle.law_options.specs.Readers.{fdi_reader}
 use Rattle.law_options.specs.Values.{Rules}
-use Rattle.run_accepted.specs.Attributes.{body_without, field_without, fields_without, generics_without, without_attributes}
+use Rattle.run_accepted.specs.Attributes.{body_without, field_without, generics_without, without_attributes}
 use Rattle.run_accepted.specs.Compiled.{IsUnitUnder}
 use Rattle.run_accepted.specs.Pairs.{faults_under}
 use Rattle.run_accepted.specs.MemberViews.{IsImpl}
-use Rattle.run_accepted.specs.Plain.{IsPlainDecl}
-use Rattle.run_accepted.specs.Unbuilt.{IsBuiltUnder}
+use Rattle.run_accepted.specs.Plain.{IsPlainDecl, IsPlainUnder}
 use Rattle.run_accepted.proofs.ListLemmas.{at_place}
 use Rattle.run_accepted.proofs.PlainLemmas.{listed_unit, meta_core_is, meta_is_listed}
+use Rattle.law_options.proofs.Elements.{listed_bare}
 use Rattle.law_options.proofs.Faultless.{no_field_faults}
 use Rattle.law_options.proofs.Parts.{is_bare, own_faults, own_same}
 use Rattle.law_given.specs.Claims.{GivenIsOfDeclarations}
@@ -43,11 +41,6 @@ use Rattle.law_given.proofs.Runs.{built_so, left_at}
 use Rattle.law_given.proofs.Slots.{input_slots, left_member, list_slots}
 
 -- ---- fields without attributes
-
-listed_bare : (it : Fields) → field_list (fields_without it) ≡ map field_without (field_list it)
-listed_bare (fields.Named it) = refl
-listed_bare (fields.Unnamed it) = refl
-listed_bare fields.Unit = refl
 
 fields_bare : (it : «Data») → body_fields (body_without it) ≡ map field_without (body_fields it)
 fields_bare (body.Struct it) = listed_bare it.fields
@@ -91,7 +84,7 @@ module _ (rules : Rules) (decl : DeriveInput) (few : HasFewFields decl) where
         krate = unusual (option_copied left.krate);
       }
 
-  owned : (number : ℕ) (it : Derive) (unit : Unit') → IsPlainDecl decl → IsBuiltUnder decl it → faults_under rules decl it ≡ [] → IsUnitUnder rules number decl it unit
+  owned : (number : ℕ) (it : Derive) (unit : Unit') → IsPlainDecl decl → IsPlainUnder decl it → faults_under rules decl it ≡ [] → IsUnitUnder rules number decl it unit
       → IsOfDeclaration (without_attributes decl) unit
   owned number derive.FromMeta unit plain built none (left, is, compiled) =
       let set = container_options (meta_reader rules decl) decl in

@@ -17,10 +17,9 @@ use Rattle.law_options.specs.Unfitness.{refusals, unfitness}
 use Rattle.law_options.specs.Units.{is_of, is_receiver as is_received}
 use Rattle.machine_execute.specs.Elements.{OnInput}
 use Rattle.run_accepted.proofs.FitLemmas.{no_rows}
-use Rattle.run_accepted.specs.Plain.{IsPlainDecl}
-use Rattle.run_accepted.specs.Unbuilt.{IsBuiltUnder}
+use Rattle.run_accepted.specs.Plain.{IsPlainDecl, IsPlainUnder}
 use Rattle.run_accepted.specs.declared.derives.Derived.{Derived}
-use Rattle.run_accepted.proofs.BuiltLemmas.{built_under}
+use Rattle.run_accepted.proofs.PlainLemmas.{plain_under}
 use Rattle.run_accepted.proofs.ListLemmas.{at_place}
 use Rattle.law_machine.specs.Kinds.{IsOfKind}
 use Rattle.law_machine.specs.Left.{IsLeftUnit}
@@ -34,10 +33,10 @@ use Rattle.law_given.proofs.Left.{unit_is_left}
 -- ---- a unit
 
 -- a declaration that names the derive can be run so
-pub built_so : (decl : DeriveInput) (it : Derive) → IsPlainDecl decl → NamesDerive decl it → IsBuiltUnder decl it
+pub built_so : (decl : DeriveInput) (it : Derive) → IsPlainDecl decl → NamesDerive decl it → IsPlainUnder decl it
 built_so decl it plain (place, one, within, at, same) =
-    let P : Derived → Type 0 = λ some. IsBuiltUnder decl some.derive in
-    subst (IsBuiltUnder decl) same (subst P at (built_under decl plain.built place one within))
+    let P : Derived → Type 0 = λ some. IsPlainUnder decl some.derive in
+    subst (IsPlainUnder decl) same (subst P at (plain_under decl plain place one within))
 
 pub left_at : (program : Program) (number : ℕ) (unit : Unit') → IsGiven program → slice_get program.units number ≡ Some unit → IsLeftUnit unit
 left_at program number unit given at =

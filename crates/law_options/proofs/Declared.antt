@@ -19,6 +19,8 @@ use Rattle.codegen_core.specs.declared.default_expression.DefaultExpression.TheV
 use Rattle.codegen_core.specs.declared.field.Field.{Field}
 use Rattle.codegen_core.specs.declared.trait_impl.TraitImpl.{TraitImpl}
 use Rattle.codegen_core.specs.declared.variant.Variant.{Variant}
+use Rattle.codegen_outer.specs.Bare.{IsBare}
+use Rattle.codegen_outer.specs.declared.from_derive_impl.FromDeriveInputImpl.{FromDeriveInputImpl}
 use Rattle.law_machine.specs.Decl.{BodyDecl, FieldDecl, Default, OfCall, OfContainer, fallback_by, skip_fallback}
 use Rattle.body_core.specs.declared.ast.data.«Data».{«Data»}
 use Rattle.body_core.specs.declared.ast.data.«Data».TheVariants as container
@@ -35,14 +37,14 @@ use Rattle.run_accepted.specs.CoreOptions.{default, same_core}
 use Rattle.options_core.specs.Parts.{own_fields}
 use Rattle.options_core.specs.ContainerOptions.{core_items, fdi_named, from_ident_of, outer_items}
 use Rattle.options_core.specs.MetaOptions.{meta_core_items, meta_named}
+use Rattle.options_core.specs.Views.{IsInputImpl}
 use Rattle.run_accepted.specs.Readers.{fdi_reader}
-use Rattle.run_accepted.specs.Stages.{container_options, core_with_body, good_fields, good_variants, meta_reader}
+use Rattle.run_accepted.specs.Stages.{container_options, core_with_body, good_fields, good_variants, meta_reader, options_of}
 use Rattle.run_accepted.specs.MemberViews as views
 use Rattle.run_accepted.specs.MemberViews.{AreDefaults, IsBody, IsImpl}
-use Rattle.law_machine.specs.Compiles.{IsDecl, IsField, meant_default, meant_fallback}
+use Rattle.law_machine.specs.Compiles.{IsDecl, IsField, IsInputDecl, meant_default, meant_fallback}
 use Rattle.law_machine.proofs.Left.{flat_is, many_is}
-use Rattle.law_options.specs.Claims.{InputOptionsAreMeant}
-use Rattle.law_options.specs.Meant.{fields_in, meant_decl, meant_field, own_default}
+use Rattle.law_options.specs.Meant.{fields_in, meant_decl, meant_field, meant_input, own_default}
 use Rattle.law_options.proofs.Fields.{Falls, IsLeft, fields_are}
 use Rattle.law_options.proofs.Owns.{IsOwnIfAny, all-append, first_default, replaced_default}
 
@@ -163,15 +165,24 @@ meta_whole_is rules core (node.Union it) own is =
     let Q : Body → Type 0 = λ body. AllByRecursion P (fields_in body) in
     subst Q (sym is) tt
 
-pub input_options_are : InputOptionsAreMeant
-input_options_are rules input left number is bare no_ident =
+-- what is compiled from the options of `FromDeriveInput` is of the declaration that its items mean
+pub input_decl_is : (rules : Rules) (input : DeriveInput) (left : FromDeriveInputImpl) (number : ℕ) → IsInputImpl left (options_of (fdi_reader rules input) input)
+    → IsDecl left.outer.base (meant_input number (options_of (fdi_reader rules input) input))
+input_decl_is rules input left number is =
     let set = container_options (fdi_reader rules input) input in
     let named = outer_items (map fdi_named (items (option_entries input.attrs))) in
     let own =
     replaced_default _ (values _ from_ident_of named)
     (first_default (same_core default.name) None (core_items named) tt) in
+    decl_is left.outer.base _ number _ is.outer.base (whole_is rules set.base.container input.body (own_fields derive.FromDeriveInput (body_fields input.body)) own)
+
+-- the same, where it reads attributes alone
+pub input_options_are : (rules : Rules) (input : DeriveInput) (left : FromDeriveInputImpl) (number : ℕ)
+    → IsInputImpl left (options_of (fdi_reader rules input) input) → IsBare left → left.outer.from_ident ≡ false
+    → IsInputDecl left (meant_input number (options_of (fdi_reader rules input) input))
+input_options_are rules input left number is bare no_ident =
     record {
-      base = decl_is left.outer.base _ number _ is.outer.base (whole_is rules set.base.container input.body (own_fields derive.FromDeriveInput (body_fields input.body)) own);
+      base = input_decl_is rules input left number is;
       attributes = ap (λ names. map path_text names.0) is.outer.names;
       bare = bare;
       no_ident = no_ident;

@@ -9,6 +9,14 @@ pub mod Kept
 pub mod Clear
 pub mod Idents
 pub mod Parts
+pub mod Repeats
+pub mod Taken
+pub mod Rows
+pub mod Members
+pub mod Once
+pub mod Elements
+pub mod NoBody
+pub mod PlainMeaning
 pub mod Programs
 pub mod OneReceiver
 pub mod OneElement

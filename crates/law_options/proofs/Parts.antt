@@ -1,15 +1,11 @@
--- A declaration that items of a text can be read as takes no part of them, and says nothing of their shape.
-use Rattle.std.proofs.Common.{◌≡◌, ◌∙◌, ◌||◌, Bool, true, false, cond, List, [], ◌∷◌, ◌++◌, map, Option, Some, None, is_none, refl, ap, ap₂}
-use Rattle.std.specs.Prelude.{codes, flat_map}
+-- A declaration that items of a text are read as by their attributes alone takes no part of them, and says nothing of their shape.
+use Rattle.std.proofs.Common.{◌≡◌, ◌∙◌, cond, List, [], ◌∷◌, ◌++◌, map, None, is_none, refl, ap, ap₂}
+use Rattle.std.specs.Prelude.{flat_map}
 use Rattle.std.specs.List.{AllByRecursion}
-use Rattle.std.specs.Str.{bytes_eq}
-use Rattle.base_core.specs.declared.text.Text.{Text}
-use Rattle.tok_types.specs.Ident.{ident_text}
-use Rattle.tok_types.specs.declared.ident.Ident.{Ident}
-use Rattle.tok_types.specs.declared.span.Span.{Span}
+use Rattle.std.proofs.lemmas.List.Elements.{recursion_from_All}
 use Rattle.node_core.specs.declared.data.Field.{Field}
 use Rattle.node_core.specs.declared.derive.DeriveInput.{DeriveInput}
-use Rattle.codegen_program.specs.MagicFields.{magic_at, magic_of}
+use Rattle.codegen_program.specs.MagicFields.{magic_of}
 use Rattle.codegen_program.specs.declared.forwarded.Magic.{Magic}
 use Rattle.codegen_program.specs.declared.forwarded.Magic.TheVariants as magic
 use Rattle.codegen_program.specs.declared.program.Derive.TheVariants as derive
@@ -24,42 +20,18 @@ use Rattle.run_accepted.specs.Readers.{fdi_reader}
 use Rattle.run_accepted.specs.Rows.{last_of}
 use Rattle.run_accepted.specs.Stages.{field_faults, options_of}
 use Rattle.run_accepted.specs.Values.{Rules}
-use Rattle.run_accepted.specs.Unbuilt.{field_places, input_places, is_part_name, name_places, place_if}
-use Rattle.run_accepted.proofs.BuiltLemmas.{each-weaker, no_part_names, told-not}
+use Rattle.run_accepted.specs.Plain.{IsPlainInput}
 use Rattle.run_accepted.proofs.PlainLemmas.{input_is_plain, left_is_plain}
 use Rattle.law_options.proofs.Idents.{no_supports}
 
 -- ---- fields
 
--- a name that is none of these is that of no part
-none_named : (ident attrs vis content generics : Bool) → (ident || (attrs || (vis || (content || (generics || false))))) ≡ false
-    → cond ident (Some magic.Ident) (cond attrs (Some magic.Attrs) (cond vis (Some magic.Vis) (cond generics (Some magic.Generics) (cond content (Some magic.Body) None)))) ≡ None
-none_named true attrs vis content generics none = cc
-none_named false true vis content generics none = cc
-none_named false false true content generics none = cc
-none_named false false false true generics none = cc
-none_named false false false false true none = cc
-none_named false false false false false none = refl
-
-no_part_at : (text : Text) (raw : Bool) (span : Span)
-    → place_if (is_part_name (ident_text (record { text = text; raw = raw; span = span }))) span ≡ []
-    → magic_at derive.FromDeriveInput (Some (record { text = text; raw = raw; span = span })) ≡ None
-no_part_at text true span none = refl
-no_part_at text false span none =
-    none_named (bytes_eq text (codes "ident")) (bytes_eq text (codes "attrs")) (bytes_eq text (codes "vis")) (bytes_eq text (codes "data")) (bytes_eq text (codes "generics"))
-    (told-not (is_part_name text) span none)
-
-no_part : (ident : Option Ident) → name_places ident ≡ [] → magic_at derive.FromDeriveInput ident ≡ None
-no_part None none = refl
-no_part (Some ident) none = no_part_at ident.text ident.raw ident.span none
-
 -- the field takes no part
 abbrev pub IsOwnField : Field → Type 0
 IsOwnField field = magic_of derive.FromDeriveInput field ≡ None
 
-all_own : (decl : DeriveInput) → input_places decl ≡ [] → AllByRecursion IsOwnField (body_fields decl.body)
-all_own decl built =
-    each-weaker (λ field. field_places field ≡ []) IsOwnField (λ field. no_part field.ident) (body_fields decl.body) (no_part_names decl built)
+pub all_own : (decl : DeriveInput) → IsPlainInput decl → AllByRecursion IsOwnField (body_fields decl.body)
+all_own decl plain = recursion_from_All IsOwnField (body_fields decl.body) plain.own
 
 all_kept : (fields : List Field) → AllByRecursion IsOwnField fields → own_fields derive.FromDeriveInput fields ≡ fields
 all_kept [] own = refl
@@ -75,37 +47,37 @@ module _ (rules : Rules) (core : Core) where
   same_faults [] own = refl
   same_faults (field ∷ fields) own = ap₂ (λ part more. faults_as rules core part field ++ more) own.0 (same_faults fields own.1)
 
-module _ (decl : DeriveInput) (built : input_places decl ≡ []) where
+module _ (decl : DeriveInput) (plain : IsPlainInput decl) where
   abbrev fields : List Field
   fields = body_fields decl.body
 
   -- each field is read from items
   pub own_same : own_fields derive.FromDeriveInput (body_fields decl.body) ≡ body_fields decl.body
-  own_same = all_kept fields (all_own decl built)
+  own_same = all_kept fields (all_own decl plain)
 
-  no_forwarded : (what : Magic) → forwarded_in derive.FromDeriveInput what None fields ≡ None
-  no_forwarded what = ap (λ its. last_of None (parts_said its)) (none_take what fields (all_own decl built))
+  pub no_forwarded : (what : Magic) → forwarded_in derive.FromDeriveInput what None fields ≡ None
+  no_forwarded what = ap (λ its. last_of None (parts_said its)) (none_take what fields (all_own decl plain))
 
   no_given : (what : Magic) → given_in derive.FromDeriveInput what None fields ≡ None
-  no_given what = ap (λ its. last_of None (map (λ (field : Field). field.ident) its)) (none_take what fields (all_own decl built))
+  no_given what = ap (λ its. last_of None (map (λ (field : Field). field.ident) its)) (none_take what fields (all_own decl plain))
 
 -- what is wrong with the fields is what is wrong with fields that are read from items
-pub own_faults : (rules : Rules) (core : Core) (decl : DeriveInput) → input_places decl ≡ []
+pub own_faults : (rules : Rules) (core : Core) (decl : DeriveInput) → IsPlainInput decl
     → flat_map (member_faults rules derive.FromDeriveInput core) (body_fields decl.body) ≡ flat_map (field_faults rules core) (body_fields decl.body)
-own_faults rules core decl built = same_faults rules core (body_fields decl.body) (all_own decl built)
+own_faults rules core decl plain = same_faults rules core (body_fields decl.body) (all_own decl plain)
 
 -- ---- declarations
 
 -- what is compiled from its options reads attributes alone
-pub is_bare : (rules : Rules) (decl : DeriveInput) → input_places decl ≡ [] → (left : FromDeriveInputImpl)
+pub is_bare : (rules : Rules) (decl : DeriveInput) → IsPlainInput decl → (left : FromDeriveInputImpl)
     → IsInputImpl left (options_of (fdi_reader rules decl) decl) → IsBare left
-is_bare rules decl built left is =
+is_bare rules decl plain left is =
     record {
-      ident = is.outer.ident ∙ no_forwarded decl built magic.Ident;
-      vis = is.vis ∙ no_given decl built magic.Vis;
-      generics = is.generics ∙ no_forwarded decl built magic.Generics;
-      body = is.body ∙ no_forwarded decl built magic.Body;
-      attrs = is.outer.forward.field ∙ no_forwarded decl built magic.Attrs;
-      supports = is.supports ∙ no_supports rules decl built;
-      own = plain_own left.outer.base (left_is_plain left.outer.base _ is.outer.base (input_is_plain rules decl built));
+      ident = is.outer.ident ∙ no_forwarded decl plain magic.Ident;
+      vis = is.vis ∙ no_given decl plain magic.Vis;
+      generics = is.generics ∙ no_forwarded decl plain magic.Generics;
+      body = is.body ∙ no_forwarded decl plain magic.Body;
+      attrs = is.outer.forward.field ∙ no_forwarded decl plain magic.Attrs;
+      supports = is.supports ∙ no_supports rules decl plain.built;
+      own = plain_own left.outer.base (left_is_plain left.outer.base _ is.outer.base (input_is_plain rules decl plain.built));
     }

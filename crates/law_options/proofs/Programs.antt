@@ -1,51 +1,47 @@
 -- The units of a program are those of the declarations that its text means.
-use Rattle.std.proofs.Common.{◌≡◌, ◌∙◌, ℕ, ◌+◌, zero, suc, arith, ◌==◌, ◌&&◌, Bool, true, false, List, [], ◌∷◌, ◌++◌, map, Option, Some, refl, sym, ap, subst}
+use Rattle.std.proofs.Common.{◌≡◌, ◌∙◌, ℕ, ◌+◌, zero, suc, arith, ◌==◌, ◌&&◌, ◌||◌, Bool, true, false, List, [], ◌∷◌, ◌++◌, map, Option, Some, refl, sym, ap, subst}
 use Rattle.std.specs.Prelude.{flat_map, option_map, slice_get, if◌then◌else◌}
 use Rattle.std.specs.List.{AllByRecursion, AllZip}
-use Rattle.std.proofs.lemmas.Option.{slice_get-map}
-use Rattle.node_core.specs.Style.{style_of}
-use Rattle.node_core.specs.declared.data.Fields.{Fields}
-use Rattle.node_core.specs.declared.data.Fields.TheVariants as fields
-use Rattle.node_core.specs.declared.data.«Data».{«Data»}
-use Rattle.node_core.specs.declared.data.«Data».TheVariants as body
-use Rattle.node_core.specs.declared.style.Style.TheVariants as style
+use Rattle.std.proofs.lemmas.Option.{none-some, same_Some, slice_get-map}
 use Rattle.node_core.specs.declared.derive.DeriveInput.{DeriveInput}
-use Rattle.codegen_program.specs.Traits.{same_derive}
+use Rattle.codegen_program.specs.Traits.{is_input, same_derive}
 use Rattle.codegen_program.specs.declared.program.Derive.{Derive}
 use Rattle.codegen_program.specs.declared.program.Derive.TheVariants as derive
 use Rattle.codegen_program.specs.declared.program.«Unit».{«Unit» as Unit'}
 use Rattle.codegen_core.specs.Compiled.{compiled_meta}
 use Rattle.codegen_core.specs.declared.from_meta_impl.FromMetaImpl.{FromMetaImpl}
 use Rattle.run_accepted.specs.Made.{named_type}
-use Rattle.machine_steps.specs.Machine.{unit_under, unit_type}
+use Rattle.machine_steps.specs.Machine.{setting_of, unit_under, unit_type}
 use Rattle.law_machine.specs.Receivers.{MetaDecl}
 use Rattle.machine_steps.specs.Setting.{Setting}
-use Rattle.law_machine.specs.Declarations.{declared_meaning, meta_decl}
+use Rattle.law_machine.specs.Declarations.{meta_decl}
+use Rattle.meaning_core.specs.DeclaredElements.{declared_element_meaning}
 use Rattle.run_accepted.specs.Values.{Rules}
 use Rattle.run_accepted.specs.Stages.{meta_reader, options_of}
-use Rattle.run_accepted.specs.Attributes.{body_without, fields_without, without_attributes}
+use Rattle.run_accepted.specs.Attributes.{body_without, without_attributes}
 use Rattle.run_accepted.specs.Compiled.{IsUnit, IsUnitUnder}
-use Rattle.machine_steps.specs.Receivers.{body_style, declared_style, declared_variants, variants_of}
+use Rattle.machine_steps.specs.Elements.{OnInput}
+use Rattle.machine_steps.specs.Receivers.{declared_variants, receiver_of, variants_of}
 use Rattle.options_core.specs.MetaViews.{IsMetaImpl}
 use Rattle.run_accepted.specs.Derives.{derives_of}
 use Rattle.run_accepted.specs.Forms.{forms_under}
-use Rattle.run_accepted.specs.Unbuilt.{IsBuilt, are_named, has_named_fields, input_places}
+use Rattle.run_accepted.specs.Unbuilt.{IsBuilt, derives_input, input_places}
 use Rattle.run_accepted.specs.declared.derives.Derived.{Derived}
-use Rattle.run_accepted.proofs.BuiltLemmas.{input_built, named}
+use Rattle.run_accepted.proofs.BuiltLemmas.{input_built}
 use Rattle.run_accepted.proofs.ListLemmas.{at_place}
 use Rattle.run_accepted.specs.Pairs.{Pair, faults_under, pair, pairs_from, pairs_of}
-use Rattle.law_machine.specs.Compiles.{IsBraced, IsMetaDecl, IsMetaUnit}
-use Rattle.law_machine.proofs.Programs.{program_is_meaning}
+use Rattle.law_machine.specs.Compiles.{AreMetaUnits, IsMetaDecl, IsMetaUnit}
+use Rattle.law_machine.specs.ElementDecls.{IsElementUnit}
+use Rattle.law_machine.proofs.ElementPrograms.{elements_are_meant}
 use Rattle.law_options.specs.Meant.{meant_meta}
 use Rattle.law_options.proofs.Clear.{IsFaultless, IsSupported, each_faultless, each_supported}
-use Rattle.law_options.proofs.Declared.{input_options_are}
 use Rattle.law_options.proofs.Kept.{meta_options_are}
 use Rattle.law_options.proofs.Words.{meta_same}
 use Rattle.law_options.specs.Claims.{ProgramIsMeant}
-use Rattle.law_options.specs.Texts.{decls_under, input_decl, meta_decls, pair_decls}
-use Rattle.law_options.proofs.Idents.{no_ident}
+use Rattle.law_options.specs.Texts.{decls_under, input_outer, meta_decls, outer_decls, pair_decls}
+use Rattle.law_options.proofs.Elements.{input_elements_are}
+use Rattle.law_options.proofs.NoBody.{takes_no_body}
 use Rattle.law_options.proofs.Owns.{all-append}
-use Rattle.law_options.proofs.Parts.{is_bare}
 
 -- the unit of the number that is asked for, or a later one
 chosen : (bare : List DeriveInput) (test : Bool) (unit : Unit') (decl : MetaDecl) (units : Option Unit') (decls : Option MetaDecl)
@@ -136,32 +132,67 @@ module _ (rules : Rules) (bare : List DeriveInput) (asked : ℕ) where
       step it.number it.decl it.derive unit units (flat_map (pair_decls rules) pairs) faultless.0 supported.0 stands.0 zip.0
       (units_are pairs units faultless.1 supported.1 stands.1 zip.1)
 
--- a struct with braces has them without its attributes too
-fields_braced : (it : Fields) → are_named it ≡ true → style_of (fields_without it) ≡ style.Struct
-fields_braced (fields.Named it) named = refl
-fields_braced (fields.Unnamed it) named = absurd cc
-fields_braced fields.Unit named = absurd cc
+-- ---- options without faults
 
-body_braced : (it : «Data») → has_named_fields it ≡ true → body_style (body_without it) ≡ style.Struct
-body_braced (body.Struct it) named = fields_braced it.fields named
-body_braced (body.Enum it) named = absurd cc
-body_braced (body.Union it) named = absurd cc
+all-left : (P : Pair → Type 0) (one other : List Pair) → AllByRecursion P (one ++ other) → AllByRecursion P one
+all-left P [] other are = tt
+all-left P (it ∷ one) other are = (are.0, all-left P one other are.1)
+
+all-right : (P : Pair → Type 0) (one other : List Pair) → AllByRecursion P (one ++ other) → AllByRecursion P other
+all-right P [] other are = are
+all-right P (it ∷ one) other are = all-right P one other are.1
+
+module _ (rules : Rules) where
+  -- `FromDeriveInput`, or one of those behind it
+  one_faultless : (number : ℕ) (decl : DeriveInput) (it : Derive) (rest : Bool) → faults_under rules decl it ≡ [] → (is_input it || rest) ≡ true
+      → (rest ≡ true → faults_under rules decl derive.FromDeriveInput ≡ []) → faults_under rules decl derive.FromDeriveInput ≡ []
+  one_faultless number decl derive.FromMeta rest none is later = later is
+  one_faultless number decl derive.FromAttributes rest none is later = later is
+  one_faultless number decl derive.FromDeriveInput rest none is later = none
+  one_faultless number decl derive.FromField rest none is later = later is
+  one_faultless number decl derive.FromTypeParam rest none is later = later is
+  one_faultless number decl derive.FromVariant rest none is later = later is
+
+  among_faultless : (number : ℕ) (decl : DeriveInput) (its : List Derived)
+      → AllByRecursion (IsFaultless rules) (map (λ (it : Derived). pair number decl it.derive) its) → derives_input its ≡ true
+      → faults_under rules decl derive.FromDeriveInput ≡ []
+  among_faultless number decl [] are is = absurd cc
+  among_faultless number decl (it ∷ its) are is =
+      one_faultless number decl it.derive (derives_input its) are.0 is (among_faultless number decl its are.1)
+
+  input_faultless : (first : ℕ) (decls : List DeriveInput) (place : ℕ) (decl : DeriveInput) → AllByRecursion (IsFaultless rules) (pairs_from first decls)
+      → slice_get decls place ≡ Some decl → derives_input (derives_of decl.attrs) ≡ true → faults_under rules decl derive.FromDeriveInput ≡ []
+  input_faultless first [] place decl are stands is = absurd (none-some decl stands)
+  input_faultless first (one ∷ decls) zero decl are stands is =
+      let P : DeriveInput → Type 0 = λ it. derives_input (derives_of it.attrs) ≡ true → faults_under rules it derive.FromDeriveInput ≡ [] in
+      subst P (same_Some one decl stands)
+      (among_faultless first one (derives_of one.attrs) (all-left (IsFaultless rules) (pairs_of first one) (pairs_from (suc first) decls) are)) is
+  input_faultless first (one ∷ decls) (suc place) decl are stands is =
+      input_faultless (suc first) decls place decl (all-right (IsFaultless rules) (pairs_of first one) (pairs_from (suc first) decls) are) stands is
+
+-- ---- the program
 
 pub program_is_meant : ProgramIsMeant
-program_is_meant host rules decls program number decl unit subject is faultless supported built stands derives (left, left_is, compiled) =
+program_is_meant host rules decls program number decl unit subject is faultless supported built stands once derives (left, left_is, compiled) =
     let input : input_places decl ≡ [] = input_built decl (at_place IsBuilt decls number decl built stands) derives in
-    let meant = input_decl rules number decl in
+    let meant = input_outer rules number decl in
+    let clean = each_faultless rules (pairs_from 0 decls) faultless in
     let bare : slice_get program.decls number ≡ Some (without_attributes decl) =
     ap (λ bare. slice_get bare number) is.bare ∙ slice_get-map without_attributes decls number ∙ ap (option_map without_attributes) stands in
     let bare_all : (k : ℕ) → slice_get program.decls (0 + k) ≡ slice_get (map without_attributes decls) k = λ k.
     let here : 0 + k ≡ k = omega arith in
     ap (slice_get program.decls) here ∙ ap (λ bare. slice_get bare k) is.bare in
-    let braced : IsBraced (slice_get program.decls unit.decl) =
-    ap (λ (u : Unit'). declared_style (slice_get program.decls u.decl)) compiled ∙ ap declared_style bare ∙ body_braced decl.body (named decl input) in
-    program_is_meaning host program unit (meta_decls rules decls) meant subject
-    (λ asked.
-    units_are rules program.decls asked (pairs_from 0 decls) program.units (each_faultless rules (pairs_from 0 decls) faultless) (each_supported rules decls supported)
-    (bare_pairs program.decls 0 decls bare_all) is.units)
-    (left, compiled, input_options_are rules decl left number left_is (is_bare rules decl input left left_is) (left_is.outer.from_ident ∙ no_ident rules decl input), ap unit_type compiled ∙ ap (λ ident. named_type ident.text) left_is.outer.base.ident)
-    braced
-    ∙ ap (λ bare. let setting : Setting = record { host = host; decls = bare } in Some (declared_meaning setting (meta_decls rules decls) meant subject)) is.bare
+    let units : AreMetaUnits program.decls program.units (meta_decls rules decls) = λ asked.
+    units_are rules program.decls asked (pairs_from 0 decls) program.units clean (each_supported rules decls supported) (bare_pairs program.decls 0 decls bare_all)
+    is.units in
+    let unit_is : IsElementUnit (setting_of host program) unit meant = (
+      left,
+      compiled,
+      input_elements_are rules decl left number (receiver_of (setting_of host program) unit) (input_faultless rules 0 decls number decl clean stands derives) input
+          once left_is
+          (ap unit_type compiled ∙ ap (λ ident. named_type ident.text) left_is.outer.base.ident)
+          (ap (λ (it : Unit'). slice_get program.decls it.decl) compiled ∙ bare),
+    ) in
+    elements_are_meant host program unit (meta_decls rules decls) (outer_decls rules decls) meant subject units unit_is (takes_no_body rules number decl input)
+    ∙ ap (λ bare. let setting : Setting = record { host = host; decls = bare } in
+    Some (declared_element_meaning setting (meta_decls rules decls) (outer_decls rules decls) meant (OnInput subject))) is.bare

@@ -1,4 +1,5 @@
 pub mod Meant
+pub mod MeantElements
 pub mod Texts
 pub mod Claims
 pub use Rattle.run_accepted.specs.Body

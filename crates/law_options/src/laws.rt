@@ -2,8 +2,8 @@
 
 ghost use Rattle.law_options.specs.Claims.{InputOptionsAreMeant, MetaOptionsAreMeant, ProgramIsMeant, ProgramIsOne};
 
-/// What is compiled from the options of a receiver that derives `FromDeriveInput`, and reads attributes alone, is of the
-/// declaration that they mean.
+/// What is compiled from the options of a receiver that derives `FromDeriveInput` is of the declaration of elements that they
+/// mean, where they have no faults, each form can be run, and no two fields take one part.
 pub fn input_options_are_meant()
     ensures { InputOptionsAreMeant }
 {}

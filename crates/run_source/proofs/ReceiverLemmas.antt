@@ -33,6 +33,7 @@ use Rattle.run_accepted.proofs.UnitLemmas.{Stands, all_stand, derive_is, number_
 use Rattle.run_source.specs.Receiver.{is_receiver, receiver}
 use Rattle.law_options.specs.Texts.{text_meaning}
 use Rattle.law_options.proofs.Owns.{all-append}
+use Rattle.law_options.proofs.Once.{once_named}
 use Rattle.law_options.proofs.Programs.{program_is_meant}
 use Rattle.run_source.specs.Claims.{AcceptedIsMeant}
 
@@ -146,7 +147,8 @@ accepted_is_meant host rules decls program built is =
     λ subject.
     ap (option_and_then (λ unit. unit_on host program unit (OnInput subject))) at
     ∙ ap (λ b. if b then machine host program unit subject else None) (input_same unit.derive parts.1)
-    ∙ program_is_meant host rules decls program unit.decl last unit subject is.sound.compiled is.sound.options is.sound.supported built stands derives made
+    ∙ program_is_meant host rules decls program unit.decl last unit subject is.sound.compiled is.sound.options is.sound.supported built stands
+    (once_named decls is.sound.single built unit.decl last stands derives) derives made
     ∙ ap (λ number. Some (text_meaning host rules decls number last subject)) end in (
       record { number = number; receiver = first; outcomes = λ subject. (meaning subject, means subject) },
       λ subject.
