@@ -1,6 +1,7 @@
 //! How a row `ARGUMENT => ANSWER` is asked: by its kind. `⟨3 x⟩` stands for `xxx`; in it `$` counts 1, 2, 3 and `^`
 //! counts 0, 1, 2.
 
+use crate::elements::element_outcome;
 use crate::hosts::answer_of;
 use crate::outer_places::taken;
 use crate::outer_types::outer_text;
@@ -54,6 +55,7 @@ fn told(alloc: Global, kind: &str, argument: &str) -> Tested<Text> {
         "statements by hand" => of_last(alloc, &by_hand(alloc, argument)?),
         "outcome" => outcome(alloc, argument),
         "variants" => variant_outcome(alloc, argument),
+        "element of a derive" => element_outcome(alloc, argument),
         "arm" => arm_at(alloc, argument),
         "names" => named_twice(alloc, argument),
         _ => match kind.strip_prefix("refusing ") {

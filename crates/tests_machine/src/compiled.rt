@@ -69,7 +69,7 @@ struct A {} => 1 decls:
 #[darling(a = b c, from_word = 7 7)] struct A { n: u8 } => 1 decls:
 #[darling(+, from_word)] struct A { n: u8 } => 1 decls:
 #[derive(FromDeriveInput)] struct A { ident: u8, attrs: u8, vis: u8, data: u8, generics: u8, r#data: u8, Data: u8,
-   body: u8 } => unbuilt at 38..43, 49..54, 60..63, 69..73, 79..87
+   body: u8 } => unbuilt at 69..73, 79..87
 #[derive(FromMeta)] struct A { ident: u8, attrs: u8, vis: u8, data: u8, generics: u8 } => 1 decls: 0 FromMeta
 #[derive(FromMeta)] #[derive(FromDeriveInput)] struct A { data: u8 } => unbuilt at 58..62
 #[derive(FromDeriveInput)] struct A(u8, u8); => unbuilt at 34..35

@@ -1,7 +1,7 @@
 //! What stands against a program: a row `DECLARATIONS => REASON`, or `fits`. The mark `@` stands at the start of the place
 //! that is refused, and `$` at that which is the first of the text; a program without a mark is refused nowhere.
 
-use crate::programs::{by_hand, program_of};
+use crate::programs::{any_program, by_hand, program_of};
 use machine_fit::{fit, refusals};
 use machine_forms::Unfit;
 use machine_host::Host;
@@ -17,6 +17,7 @@ pub fn unfit<H: Host>(alloc: Global, host: &H, kind: &str, marked: &str) -> Test
     let (text, place) = unmarked(alloc, text.as_str(), mark)?;
     let program = match kind {
         "fit by hand" => by_hand(alloc, text.as_str())?,
+        "fit of any derive" => any_program(alloc, text.as_str())?,
         _ => program_of(alloc, text.as_str())?,
     };
     let found = if in_text {

@@ -26,7 +26,9 @@ pub fn answer_of<H: Host>(alloc: Global, host: &H, kind: &str, argument: &str) -
         "reads" => read(alloc, host, argument),
         "has a default" => default(alloc, host, argument, false),
         "default" => default(alloc, host, argument, true),
-        "fit" | "fit by hand" | "first in the text" => unfit(alloc, host, kind, argument),
+        "fit" | "fit by hand" | "fit of any derive" | "first in the text" => {
+            unfit(alloc, host, kind, argument)
+        }
         _ => answered(alloc, host, kind, argument),
     }
 }

@@ -8,6 +8,8 @@ mod ask;
 #[cfg(test)]
 mod compiled;
 #[cfg(test)]
+mod elements;
+#[cfg(test)]
 mod fits;
 #[cfg(test)]
 mod hosts;
@@ -15,6 +17,8 @@ mod hosts;
 mod outer_places;
 #[cfg(test)]
 mod outer_types;
+#[cfg(test)]
+mod part_asks;
 #[cfg(test)]
 mod programs;
 #[cfg(test)]

@@ -209,16 +209,16 @@ pub fn by_hand(alloc: Global, row: &str) -> Tested<Program> {
 pub fn outcome(alloc: Global, row: &str) -> Tested<Text> {
     let (decls, subject) = kind_of(row)?;
     let input = item_of(alloc, 1, subject)?;
-    ran(alloc, &program_of(alloc, decls)?, &input)
+    ran(alloc, &program_of(alloc, decls)?, Element::Input(&input))
 }
 
-/// What the last unit of a program makes of an item: the value, the lines of the faults, or `no memory`.
-pub fn ran(alloc: Global, program: &Program, input: &DeriveInput) -> Tested<Text> {
+/// What the last unit of a program makes of an element: the value, the lines of the faults, or `no memory`.
+pub fn ran(alloc: Global, program: &Program, element: Element<'_>) -> Tested<Text> {
     let host = StdHost::new(alloc)?;
     let Ok(unit) = u32::try_from(program.units.len().saturating_sub(1)) else {
         return Err(Fail::new(format_args!("there are too many units")));
     };
-    match try_execute(alloc, program, unit, Element::Input(input), &host) {
+    match try_execute(alloc, program, unit, element, &host) {
         Ok(Some(outcome)) => shown(alloc, &outcome),
         Ok(None) => Err(Fail::new(format_args!("it has no outcome"))),
         Err(_) => Ok(Text::from_str(alloc, "no memory")?),

@@ -5,6 +5,7 @@ use crate::programs::ran;
 use crate::sources::{item_of, items_of};
 use codegen_outer::OuterFromImpl;
 use codegen_program::{Decls, Program, Unit};
+use machine_execute::Element;
 use node_core::{DeriveInput, Items, Text};
 use options_core::{FdiOptions, FromMetaOptions};
 use std::alloc::Global;
@@ -105,11 +106,8 @@ pub fn variant_outcome(alloc: Global, row: &str) -> Tested<Text> {
         }
     }
     let decls = Decls::new(alloc, decls)?;
-    ran(
-        alloc,
-        &Program { decls, units },
-        &item_of(alloc, 1, subject)?,
-    )
+    let item = item_of(alloc, 1, subject)?;
+    ran(alloc, &Program { decls, units }, Element::Input(&item))
 }
 
 fn table(alloc: Global) -> Tested<RenameTable> {

@@ -44,7 +44,7 @@ struct A { #[darling(with = _darling::f)] n: u8 } #[derive(FromDeriveInput)] str
 #[derive(FromMeta)] #[darling(transparent)] struct A { n: u8 } / %% => refused: no receiver
 #[derive(FromMeta)] union U { a: u8 } / %% => refused: options of U under FromMeta: - Unions are not supported
 #[derive(FromMeta)] #[darling(derive_syn_parse)] struct A { n: u8 } / %% => refused: no receiver
-#[derive(FromDeriveInput)] struct A { ident: Ident } / %% => refused: unbuilt at 38..43
+#[derive(FromDeriveInput)] struct A { generics: Generics } / %% => refused: unbuilt at 38..46
 #[derive(FromDeriveInput)] struct A {} / %% / struct S => refused: syntax in part 2 at 0
 struct A { b: B / %% / struct S => refused: syntax in part 1 at 16
 #[derive(FromDeriveInput)] #[darling(attributes(my))] struct A { #[darling(default, default)] n: u8 } / %% / struct

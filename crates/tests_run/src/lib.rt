@@ -16,6 +16,8 @@ mod inputs;
 #[cfg(test)]
 mod library;
 #[cfg(test)]
+mod parts;
+#[cfg(test)]
 mod receivers;
 #[cfg(test)]
 mod values;
