@@ -16,7 +16,7 @@ TOP = os.path.join(os.path.dirname(os.path.abspath(__file__)), "..", "crates")
 ROWS = """tok_core::lex tok_core::to_text tok_core::read_again syn_core::parse_type syn_core::parse_expr
 syn_core::parse_derive_input syn_core::parse_items syn_items::item_prefix print_core/specs/Items print_core/specs/Nodes
 syn_reread::reread_type syn_reread::reread_derive_input error_core::finish_with error_core::write_errors
-meta_nested::parse_meta_list meta_nested/specs/Dispatch meta_core/specs/Rows options_core/specs/Stages machine_execute::execute law_machine/specs/Claims run_accepted::compile law_options/specs/Claims run_accepted::accepted run_source/specs/Claims run_source::run_source law_accepted/specs/Claims darling_run::run_tool""".split()
+meta_nested::parse_meta_list meta_nested/specs/Dispatch meta_core/specs/Rows options_core::new machine_execute::execute law_machine/specs/Claims run_accepted::compile law_options/specs/Claims run_accepted::accepted run_source/specs/Claims law_given/specs/Claims run_source::run_source law_accepted/specs/Claims darling_run::run_tool""".split()
 
 
 def text_of(path):
