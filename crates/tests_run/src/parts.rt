@@ -15,6 +15,10 @@ const KEPT: &str =
    (y)]`]}
 #[derive(FromDeriveInput)] #[darling(attributes(my), forward_attrs())] struct Opts { a: u8, attrs: Vec<Attribute> } /
    %% / #[doc = "x"] #[my(a = 1)] #[b] #[doc(y)] struct S; => ok S Opts {a: 1, attrs: []}
+#[derive(FromDeriveInput)] #[darling(forward_attrs())] struct Opts { attrs: Vec<Attribute> } / %% / #[doc = "x"] #[b]
+   struct S; => ok S Opts {attrs: []}
+#[derive(FromDeriveInput)] #[darling(forward_attrs())] struct Opts { #[darling(with = attrs::count)] attrs: usize } / %%
+   / #[doc = "x"] #[b] struct S; => ok S Opts {attrs: 0}
 #[derive(FromDeriveInput)] #[darling(attributes(my))] struct Opts { a: u8, attrs: Vec<Attribute> } / %% => refused:
    options of Opts under FromDeriveInput: 75..80 field will not be populated because `forward_attrs` is not set on the
    struct
